@@ -1,0 +1,11 @@
+pub mod Refusals
+pub mod Widths
+pub mod Items
+pub mod Heads
+pub mod Encode
+pub mod Utf8
+pub mod TypedArrays
+pub mod Valid
+pub mod Decode
+pub mod Paths
+pub mod Examples
