@@ -78,8 +78,11 @@ tagged w n left x r = elim (mayTag n x) [ true ↦ ok (tag w n x) r | false ↦ 
 unfoldable pub elements : (List ℕ → Result Item) → Until → List ℕ → Result Items
 elements rd = several none more rd
 
+abbrev pub pair : Entry → Pairs → Pairs
+pair e ps = more₂ (e .key) (e .value) ps
+
 unfoldable pub entries : (List ℕ → Result Item) → Until → List ℕ → Result Pairs
-entries rd = several none₂ (λ e. more₂ (e .key) (e .value)) (entry rd)
+entries rd = several none₂ pair (entry rd)
 
 unfoldable pub chunks : Kind → List ℕ → Result (List Chunk)
 chunks k = several [] _∷_ (chunk k) broken

@@ -4,8 +4,10 @@ pub mod Items
 pub mod Heads
 pub mod Encode
 pub mod Utf8
+pub mod Sequences
 pub mod TypedArrays
 pub mod Valid
 pub mod Decode
 pub mod Paths
+pub mod Theorems
 pub mod Examples

@@ -85,11 +85,15 @@ changeChild k g (map z ps) = map z (changeNth₂ k g ps)
 changeChild k g (tag w n x) = tag w n x
 changeChild k g (simple n) = simple n
 
--- y in the place of the item at the path p of x; and of a list of items
-unfoldable pub replaceIn : List ℕ → Item → Item → Item
-replaceIn [] y x = y
-replaceIn (k ∷ p) y x = changeChild k (replaceIn p y) x
+-- the item at the path p changed, inside an item and in a list of items
+unfoldable pub changeIn : List ℕ → (Item → Item) → Item → Item
+changeIn [] g x = g x
+changeIn (k ∷ p) g x = changeChild k (changeIn p g) x
 
+unfoldable pub changeAt : List ℕ → (Item → Item) → Items → Items
+changeAt [] g xs = xs
+changeAt (k ∷ p) g xs = changeNth k (changeIn p g) xs
+
+-- y in the place of the item at the path p
 unfoldable pub replaceAt : List ℕ → Item → Items → Items
-replaceAt [] y xs = xs
-replaceAt (k ∷ p) y xs = changeNth k (replaceIn p y) xs
+replaceAt p y xs = changeAt p (λ x. y) xs

@@ -1,1 +1,2 @@
-// CBOR (RFC 8949): heads and UTF-8.
+// CBOR (RFC 8949).
+pub mod utf8;

@@ -1,0 +1,10 @@
+pub mod Results
+pub mod Table
+pub mod Sequences
+pub mod Utf8Laws
+pub mod Arguments
+pub mod Heads
+pub mod Several
+pub mod DecodeEncode
+pub mod EncodeDecode
+pub mod Paths
