@@ -2,8 +2,10 @@ pub mod Results
 pub mod Table
 pub mod Sequences
 pub mod Utf8Laws
+pub mod Buffer
 pub mod Arguments
 pub mod Heads
+pub mod HeadCode
 pub mod Several
 pub mod DecodeEncode
 pub mod EncodeDecode

@@ -9,5 +9,8 @@ pub mod TypedArrays
 pub mod Valid
 pub mod Decode
 pub mod Paths
+pub mod Buffer
+pub mod Answers
+pub mod HeadAnswers
 pub mod Theorems
 pub mod Examples

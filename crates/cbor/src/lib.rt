@@ -1,2 +1,4 @@
 // CBOR (RFC 8949).
+pub mod head;
+pub mod refusal;
 pub mod utf8;
