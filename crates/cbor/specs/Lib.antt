@@ -1,3 +1,4 @@
+pub mod Ascii
 pub mod Refusals
 pub mod Widths
 pub mod Items

@@ -1,5 +1,5 @@
 -- The refusal numbers of document 01, by name ("Refusal numbers"), and what reading gives.
-use Prim.Native.Nat.{ℕ}
+use Prim.Native.Nat.{ℕ, _-_}
 use mathlib.Core.List.{List}
 
 abbrev pub tooLong : ℕ
@@ -62,3 +62,13 @@ pub data Result (A : Type 0) : Type 0 where
 unfoldable pub bind : {A B : Type 0} → Result A → (A → List ℕ → Result B) → Result B
 bind (ok x r) k = k x r
 bind (refuse n left) k = refuse n left
+
+-- what is said in the end: the value, or the refusal's number and place
+pub data Verdict (A : Type 0) : Type 0 where
+  accepted : A → Verdict A
+  refused : ℕ → ℕ → Verdict A
+
+-- the result of reading a list of n elements, with the place counted from its front
+unfoldable pub verdictOf : {A : Type 0} → ℕ → Result A → Verdict A
+verdictOf n (ok x r) = accepted x
+verdictOf n (refuse k left) = refused k (n - left)

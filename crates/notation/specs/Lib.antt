@@ -1,0 +1,12 @@
+pub mod Classes
+pub mod Scanning
+pub mod Indicators
+pub mod Tokens
+pub mod Numbers
+pub mod Quoted
+pub mod Literals
+pub mod Words
+pub mod Cutting
+pub mod Form
+pub mod Reading
+pub mod Examples

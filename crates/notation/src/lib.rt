@@ -1,0 +1,1 @@
+// CBOR diagnostic notation.
