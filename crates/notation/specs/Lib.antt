@@ -10,3 +10,5 @@ pub mod Cutting
 pub mod Form
 pub mod Reading
 pub mod Examples
+pub mod Places
+pub mod Printing

@@ -1,0 +1,5 @@
+-- Cutting tokens is local.
+use Rattle.notation.proofs.Good.{Lexing}
+
+pub lexing : Lexing
+lexing = ?
