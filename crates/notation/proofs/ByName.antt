@@ -11,7 +11,7 @@ use Rattle.notation.specs.Tokens.{Token}
 use Rattle.notation.specs.Cutting.{next, place, cut, placed}
 use Rattle.notation.specs.Form.{Name, Value, Rule, give, deny, denyFirst, take, call, rules, Calls, obey, readsWithin, reads}
 use Rattle.notation.proofs.Good.{Stop, Blank, Like, Hard, Took, Good, Below, good-below, good-bind}
-use Rattle.notation.proofs.Locality.{lexing}
+use Rattle.notation.proofs.Locality.{lexing, next-skip}
 
 pub bind-ok : {A B : Type 0} {R : Result A} {x : A} {t : List ℕ} (f : A → List ℕ → Result B) → R ≡ ok x t → bind R f ≡ f x t
 unfolding bind
@@ -113,10 +113,6 @@ pub took-next : (s : List ℕ) {t : Token} {r : List ℕ} → next s ≡ ok t r 
 took-next s e = rw e at (lexing .good s)
 
 -- the next token, its place, and all that is read depend on what is behind the blanks alone
-pub next-skips : (s s′ : List ℕ) → skip s′ ≡ skip s → next s′ ≡ next s
-unfolding next place
-next-skips s s′ e = ap (λ (u : List ℕ). placed (length u) (cut u)) e
-
 pub reads-skips : (n : Name) (s s′ : List ℕ) → skip s′ ≡ skip s → reads n s′ ≡ reads n s
 unfolding place
-reads-skips n s s′ e = reads-is n s′ ∙ (rw (next-skips s s′ e, e)) ∙ sym (reads-is n s)
+reads-skips n s s′ e = reads-is n s′ ∙ (rw (next-skip s′ s e, e)) ∙ sym (reads-is n s)

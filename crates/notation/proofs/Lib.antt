@@ -1,3 +1,13 @@
 pub mod Good
+pub mod ScanningElements
+pub mod ScanningSteps
+pub mod ScanningBlanks
+pub mod CuttingNumbers
+pub mod CuttingTokens
 pub mod Locality
 pub mod ByName
+pub mod Splice
+pub mod Equations
+pub mod Replace
+pub mod Substitution
+pub mod Edited

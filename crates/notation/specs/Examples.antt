@@ -22,7 +22,7 @@ use Rattle.notation.specs.Quoted.{utf8Of, escapes, escapedIn, wholeUnit,
 use Rattle.notation.specs.Literals.{literalToken, quotedToken, quoted, isBody, body, after, halfEnd, hexDigit, hexFrom, hexContent, sextet, sextets, lastTwo, lastThree, lastFour, fullFour, base64From, base64Content, contained, encodedLiteral}
 use Rattle.notation.specs.Words.{same, isFloatWord, isPlainDecimal, simpleBy, simpleToken, value, worded, prefixed, word}
 use Rattle.notation.specs.Cutting.{startsWith, afterMinus, opening as openingToken, cutBy, cut, place, placed, next}
-use Rattle.notation.specs.Form.{then, strayIndicator, stray, strays, shapeNumber, closing as closingRule, sized, contains, embeds, tags, afterTag, inside, literalItem, beginning, oneRule, addItem, afterItem, itemsRule, afterValue, afterKey, pairsRule, addChunk, afterChunk, isWanted, chunk, chunksRule, rules, obey, readsWithin, reads as readsBy}
+use Rattle.notation.specs.Form.{then, strayIndicator, strayClosing, stray, strays, shapeNumber, closing as closingRule, sized, contains, embeds, tags, afterTag, inside, literalItem, beginning, oneRule, addItem, afterItem, itemsRule, afterValue, afterKey, pairsRule, addChunk, afterChunk, isWanted, chunk, chunksRule, rules, obey, readsWithin, reads as readsBy}
 use Rattle.notation.specs.Reading.{marked, checked, sequence, readText, outside, alone, single, readItem}
 
 -- the bytes of a text, or its refusal
@@ -149,5 +149,5 @@ examples =
     ∷ []
 
 pub examples-hold : L.map (λ (e : Example). bytesOf (readText (e .text))) examples ≡ L.map (λ (e : Example). e .expected) examples
-unfolding examples reads refuses bytesOf bind verdictOf argumentBytes limit fits shortest information bigEndian count count₂ levels majorNumber initial head encodeString opening closing enclosed encodeChunks encode isIn rows followIn follow areIn sequenceBy firstBadFrom firstBad isUtf8 elementSize chunksLength divides isTypedArray mayTag isSimple classNumber classRows classIn classOf is isWord isComment skipped leftIn skipFrom skip run whether expect indicated indicator choose digitValue isDigit numberFrom digits makesFloat isFloating radixOf judged integerToken integer otherInteger decimal based afterZero number utf8Of escapes escapedIn wholeUnit unit moveAt unquote literalToken quotedToken quoted isBody body after halfEnd hexDigit hexFrom hexContent sextet sextets lastTwo lastThree lastFour fullFour base64From base64Content contained encodedLiteral same isFloatWord isPlainDecimal simpleBy simpleToken value worded prefixed word startsWith afterMinus openingToken cutBy cut place placed next then strayIndicator stray strays shapeNumber closingRule sized contains embeds tags afterTag inside literalItem beginning oneRule addItem afterItem itemsRule afterValue afterKey pairsRule addChunk afterChunk isWanted chunk chunksRule rules obey readsWithin readsBy marked checked sequence readText outside alone single readItem
+unfolding examples reads refuses bytesOf bind verdictOf argumentBytes limit fits shortest information bigEndian count count₂ levels majorNumber initial head encodeString opening closing enclosed encodeChunks encode isIn rows followIn follow areIn sequenceBy firstBadFrom firstBad isUtf8 elementSize chunksLength divides isTypedArray mayTag isSimple classNumber classRows classIn classOf is isWord isComment skipped leftIn skipFrom skip run whether expect indicated indicator choose digitValue isDigit numberFrom digits makesFloat isFloating radixOf judged integerToken integer otherInteger decimal based afterZero number utf8Of escapes escapedIn wholeUnit unit moveAt unquote literalToken quotedToken quoted isBody body after halfEnd hexDigit hexFrom hexContent sextet sextets lastTwo lastThree lastFour fullFour base64From base64Content contained encodedLiteral same isFloatWord isPlainDecimal simpleBy simpleToken value worded prefixed word startsWith afterMinus openingToken cutBy cut place placed next then strayIndicator strayClosing stray strays shapeNumber closingRule sized contains embeds tags afterTag inside literalItem beginning oneRule addItem afterItem itemsRule afterValue afterKey pairsRule addChunk afterChunk isWanted chunk chunksRule rules obey readsWithin readsBy marked checked sequence readText outside alone single readItem
 examples-hold = refl

@@ -55,12 +55,20 @@ then (denyFirst n) k = denyFirst n
 then (take f) k = take (λ t. then (f t) k)
 then (call n j) k = call n (λ x. then (j x) k)
 
--- A TOKEN THAT IS NOT ALLOWED: "3 to 12 by number". An unknown indicator on `>>` is 9, a level too many 10, and else 11
+-- A TOKEN THAT IS NOT ALLOWED: "3 to 12 by number". An indicator on `>>` that is unknown or `_` alone is 9 (no other closing token
+-- has one), a level too many 10, and else 11
 unfoldable pub strayIndicator : Indicator → ℕ
 strayIndicator absent = notAllowed
 strayIndicator indefinitely = badIndicator
 strayIndicator unknown = badIndicator
 strayIndicator (wide w) = notAllowed
+
+unfoldable pub strayClosing : Shape → Indicator → ℕ
+strayClosing square i = notAllowed
+strayClosing curly i = notAllowed
+strayClosing round i = notAllowed
+strayClosing angle i = strayIndicator i
+strayClosing whole i = notAllowed
 
 unfoldable pub stray : ℕ → Token → ℕ
 stray d (begins (leaf x)) = elim (leb (levels x) d) [ true ↦ notAllowed | false ↦ tooDeep ]
@@ -68,7 +76,7 @@ stray d (begins (literal k z b)) = notAllowed
 stray d (begins chunking) = notAllowed
 stray zero (begins (opens o)) = tooDeep
 stray (suc d) (begins (opens o)) = notAllowed
-stray d (closes h i) = strayIndicator i
+stray d (closes h i) = strayClosing h i
 stray d aComma = notAllowed
 stray d aColon = notAllowed
 

@@ -12,3 +12,4 @@ pub mod Reading
 pub mod Examples
 pub mod Places
 pub mod Printing
+pub mod Theorems

@@ -1,0 +1,163 @@
+-- Facts about single elements of a text: what can stand inside a token, and what can begin one.
+use Prim.Native.Nat.{ℕ, suc, _-_, _≤_, _<_}
+use native.Mathlib.Omega.{arith}
+use mathlib.Core.Path.{_≡_, refl, sym, ap, _∙_}
+use mathlib.Core.Bool.{Bool, true, false, _&&_, _||_}
+use mathlib.Core.List.{List, [], _∷_}
+use lib.Dec.{T, leb, ltb, eqb}
+use lib.ListN.{getD, replicate}
+use borrow.Author.Tests.{leb-true, ltb-true, eqb-true}
+use Rattle.cbor.specs.Utf8.{Range, _to_, isIn}
+use Rattle.cbor.proofs.Table.{every, between}
+use Rattle.notation.specs.Classes.{Class, other, blank, digit, letter, underscore, minus, dot, quote, apostrophe, slash, hash, comma, colon, openParen, closeParen, openBracket, closeBracket, openBrace, closeBrace, less, greater, endMark, classNumber, ClassRow, classRows, classIn, classOf, is, isWord, goesOn}
+use Rattle.notation.specs.Numbers.{digitValue, isDigit, makesFloat, radixOf}
+
+-- TESTS
+pub is-true : (v : Bool) → T v → v ≡ true
+is-true true t = refl
+is-true false t = absurd t
+
+pub clash : true ≡ false → ⊥
+clash e = let z : _≡_ {A = ℕ} 0 1 = cc in omega arith
+
+pub both-true : (a b : Bool) → a && b ≡ true → (a ≡ true) × (b ≡ true)
+both-true true b e = (refl, e)
+both-true false b e = absurd (clash (sym e))
+
+-- what follows from either side follows
+pub either-true : (a b : Bool) {P : Type 0} → a || b ≡ true → (a ≡ true → P) → (b ≡ true → P) → P
+either-true true b e f g = f refl
+either-true false b e f g = g e
+
+pub is-in : (g : Range) (b : ℕ) → isIn g b ≡ true → (g .low ≤ b) × (b ≤ g .high)
+unfolding isIn
+is-in g b e =
+    let p = both-true (leb (g .low) b) (leb b (g .high)) e in
+    (leb-true (g .low) b (p .0), leb-true b (g .high) (p .1))
+
+-- WHAT GOES ON IN A TOKEN: words, digits of each radix, and what makes a float of digits
+pub word-on : (b : ℕ) → isWord b ≡ true → goesOn b ≡ true
+unfolding goesOn
+word-on b e = rw e
+
+one-on : (c : ℕ) → goesOn c ≡ true → (b : ℕ) → eqb b c ≡ true → goesOn b ≡ true
+one-on c h b e = rw (eqb-true b c e) h
+
+range-on : (g : Range) → T (every (λ k x. goesOn k) (g .low) (replicate (suc (g .high) - g .low) 0)) → (b : ℕ) → isIn g b ≡ true → goesOn b ≡ true
+range-on g t b e = let i = is-in g b e in is-true (goesOn b) (between goesOn (g .low) (suc (g .high)) t b (i .0) (omega arith))
+
+pub digit-on : (radix : ℕ) → radix ≤ 99 → (b : ℕ) → isDigit radix b ≡ true → goesOn b ≡ true
+unfolding isDigit digitValue goesOn isWord is classNumber classOf classIn classRows isIn
+digit-on radix h b e = go (isIn (0x30 to 0x39) b) (isIn (0x61 to 0x66) b) (isIn (0x41 to 0x46) b) refl refl refl (ltb-true (digitValue b) radix e)
+  where
+    go : (u v w : Bool) → isIn (0x30 to 0x39) b ≡ u → isIn (0x61 to 0x66) b ≡ v → isIn (0x41 to 0x46) b ≡ w
+        → elim u [ true ↦ b - 0x30 | false ↦ elim v [ true ↦ b - 0x57 | false ↦ elim w [ true ↦ b - 0x37 | false ↦ 99 ] ] ] < radix → goesOn b ≡ true
+    go true v w e₁ e₂ e₃ l = range-on (0x30 to 0x39) tt b e₁
+    go false true w e₁ e₂ e₃ l = range-on (0x61 to 0x66) tt b e₂
+    go false false true e₁ e₂ e₃ l = range-on (0x41 to 0x46) tt b e₃
+    go false false false e₁ e₂ e₃ l = absurd (omega arith)
+
+pub float-on : (radix b : ℕ) → makesFloat radix b ≡ true → goesOn b ≡ true
+unfolding makesFloat goesOn isWord is classNumber classOf classIn classRows isIn
+float-on radix b e =
+    either-true (eqb b 0x2e && (eqb radix 10 || eqb radix 16)) (eqb radix 10 && (eqb b 0x65 || eqb b 0x45) || eqb radix 16 && (eqb b 0x70 || eqb b 0x50)) e
+    (λ h. one-on 0x2e refl b (both-true (eqb b 0x2e) (eqb radix 10 || eqb radix 16) h .0))
+    (λ h. either-true (eqb radix 10 && (eqb b 0x65 || eqb b 0x45)) (eqb radix 16 && (eqb b 0x70 || eqb b 0x50)) h
+    (λ k. either-true (eqb b 0x65) (eqb b 0x45) (both-true (eqb radix 10) (eqb b 0x65 || eqb b 0x45) k .1) (one-on 0x65 refl b) (one-on 0x45 refl b))
+    (λ k. either-true (eqb b 0x70) (eqb b 0x50) (both-true (eqb radix 16) (eqb b 0x70 || eqb b 0x50) k .1) (one-on 0x70 refl b) (one-on 0x50 refl b)))
+
+-- so an element that goes on in no token passes no such test
+pub off : (test : ℕ → Bool) → ((b : ℕ) → test b ≡ true → goesOn b ≡ true) → (b : ℕ) → goesOn b ≡ false → test b ≡ false
+off test h b g = go (test b) refl
+  where
+    go : (v : Bool) → test b ≡ v → v ≡ false
+    go true e = absurd (clash (sym (h b e) ∙ g))
+    go false e = refl
+
+pub off-is : (c : ℕ) → goesOn c ≡ true → (b : ℕ) → goesOn b ≡ false → eqb b c ≡ false
+off-is c h = off (λ b. eqb b c) (one-on c h)
+
+-- RADIXES
+pub radix-small : (c : ℕ) → radixOf c ≤ 99
+unfolding radixOf
+radix-small c = go (eqb c 0x78) (eqb c 0x6f) (eqb c 0x62)
+  where
+    go : (u v w : Bool) → elim u [ true ↦ 16 | false ↦ elim v [ true ↦ 8 | false ↦ elim w [ true ↦ 2 | false ↦ 0 ] ] ] ≤ 99
+    go true v w = omega arith
+    go false true w = omega arith
+    go false false true = omega arith
+    go false false false = omega arith
+
+pub radix-none : (c : ℕ) → goesOn c ≡ false → radixOf c ≡ 0
+unfolding radixOf goesOn isWord is classNumber classOf classIn classRows isIn
+radix-none c h = rw (off-is 0x78 refl c h, radixOf) (rw (off-is 0x6f refl c h) (rw (off-is 0x62 refl c h)))
+
+-- BLANKS
+pub blank-is-not : (c : ℕ) → is blank c ≡ false → (b : ℕ) → is blank b ≡ true → eqb b c ≡ false
+blank-is-not c h b e = go (eqb b c) refl
+  where
+    go : (v : Bool) → eqb b c ≡ v → v ≡ false
+    go true i = absurd (clash (sym e ∙ (ap (is blank) (eqb-true b c i) ∙ h)))
+    go false i = refl
+
+-- CLASSES, which their numbers tell apart
+classes : List Class
+classes =
+    other ∷ blank ∷ digit ∷ letter ∷ underscore ∷ minus ∷ dot ∷ quote ∷ apostrophe ∷ slash ∷ hash ∷ comma ∷ colon
+    ∷ openParen ∷ closeParen ∷ openBracket ∷ closeBracket ∷ openBrace ∷ closeBrace ∷ less ∷ greater ∷ endMark ∷ []
+
+class-at : (k : Class) → getD classes (classNumber k) other ≡ k
+unfolding classes classNumber
+class-at other = refl
+class-at blank = refl
+class-at digit = refl
+class-at letter = refl
+class-at underscore = refl
+class-at minus = refl
+class-at dot = refl
+class-at quote = refl
+class-at apostrophe = refl
+class-at slash = refl
+class-at hash = refl
+class-at comma = refl
+class-at colon = refl
+class-at openParen = refl
+class-at closeParen = refl
+class-at openBracket = refl
+class-at closeBracket = refl
+class-at openBrace = refl
+class-at closeBrace = refl
+class-at less = refl
+class-at greater = refl
+class-at endMark = refl
+
+pub class-is : (k : Class) (b : ℕ) → is k b ≡ true → classOf b ≡ k
+unfolding is
+class-is k b e = sym (class-at (classOf b)) ∙ (ap (λ n. getD classes n other) (sym (eqb-true (classNumber k) (classNumber (classOf b)) e)) ∙ class-at k)
+
+-- WHAT CAN BEGIN A TOKEN: nothing from 128 on but the end mark
+abbrev narrow : ClassRow → Bool
+narrow w = ltb (w .bytes .high) 128 || (eqb (w .bytes .low) 256 && eqb (w .bytes .high) 256)
+
+abbrev allNarrow : List ClassRow → Bool
+allNarrow [] = true
+allNarrow (w ∷ ws) = narrow w && allNarrow ws
+
+class-other : (ws : List ClassRow) → allNarrow ws ≡ true → (b : ℕ) → 128 ≤ b → (b ≡ 256 → ⊥) → classIn ws b ≡ other
+unfolding classIn
+class-other [] n b h k = refl
+class-other (w ∷ ws) n b h k = let p = both-true (narrow w) (allNarrow ws) n in go (isIn (w .bytes) b) refl (p .0) (class-other ws (p .1) b h k)
+  where
+    out : isIn (w .bytes) b ≡ true → narrow w ≡ true → ⊥
+    out e t =
+        let i = is-in (w .bytes) b e in
+        either-true (ltb (w .bytes .high) 128) (eqb (w .bytes .low) 256 && eqb (w .bytes .high) 256) t (λ l. omega (arith, ltb-true (w .bytes .high) 128 l))
+        (λ l. let m = both-true (eqb (w .bytes .low) 256) (eqb (w .bytes .high) 256) l in k (omega (arith, eqb-true (w .bytes .low) 256 (m .0), eqb-true (w .bytes .high) 256 (m .1))))
+
+    go : (v : Bool) → isIn (w .bytes) b ≡ v → narrow w ≡ true → classIn ws b ≡ other → _≡_ {A = Class} (elim v [ true ↦ w .class | false ↦ classIn ws b ]) other
+    go true e t i = absurd (out e t)
+    go false e t i = i
+
+pub high-other : (b : ℕ) → 128 ≤ b → (b ≡ 256 → ⊥) → classOf b ≡ other
+unfolding classOf classRows
+high-other b = class-other classRows refl b

@@ -1,0 +1,43 @@
+-- What holds of the notation's definitions. Each statement is proved in `proofs/` under its name in lower case.
+use Prim.Native.Nat.{ℕ, _≤_}
+use mathlib.Core.Path.{_≡_}
+use mathlib.Core.List.{List, [], _∷_}
+use mathlib.Core.Bool.{true}
+use lib.ListN.{length}
+use Rattle.cbor.specs.Refusals.{Verdict, accepted, refused, noToken, notAllowed}
+use Rattle.cbor.specs.Items.{Item, Items, levels, levelsAll}
+use Rattle.cbor.specs.Valid.{Valid, ValidAll}
+use Rattle.cbor.specs.Decode.{mostBytes, mostLevels}
+use Rattle.cbor.specs.Paths.{Spot, found, locate, replaceAt}
+use Rattle.notation.specs.Classes.{blank, is}
+use Rattle.notation.specs.Reading.{readText, readItem}
+use Rattle.notation.specs.Places.{levelsAt, Span, spanAt, edited}
+use Rattle.notation.specs.Printing.{print, printText}
+
+-- READING GIVES WELL-FORMED ITEMS, which decoding accepts.
+abbrev pub TextValid : Type 0
+TextValid = (s : List ℕ) (xs : Items) → readText s ≡ accepted xs → ValidAll xs × (levelsAll xs ≤ mostLevels)
+
+abbrev pub ItemValid : Type 0
+ItemValid = (d : ℕ) (s : List ℕ) (x : Item) → readItem d s ≡ accepted x → Valid x × (levels x ≤ d)
+
+-- READING WHAT WAS PRINTED gives the same items, and the same item at every level.
+abbrev pub TextOfPrint : Type 0
+TextOfPrint = (xs : Items) → ValidAll xs → levelsAll xs ≤ mostLevels → length (printText xs) ≤ mostBytes → readText (printText xs) ≡ accepted xs
+
+abbrev pub ItemOfPrint : Type 0
+ItemOfPrint = (x : Item) (d : ℕ) → Valid x → levels x ≤ d → length (print x) ≤ mostBytes → readItem d (print x) ≡ accepted x
+
+-- AN EDITED TEXT: t is an accepted text with the items xs, and z is where the item at the path k ∷ p stands in it.
+pub record Edits (t : List ℕ) (xs : Items) (k : ℕ) (p : List ℕ) (z : Span) : Type 0 where
+  -- the item is found at that path in the items too
+  pub place : (o : Spot) × (locate (k ∷ p) xs ≡ found o)
+  -- the text of one item, at the level of the path, with a blank before and behind it, puts that item at the path
+  pub replaces : (b₁ b₂ : ℕ) → is blank b₁ ≡ true → is blank b₂ ≡ true → (new : List ℕ) (y : Item) → length (edited t z b₁ new b₂) ≤ mostBytes
+      → readItem (levelsAt mostLevels p) new ≡ accepted y → readText (edited t z b₁ new b₂) ≡ accepted (replaceAt (k ∷ p) y xs)
+  -- and a text that is refused by another number than 3 and 11 makes the edited one refused too
+  pub refuses : (b₁ b₂ : ℕ) → is blank b₁ ≡ true → is blank b₂ ≡ true → (new : List ℕ) (n q : ℕ) → length (edited t z b₁ new b₂) ≤ mostBytes
+      → readItem (levelsAt mostLevels p) new ≡ refused n q → (n ≡ noToken → ⊥) → (n ≡ notAllowed → ⊥) → (m : ℕ) × (w : ℕ) × (readText (edited t z b₁ new b₂) ≡ refused m w)
+
+abbrev pub EditedText : Type 0
+EditedText = (t : List ℕ) (xs : Items) (k : ℕ) (p : List ℕ) (z : Span) → readText t ≡ accepted xs → spanAt (k ∷ p) t ≡ found z → Edits t xs k p z
