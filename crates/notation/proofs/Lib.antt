@@ -6,8 +6,14 @@ pub mod CuttingNumbers
 pub mod CuttingTokens
 pub mod Locality
 pub mod ByName
-pub mod Splice
 pub mod Equations
+pub mod PrintNumbers
+pub mod PrintStrings
+pub mod PrintTokens
+pub mod PrintRead
+pub mod PrintUtf8
+pub mod PrintWhole
+pub mod Splice
 pub mod Replace
 pub mod Substitution
 pub mod Edited

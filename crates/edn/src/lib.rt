@@ -1,0 +1,1 @@
+// The notation and its bytes: read, print, look up, correct.
