@@ -91,7 +91,7 @@ pub shortest-one : (n : ℕ) → leb n 23 ≡ false → leb n 255 ≡ true → s
 unfolding shortest fits limit
 shortest-one n e f = rw (e, shortest) (rw f)
 
-shortest-simple : (n : ℕ) → isSimple n ≡ true → Shortest n
+pub shortest-simple : (n : ℕ) → isSimple n ≡ true → Shortest n
 unfolding isSimple limit isFloat isAllowed
 shortest-simple n e = go (leb n 23) refl (leb 32 n) refl (leb n 255) refl e
   where

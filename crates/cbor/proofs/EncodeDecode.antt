@@ -339,10 +339,16 @@ all-well s u =
 
 pub encode-of-decode : EncodeOfDecode
 unfolding decode elements
-encode-of-decode s xs r u e = go (leb (length s) mostBytes) e
+encode-of-decode s xs r u e = go (leb (length s) mostBytes) refl e
   where
-    go : (v : Bool) → elim v [ true ↦ several none more (item mostLevels) ended s | false ↦ refuse tooLong (length s) ] ≡ ok xs r → Decoded s xs r
-    go true f =
+    go : (v : Bool) → leb (length s) mostBytes ≡ v → elim v [ true ↦ several none more (item mostLevels) ended s | false ↦ refuse tooLong (length s) ] ≡ ok xs r → Decoded s xs r
+    go true i f =
         let h = rw f at (all-well s u) in
-        record { same = sym (h .is ∙ ap (λ (c : List ℕ). encodeAll xs ++ c) (h .meets) ∙ append-nil (encodeAll xs)); valid = h .good .0; low = h .good .1; done = h .meets }
-    go false f = absurd (refuse-not-ok f)
+        record {
+          same = sym (h .is ∙ ap (λ (c : List ℕ). encodeAll xs ++ c) (h .meets) ∙ append-nil (encodeAll xs));
+          valid = h .good .0;
+          low = h .good .1;
+          done = h .meets;
+          short = leb-true (length s) mostBytes i;
+        }
+    go false i f = absurd (refuse-not-ok f)

@@ -2,11 +2,13 @@ pub mod Results
 pub mod Table
 pub mod Sequences
 pub mod Utf8Laws
+pub mod Utf8Text
 pub mod Buffer
 pub mod Arguments
 pub mod Heads
 pub mod HeadCode
 pub mod Several
 pub mod DecodeEncode
+pub mod EncodeBytes
 pub mod EncodeDecode
 pub mod Paths

@@ -13,18 +13,18 @@ use Rattle.cbor.specs.Valid.{Bytes}
 use Rattle.cbor.proofs.Table.{both}
 use Rattle.cbor.proofs.Sequences.{first-bad-stop, first-bad-on}
 
-both-true : (a b : Bool) → a && b ≡ true → (a ≡ true) × (b ≡ true)
+pub both-true : (a b : Bool) → a && b ≡ true → (a ≡ true) × (b ≡ true)
 both-true true b e = (refl, e)
 both-true false b e = let z : _≡_ {A = ℕ} 0 1 = cc in absurd (omega arith)
 
-is-in : (g : Range) (b : ℕ) → isIn g b ≡ true → (g .low ≤ b) × (b ≤ g .high)
+pub is-in : (g : Range) (b : ℕ) → isIn g b ≡ true → (g .low ≤ b) × (b ≤ g .high)
 unfolding isIn
 is-in g b e =
     let p = both-true (leb (g .low) b) (leb b (g .high)) e in
     (leb-true (g .low) b (p .0), leb-true b (g .high) (p .1))
 
 -- The table: a first byte is a byte, and those behind it are 80 to BF.
-abbrev continuing : List Range → Bool
+abbrev pub continuing : List Range → Bool
 continuing [] = true
 continuing (g ∷ gs) = leb 0x80 (g .low) && (leb (g .high) 0xbf && continuing gs)
 
@@ -32,7 +32,7 @@ abbrev right : List Row → Bool
 right [] = true
 right (w ∷ ws) = leb (w .first .high) 0xff && (continuing (w .rest) && right ws)
 
-abbrev Right : ℕ → Follow → Type 0
+abbrev pub Right : ℕ → Follow → Type 0
 Right b nothing = Unit
 Right b (these gs) = (b < 256) × T (continuing gs)
 
@@ -49,7 +49,7 @@ follow-in (w ∷ ws) b t =
     go true e h c r = let i = is-in (w .first) b e in (omega arith, c)
     go false e h c r = r
 
-follow-right : (b : ℕ) → Right b (follow b)
+pub follow-right : (b : ℕ) → Right b (follow b)
 unfolding follow rows
 follow-right b = follow-in rows b tt
 
@@ -60,7 +60,7 @@ Continues (suc k) [] = ⊥
 Continues (suc k) (b ∷ s) = (0x80 ≤ b) × (b ≤ 0xbf) × Continues k s
 
 -- What stands behind a first byte, by the ranges that it asks for.
-first-range : (g : Range) (gs : List Range) → T (continuing (g ∷ gs)) → (0x80 ≤ g .low) × (g .high ≤ 0xbf) × T (continuing gs)
+pub first-range : (g : Range) (gs : List Range) → T (continuing (g ∷ gs)) → (0x80 ≤ g .low) × (g .high ≤ 0xbf) × T (continuing gs)
 first-range g gs t =
     let p = both (leb 0x80 (g .low)) (leb (g .high) 0xbf && continuing gs) t in
     let q = both (leb (g .high) 0xbf) (continuing gs) (p .1) in
@@ -104,7 +104,7 @@ sequence-in gs s k e = go (areIn gs s) e
     go true e = (refl, omega arith)
     go false e = absurd (omega arith)
 
-in-sequence : (gs : List Range) (s : List ℕ) (k : ℕ) → areIn gs s ≡ true → length gs ≡ k → sequenceBy (these gs) s ≡ suc k
+pub in-sequence : (gs : List Range) (s : List ℕ) (k : ℕ) → areIn gs s ≡ true → length gs ≡ k → sequenceBy (these gs) s ≡ suc k
 unfolding sequenceBy
 in-sequence gs s k e l = rw (e, sequenceBy) (ap suc l)
 
@@ -179,11 +179,11 @@ cut-from zero (x ∷ a) b c h r e =
     (first-bad-on x (w .more) a q ∙ ap suc (p .0), p .1)
 
 -- a text is valid where no bad sequence stands before its end
-valid : (s : List ℕ) → isUtf8 s ≡ true → firstBadFrom 0 s ≡ length s
+pub valid : (s : List ℕ) → isUtf8 s ≡ true → firstBadFrom 0 s ≡ length s
 unfolding isUtf8 firstBad
 valid s e = eqb-true (firstBadFrom 0 s) (length s) e
 
-is-valid : (s : List ℕ) → firstBadFrom 0 s ≡ length s → isUtf8 s ≡ true
+pub is-valid : (s : List ℕ) → firstBadFrom 0 s ≡ length s → isUtf8 s ≡ true
 unfolding isUtf8 firstBad
 is-valid s e = eq-eqb (firstBadFrom 0 s) (length s) e
 

@@ -24,6 +24,7 @@ pub record Decoded (s : List ℕ) (xs : Items) (r : List ℕ) : Type 0 where
   pub valid : ValidAll xs
   pub low : levelsAll xs ≤ mostLevels
   pub done : r ≡ []
+  pub short : length s ≤ mostBytes
 
 abbrev pub EncodeOfDecode : Type 0
 EncodeOfDecode = (s : List ℕ) (xs : Items) (r : List ℕ) → Bytes s → decode s ≡ ok xs r → Decoded s xs r

@@ -17,6 +17,7 @@ use Rattle.cbor.proofs.Table.{between}
 use Rattle.cbor.proofs.Heads.{bytes-cut}
 use Rattle.cbor.specs.Decode.{mostBytes, mostLevels}
 use Rattle.cbor.specs.Paths.{Spot, found, locate, changeNth, changeIn, changeAt, replaceAt}
+use Rattle.cbor.proofs.Results.{refused-not-accepted, verdict-ok}
 use Rattle.cbor.proofs.Utf8Laws.{utf8-append, utf8-join, utf8-bytes, utf8-ascii-cut}
 use Rattle.notation.specs.Classes.{other, blank, classNumber, classRows, classIn, classOf, is}
 use Rattle.notation.specs.Scanning.{skip}
@@ -35,9 +36,6 @@ use Rattle.notation.proofs.Substitution.{not-empty, Spanned, spanned, f
 
 -- WHAT A VERDICT COMES FROM
 
-accepted-not : {A : Type 0} {x : A} {n q : ℕ} → _≡_ {A = Verdict A} (refused n q) (accepted x) → ⊥
-accepted-not e = let z : _≡_ {A = ℕ} 0 1 = cc in omega arith
-
 -- a text that passes 1 and 2
 pub record Passes (s : List ℕ) : Type 0 where
   pub short : length s ≤ mostBytes
@@ -49,21 +47,16 @@ checked-ok {A} s v {x} e = long (leb (length s) mostBytes) refl e
   where
     text : length s ≤ mostBytes → (b : Bool) → isUtf8 s ≡ b → _≡_ {A = Verdict A} (elim b [ true ↦ v | false ↦ refused notUtf8 (firstBad s) ]) (accepted x) → Passes s × (v ≡ accepted x)
     text h true i f = (record { short = h; utf8 = i }, f)
-    text h false i f = absurd (accepted-not f)
+    text h false i f = absurd (refused-not-accepted f)
 
     long : (b : Bool) → leb (length s) mostBytes ≡ b
         → _≡_ {A = Verdict A} (elim b [ true ↦ elim (isUtf8 s) [ true ↦ v | false ↦ refused notUtf8 (firstBad s) ] | false ↦ refused tooLong 0 ]) (accepted x) → Passes s × (v ≡ accepted x)
     long true i f = text (leb-true (length s) mostBytes i) (isUtf8 s) refl f
-    long false i f = absurd (accepted-not f)
+    long false i f = absurd (refused-not-accepted f)
 
 pub checked-is : {A : Type 0} (s : List ℕ) (v : Verdict A) → Passes s → checked s v ≡ v
 unfolding checked
 checked-is s v h = rw (le-leb (length s) mostBytes (h .short), checked) (rw (h .utf8))
-
-verdict-ok : {A : Type 0} (n : ℕ) (R : Result A) {x : A} → verdictOf n R ≡ accepted x → (r : List ℕ) × (R ≡ ok x r)
-unfolding verdictOf
-verdict-ok n (ok y r) e = (r, ap (λ z. ok z r) (cc))
-verdict-ok n (refuse k w) e = absurd (accepted-not e)
 
 -- UTF-8
 
@@ -162,7 +155,7 @@ data Refusal {A : Type 0} (s : List ℕ) (R : Result A) (n : ℕ) : Type 0 where
 
 verdict-refused : {A : Type 0} (m : ℕ) (R : Result A) {n q : ℕ} → verdictOf m R ≡ refused n q → (w : ℕ) × (R ≡ refuse n w)
 unfolding verdictOf
-verdict-refused m (ok x r) e = absurd (accepted-not (sym e))
+verdict-refused m (ok x r) e = absurd (refused-not-accepted (sym e))
 verdict-refused m (refuse k w) e = (w, ap (λ (v : ℕ). refuse v w) (cc))
 
 checked-refused : {A : Type 0} (s : List ℕ) (m : ℕ) (R : Result A) {n q : ℕ} → checked s (verdictOf m R) ≡ refused n q → Refusal s R n

@@ -13,6 +13,12 @@ pub mod PrintTokens
 pub mod PrintRead
 pub mod PrintUtf8
 pub mod PrintWhole
+pub mod TextScan
+pub mod TextQuoted
+pub mod SoundContent
+pub mod SoundToken
+pub mod SoundForm
+pub mod SoundRead
 pub mod Splice
 pub mod Replace
 pub mod Substitution

@@ -18,6 +18,7 @@ use Rattle.notation.specs.Indicators.{absent}
 use Rattle.notation.specs.Tokens.{whole}
 use Rattle.notation.specs.Cutting.{place}
 use Rattle.notation.specs.Form.{one, items, reads}
+use Rattle.notation.specs.Theorems.{TextOfPrint, ItemOfPrint}
 use Rattle.notation.specs.Reading.{marked, checked, sequence, readText, alone, single, readItem}
 use Rattle.notation.specs.Printing.{decimalOf, indicatorOf, printString, printChunked, printInt, print, printAll, printText}
 use Rattle.notation.proofs.Good.{Stop, stop-nil, stop-at}
@@ -53,9 +54,9 @@ checked-ok : {A : Type 0} (s : List ℕ) (w : Verdict A) → length s ≤ mostBy
 unfolding checked
 checked-ok s w l u = rw (le-leb (length s) mostBytes l, checked) (rw u)
 
-pub print-reads : (xs : Items) → ValidAll xs → levelsAll xs ≤ mostLevels → length (printText xs) ≤ mostBytes → readText (printText xs) ≡ accepted xs
+pub text-of-print : TextOfPrint
 unfolding readText verdictOf
-print-reads xs v h l = checked-ok (printText xs) _ l (print-utf8 xs v) ∙ rw (print-sequence xs v h)
+text-of-print xs v h l = checked-ok (printText xs) _ l (print-utf8 xs v) ∙ rw (print-sequence xs v h)
 
 -- AN ITEM: it begins with its first token
 record Fronted (l : List ℕ) : Type 0 where
@@ -106,6 +107,6 @@ print-place x = eq-eqb (length (skip (print x))) (length (print x)) (ap length (
 print-alone : (x : Item) (d : ℕ) → Valid x → levels x ≤ d → reads (one d) (print x) ≡ ok x []
 print-alone x d v h = ap (reads (one d)) (sym (append-nil (print x))) ∙ print-read x d [] v h stop-nil
 
-pub print-item : (x : Item) (d : ℕ) → Valid x → levels x ≤ d → length (print x) ≤ mostBytes → readItem d (print x) ≡ accepted x
+pub item-of-print : ItemOfPrint
 unfolding readItem single alone verdictOf bind
-print-item x d v h l = checked-ok (print x) _ l (item-utf8 x v) ∙ rw (print-place x, single) (rw (print-alone x d v h))
+item-of-print x d v h l = checked-ok (print x) _ l (item-utf8 x v) ∙ rw (print-place x, single) (rw (print-alone x d v h))
