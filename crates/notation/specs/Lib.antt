@@ -9,7 +9,7 @@ pub mod Words
 pub mod Cutting
 pub mod Form
 pub mod Reading
-pub mod Examples
 pub mod Places
 pub mod Printing
 pub mod Theorems
+pub mod Examples
