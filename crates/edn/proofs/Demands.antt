@@ -94,19 +94,19 @@ looked-up bytes path xs o e f = onward-is _ e ∙ rw f
 
 module _ (text buffer : List ℕ) (used : ℕ) (sheet : Sheet text buffer used) (k : ℕ) (p : List ℕ) (z : Span) (ed : Edits text (sheet .items) k p z) where
   -- so what is left is the text, and room for the result
-  correction-is : (new : List ℕ) → correction buffer used (k ∷ p) new ≡ onward (readItem (levelsAt mostLevels p) new) (λ y. fitting buffer (replaced (ed .place .0) y))
+  correction-is : (new : List ℕ) → correction buffer used (k ∷ p) new ≡ onward (readItem (levelsAt mostLevels p) new) (λ y. fitting buffer (replaced (ed .spot) y))
   unfolding correction room level
   correction-is new =
       let l : used ≤ min (length buffer) mostBytes = omega (arith, sheet .short, sheet .within) in
       let c : itemsOf (take used buffer) ≡ accepted (sheet .items) = rw (sheet .held) (reading-checks text (sheet .items) (sheet .accepts) (rw (sheet .sized) (sheet .short))) in
-      rw (le-leb used (min (length buffer) mostBytes) l, correction) (onward-is _ (looked-up (take used buffer) (k ∷ p) (sheet .items) (ed .place .0) c (ed .place .1)))
+      rw (le-leb used (min (length buffer) mostBytes) l, correction) (onward-is _ (looked-up (take used buffer) (k ∷ p) (sheet .items) (ed .spot) c (ed .place)))
 
   module _ (b₁ b₂ : ℕ) (h₁ : is blank b₁ ≡ true) (h₂ : is blank b₂ ≡ true) (new : List ℕ) (short : length (edited text z b₁ new b₂) ≤ mostBytes) (fresh : List ℕ) (same : length fresh ≡ length buffer) where
     -- the bytes of the edited text are those of the correction
     edited-bytes : (y : Item) → readItem (levelsAt mostLevels p) new ≡ accepted y → bytesOf (edited text z b₁ new b₂) fresh ≡ correction buffer used (k ∷ p) new
     unfolding bytesOf replaced
     edited-bytes y e =
-        let w = part-at-path (k ∷ p) (sheet .items) (ed .place .0) (ed .place .1) .now y in
+        let w = part-at-path (k ∷ p) (sheet .items) (ed .spot) (ed .place) .now y in
         onward-is _ (ed .replaces b₁ b₂ h₁ h₂ new y short e) ∙ ap (fitting fresh) w ∙ fitting-same buffer fresh _ same ∙ sym (correction-is new ∙ onward-is _ e)
 
     agrees : (v : Verdict Item) → readItem (levelsAt mostLevels p) new ≡ v → OneItem v → Agree (correct buffer used (k ∷ p) new) (read (edited text z b₁ new b₂) fresh)

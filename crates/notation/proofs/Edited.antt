@@ -7,6 +7,8 @@ use mathlib.Core.Bool.{Bool, true, false}
 use mathlib.Core.List.{List, [], _∷_, _++_, append-assoc, append-nil}
 use lib.Dec.{leb, eqb}
 use mathlib.Core.List.{head-eq-of-cons-eq}
+use lib.Seq.{take-at, drop-at}
+use mathlib.Core.List.{append-cancel-right}
 use lib.ListN.{length, take as takeN, drop as dropN, length-append, length-take, length-drop, take-append-drop}
 use borrow.Author.Tests.{le-leb, lt-leb, leb-true, leb-false, eq-eqb, eqb-true, eqb-false}
 use Rattle.cbor.specs.Refusals.{Result, ok, refuse, bind, Verdict, accepted, refused, verdictOf, tooLong, notUtf8, noToken, notAllowed}
@@ -17,20 +19,23 @@ use Rattle.cbor.proofs.Table.{between}
 use Rattle.cbor.proofs.Heads.{bytes-cut}
 use Rattle.cbor.specs.Decode.{mostBytes, mostLevels}
 use Rattle.cbor.specs.Paths.{Spot, found, locate, changeNth, changeIn, changeAt, replaceAt}
-use Rattle.cbor.proofs.Results.{refused-not-accepted, verdict-ok}
+use Rattle.cbor.proofs.Results.{refuse-not-ok, refused-not-accepted, verdict-ok}
 use Rattle.cbor.proofs.Utf8Laws.{utf8-append, utf8-join, utf8-bytes, utf8-ascii-cut}
-use Rattle.notation.specs.Classes.{other, blank, classNumber, classRows, classIn, classOf, is}
+use Rattle.notation.specs.Classes.{Class, other, blank, slash, hash, classNumber, classRows, classIn, classOf, is}
 use Rattle.notation.specs.Scanning.{skip}
-use Rattle.notation.specs.Form.{Closed}
-use Rattle.notation.specs.Reading.{marked, checked, sequence, readText, single, readItem}
-use Rattle.notation.specs.Places.{levelsAt, Span, spanAt, edited}
+use Rattle.notation.specs.Tokens.{Token, begins}
+use Rattle.notation.specs.Cutting.{cutBy, cut, place, placed, next}
+use Rattle.notation.specs.Form.{one, Closed, reads}
+use Rattle.notation.specs.Reading.{marked, checked, sequence, readText, alone, single, readItem}
+use Rattle.notation.specs.Places.{levelsAt, Span, spanAt, textAt, edited}
 use Rattle.notation.specs.Theorems.{Edits, EditedText}
-use Rattle.notation.proofs.Good.{Hard}
-use Rattle.notation.proofs.ScanningElements.{is-true, clash, high-other}
+use Rattle.notation.proofs.Good.{stop-nil, like, Hard, Took}
+use Rattle.notation.proofs.ScanningElements.{is-true, clash, class-is, high-other}
 use Rattle.notation.proofs.ScanningBlanks.{skip-token}
 use Rattle.notation.proofs.Locality.{lexing}
 use Rattle.notation.proofs.Splice.{bind-map, Refuses, Next}
-use Rattle.notation.proofs.ByName.{bind-ok}
+use Rattle.notation.proofs.ByName.{bind-ok, took, reads-skips}
+use Rattle.notation.proofs.Equations.{one-starts}
 use Rattle.notation.proofs.Replace.{changeAll}
 use Rattle.notation.proofs.Substitution.{not-empty, Spanned, spanned, filled, blocked, located, text-hole, first-token, start-cut, behind-cut}
 
@@ -213,6 +218,35 @@ read-is : (t : List ℕ) (c : Closed) (r : List ℕ) → Passes t → sequence t
 unfolding readText verdictOf
 read-is t c r h e = checked-is t _ h ∙ ap (verdictOf (suc (length t))) (bind-ok _ e)
 
+-- nothing more is skipped of what is left
+skip-twice : (s : List ℕ) → skip (skip s) ≡ skip s
+skip-twice s = let f = lexing .skips s in sym (f .2 (skip s)) ∙ ap skip (sym (f .1))
+
+skip-most : (s : List ℕ) → length (skip s) ≤ length s
+skip-most s = omega (arith, simp length-append at (ap length (lexing .skips s .1)))
+
+starts-next : (d : ℕ) (s : List ℕ) {x : Item} {r : List ℕ} → reads (one d) s ≡ ok x r → Next s
+starts-next d s e = let o = one-starts d s e in (begins (o .0), o .1, o .2)
+
+-- a token's first byte is no blank and begins no comment, whatever follows it
+solid : (b : ℕ) (u v : List ℕ) → skip (b ∷ u) ≡ b ∷ u → Next (b ∷ u) → skip (b ∷ v) ≡ b ∷ v
+unfolding next place placed cut cutBy
+solid b u v e n = skip-token b v (blank? (is blank b) refl) (no slash refl (is slash b) refl) (no hash refl (is hash b) refl)
+  where
+    blank? : (w : Bool) → is blank b ≡ w → is blank b ≡ false
+    blank? true i = absurd (omega (arith, ap length (sym (lexing .blank-skip b u i) ∙ e), skip-most u))
+    blank? false i = i
+
+    no : (c : Class) → cutBy c b u ≡ refuse noToken 0 → (w : Bool) → is c b ≡ w → is c b ≡ false
+    no c f true i =
+        let q : next (b ∷ u) ≡ refuse noToken (suc (length u)) = rw e (rw (class-is c b i) (rw f)) in
+        absurd (refuse-not-ok (sym q ∙ n .2))
+    no c f false i = i
+
+own-solid : (used behind from : List ℕ) → used ++ behind ≡ skip from → Next (skip from) → skip used ≡ used
+own-solid [] behind from e n = lexing .skip-nil
+own-solid (b ∷ u) behind from e n = solid b (u ++ behind) u (rw e (skip-twice from)) (rw e n)
+
 module _ (t : List ℕ) (xs : Items) (k : ℕ) (p : List ℕ) (z : Span) (rd : Read t xs) (sp : Spanned k p t z) where
   front-utf8 : isUtf8 (takeN (z .start) t) ≡ true
   front-utf8 =
@@ -223,6 +257,61 @@ module _ (t : List ℕ) (xs : Items) (k : ℕ) (p : List ℕ) (z : Span) (rd : R
   back-utf8 =
       let h = next-ascii (sp .behind) (text-hole k p t z (rd .closed) (rd .rest) (rd .reading) sp .ends tt) in
       cut-utf8 (z .end) t (rd .passes .utf8) (h .0, h .1, behind-cut k p t z (rd .closed) (rd .rest) (rd .reading) sp ∙ h .2, h .3) .1
+
+  -- THE ITEM'S OWN TEXT: what is used of the text from its first token on
+  own-is : reads (one (levelsAt mostLevels p)) (skip (sp .from)) ≡ ok (sp .old) (sp .behind)
+  own-is = reads-skips (one (levelsAt mostLevels p)) (sp .from) (skip (sp .from)) (skip-twice (sp .from)) ∙ sp .was
+
+  own : Took (λ m n. reads (one (levelsAt mostLevels p))) (skip (sp .from)) (sp .old) (sp .behind)
+  own = took (one (levelsAt mostLevels p)) (skip (sp .from)) own-is
+
+  starts-at : marked (dropN (z .start) t) ≡ skip (sp .from)
+  starts-at = start-cut k p t z (rd .closed) (rd .rest) (rd .reading) sp
+
+  ends-at : marked (dropN (z .end) t) ≡ sp .behind
+  ends-at = behind-cut k p t z (rd .closed) (rd .rest) (rd .reading) sp
+
+  own-split : dropN (z .start) t ≡ own .used ++ dropN (z .end) t
+  unfolding marked
+  own-split =
+      append-cancel-right (dropN (z .start) t) (own .used ++ dropN (z .end) t) (256 ∷ [])
+      (starts-at ∙ own .split ∙ ap (λ (u : List ℕ). own .used ++ u) (sym ends-at) ∙ sym (append-assoc (own .used) (dropN (z .end) t) (256 ∷ [])))
+
+  own-length : length (own .used) ≡ z .end - z .start
+  unfolding marked
+  own-length =
+      omega
+      (arith, sp .start, sp .end, simp length-append at (ap length (own .split)), simp (length-append, length-drop) at (ap length starts-at), simp (length-append, length-drop) at (ap length ends-at))
+
+  own-text : textAt t z ≡ own .used
+  unfolding textAt
+  own-text = ap (takeN (z .end - z .start)) own-split ∙ take-at (own .used) (dropN (z .end) t) (z .end - z .start) own-length
+
+  own-rest : dropN (z .end - z .start) (dropN (z .start) t) ≡ dropN (z .end) t
+  own-rest = ap (dropN (z .end - z .start)) own-split ∙ drop-at (own .used) (dropN (z .end) t) (z .end - z .start) own-length
+
+  own-reads : reads (one (levelsAt mostLevels p)) (own .used) ≡ ok (sp .old) []
+  own-reads = ap (reads (one (levelsAt mostLevels p))) (sym (append-nil (own .used))) ∙ own .again 0 0 [] (like stop-nil)
+
+  own-single : single (levelsAt mostLevels p) (own .used) ≡ ok (sp .old) []
+  unfolding single alone place
+  own-single = rw (own-solid (own .used) (sp .behind) (sp .from) (sym (own .split)) (starts-next (levelsAt mostLevels p) (skip (sp .from)) own-is), eq-eqb (length (own .used)) (length (own .used)) refl, single) (bind-ok _ own-reads)
+
+  own-utf8 : isUtf8 (textAt t z) ≡ true
+  unfolding textAt
+  own-utf8 =
+      let f = first-token k p t z (rd .closed) (rd .rest) (rd .reading) sp in
+      let h = next-ascii (sp .behind) (text-hole k p t z (rd .closed) (rd .rest) (rd .reading) sp .ends tt) in
+      let d = cut-utf8 (z .start) t (rd .passes .utf8) (f .0, f .1, starts-at ∙ f .2, f .3) .1 in
+      cut-utf8 (z .end - z .start) (dropN (z .start) t) d (h .0, h .1, ap marked own-rest ∙ ends-at ∙ h .2, h .3) .0
+
+  own-short : length (textAt t z) ≤ mostBytes
+  unfolding textAt
+  own-short = simp (length-take, length-drop) (omega (arith, rd .passes .short))
+
+  own-item : readItem (levelsAt mostLevels p) (textAt t z) ≡ accepted (sp .old)
+  unfolding readItem verdictOf
+  own-item = checked-is (textAt t z) _ (record { short = own-short; utf8 = own-utf8 }) ∙ ap (verdictOf (length (textAt t z))) (ap (single (levelsAt mostLevels p)) own-text ∙ own-single)
 
   module _ (b₁ b₂ : ℕ) (h₁ : is blank b₁ ≡ true) (h₂ : is blank b₂ ≡ true) (new : List ℕ) (short : length (edited t z b₁ new b₂) ≤ mostBytes) where
     replaces : (y : Item) → readItem (levelsAt mostLevels p) new ≡ accepted y → readText (edited t z b₁ new b₂) ≡ accepted (replaceAt (k ∷ p) y xs)
@@ -255,7 +344,9 @@ edited-text t xs k p z e f =
     let sp = spanned k p t z f in
     let o = located k p t z (rd .closed) (rd .rest) (rd .reading) sp in
     record {
-      place = (o .0, ap (locate (k ∷ p)) (sym (rd .all)) ∙ o .1);
+      spot = o .0;
+      place = ap (locate (k ∷ p)) (sym (rd .all)) ∙ o .1;
+      same = own-item t xs k p z rd sp ∙ ap accepted (sym (o .2));
       replaces = λ b₁ b₂ h₁ h₂ new y l i. replaces t xs k p z rd sp b₁ b₂ h₁ h₂ new l y i;
       refuses = λ b₁ b₂ h₁ h₂ new n q l i n3 n11. refuses t xs k p z rd sp b₁ b₂ h₁ h₂ new l n q i n3 n11;
     }

@@ -78,6 +78,10 @@ unfoldable pub spanAt : List ℕ → List ℕ → Found Span
 spanAt [] s = nowhere 0
 spanAt (k ∷ p) s = spanOf (suc (length s)) (around k p s)
 
+-- the item's own text
+unfoldable pub textAt : List ℕ → Span → List ℕ
+textAt s z = take (z .end - z .start) (drop (z .start) s)
+
 -- a text with another one, a blank before and behind it, in the place of the item
 unfoldable pub edited : List ℕ → Span → ℕ → List ℕ → ℕ → List ℕ
 edited s z b₁ new b₂ = take (z .start) s ++ (b₁ ∷ (new ++ (b₂ ∷ drop (z .end) s)))

@@ -11,7 +11,7 @@ use Rattle.cbor.specs.Decode.{mostBytes, mostLevels}
 use Rattle.cbor.specs.Paths.{Spot, found, locate, replaceAt}
 use Rattle.notation.specs.Classes.{blank, is}
 use Rattle.notation.specs.Reading.{readText, readItem}
-use Rattle.notation.specs.Places.{levelsAt, Span, spanAt, edited}
+use Rattle.notation.specs.Places.{levelsAt, Span, spanAt, textAt, edited}
 use Rattle.notation.specs.Printing.{print, printText}
 
 -- READING GIVES WELL-FORMED ITEMS, which decoding accepts.
@@ -30,8 +30,10 @@ ItemOfPrint = (x : Item) (d : ℕ) → Valid x → levels x ≤ d → length (pr
 
 -- AN EDITED TEXT: t is an accepted text with the items xs, and z is where the item at the path k ∷ p stands in it.
 pub record Edits (t : List ℕ) (xs : Items) (k : ℕ) (p : List ℕ) (z : Span) : Type 0 where
-  -- the item is found at that path in the items too
-  pub place : (o : Spot) × (locate (k ∷ p) xs ≡ found o)
+  -- that item, and what stands there by itself reads as, is found at the same path in the items
+  pub spot : Spot
+  pub place : locate (k ∷ p) xs ≡ found spot
+  pub same : readItem (levelsAt mostLevels p) (textAt t z) ≡ accepted (spot .item)
   -- the text of one item, at the level of the path, with a blank before and behind it, puts that item at the path
   pub replaces : (b₁ b₂ : ℕ) → is blank b₁ ≡ true → is blank b₂ ≡ true → (new : List ℕ) (y : Item) → length (edited t z b₁ new b₂) ≤ mostBytes
       → readItem (levelsAt mostLevels p) new ≡ accepted y → readText (edited t z b₁ new b₂) ≡ accepted (replaceAt (k ∷ p) y xs)
