@@ -16,21 +16,10 @@ use Rattle.cbor.specs.TypedArrays.{mayTag}
 use Rattle.cbor.specs.Valid.{Bytes, isText, ValidString, ValidChunks, Fits, isSimple, Valid, ValidAll, ValidAll₂}
 use Rattle.cbor.specs.Decode.{Until, counted, broken, ended, several, content, chunkBy, chunk, Entry, entry, extent, tagged, elements, pair, entries, chunks, Enter, itemBy, itemWith, item, decode, mostBytes, mostLevels}
 use Rattle.cbor.specs.Theorems.{ItemOfEncode, DecodeOfEncode}
-use Rattle.cbor.proofs.Heads.{information-most, head-read, opening-read, taking-all}
+use Rattle.cbor.proofs.Heads.{major-most, information-most, head-read, opening-read, taking-all}
 use Rattle.cbor.proofs.Several.{tailOf, Meets, Begins, begins-more, Reads, reads-nil, reads-cons, reads-all}
 
 -- THE FIRST BYTE IS NO BREAK
-
-major-most : (m : Major) → majorNumber m ≤ 7
-unfolding majorNumber
-major-most (integers unsigned) = omega arith
-major-most (integers negative) = omega arith
-major-most (strings byteString) = omega arith
-major-most (strings textString) = omega arith
-major-most arrays = omega arith
-major-most maps = omega arith
-major-most tags = omega arith
-major-most simples = omega arith
 
 begins-head : (m : Major) (w : Width) (n : ℕ) → n ≤ limit w → Begins (head m w n)
 unfolding head initial

@@ -8,7 +8,7 @@ use Rattle.cbor.specs.Items.{unsigned, negative, Kind, byteString, textS
 use Rattle.cbor.specs.Heads.{Major, integers, strings, arrays, maps, tags, simples, majorNumber, initial, head}
 use Rattle.cbor.specs.Encode.{encodeString, opening, closing, enclosed, encodeChunks, encode, encodeAll, encodeAll₂}
 use Rattle.cbor.specs.Valid.{Bytes, ValidString, ValidChunks, Fits, Valid, ValidAll, ValidAll₂}
-use Rattle.cbor.proofs.Heads.{information-most}
+use Rattle.cbor.proofs.Heads.{major-most, information-most}
 use Rattle.cbor.proofs.DecodeEncode.{shortest-simple}
 
 pub bytes-append : (a b : List ℕ) → Bytes a → Bytes b → Bytes (a ++ b)
@@ -22,17 +22,6 @@ pub bytes-big : (k n : ℕ) → Bytes (bigEndian k n)
 unfolding Bytes bigEndian
 bytes-big zero n = tt
 bytes-big (suc k) n = bytes-append (bigEndian k (n / 256)) ((n % 256) ∷ []) (bytes-big k (n / 256)) (omega arith, tt)
-
-major-most : (m : Major) → majorNumber m ≤ 7
-unfolding majorNumber
-major-most (integers unsigned) = omega arith
-major-most (integers negative) = omega arith
-major-most (strings byteString) = omega arith
-major-most (strings textString) = omega arith
-major-most arrays = omega arith
-major-most maps = omega arith
-major-most tags = omega arith
-major-most simples = omega arith
 
 pub bytes-head : (m : Major) (w : Width) (n : ℕ) → n ≤ limit w → Bytes (head m w n)
 unfolding Bytes head initial

@@ -24,6 +24,7 @@ use Rattle.cbor.specs.declared.head.HeadRead.the-variants as HeadRead
 use Rattle.cbor.specs.declared.refusal.RefusalKind.{RefusalKind}
 use Rattle.cbor.specs.declared.refusal.RefusalKind.the-variants.{Float, EndsInside, NotWellFormed}
 use Rattle.cbor.proofs.Arguments.{length-big}
+use Rattle.cbor.proofs.Lists.{front}
 use Rattle.cbor.proofs.Table.{both, byte}
 use Rattle.cbor.proofs.Buffer.{over-nil, over-set, written-fits, written-not, length-written, written-behind}
 
@@ -210,9 +211,6 @@ least-none b n = sym (simp (leastArgument, ne-eqb b 0xf8 n))
 pub ruleset least-ways = (least-some, least-none)
 
 -- NUMBERS, READ
-
-front : (s : List ℕ) (at : ℕ) → at < length s → drop at s ≡ getD s at 0 ∷ drop (at + 1) s
-front s at h = rw (add-one, drop-cons s at 0)
 
 -- a number of at most 8 bytes has at most 64 bits
 below : (i v x : ℕ) → i < 8 → v < 256 ^ i → x < 256 → (v * 256 + x < 256 ^ (i + 1)) × (v * 256 + x < 2 ^ 64)

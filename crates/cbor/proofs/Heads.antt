@@ -29,6 +29,17 @@ major-back maps = refl
 major-back tags = refl
 major-back simples = refl
 
+pub major-most : (m : Major) → majorNumber m ≤ 7
+unfolding majorNumber
+major-most (integers unsigned) = omega arith
+major-most (integers negative) = omega arith
+major-most (strings byteString) = omega arith
+major-most (strings textString) = omega arith
+major-most arrays = omega arith
+major-most maps = omega arith
+major-most tags = omega arith
+major-most simples = omega arith
+
 pub information-most : (w : Width) (n : ℕ) → n ≤ limit w → information w n ≤ 27
 unfolding information limit
 information-most w0 n h = omega arith

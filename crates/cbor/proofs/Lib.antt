@@ -1,4 +1,5 @@
 pub mod Results
+pub mod Lists
 pub mod Table
 pub mod Sequences
 pub mod Utf8Laws

@@ -12,6 +12,7 @@ use lib.Seq.{drop-cons, drop-drop}
 use borrow.Author.Tests.{le-leb, lt-leb, not-true, not-false}
 use Rattle.cbor.specs.Utf8.{Range, _to_, isIn, Row, rows, Follow, nothing, these, followIn, follow, areIn, sequenceBy, firstBadFrom, firstBad}
 use Rattle.cbor.specs.Sequences.{ranges, behind, Sequence}
+use Rattle.cbor.proofs.Lists.{front}
 use Rattle.cbor.proofs.Table.{both, every, between}
 
 -- What a first byte says. Whether two first bytes ask for the same bytes behind them:
@@ -58,10 +59,6 @@ module _ {b : ℕ} where
   pub lead-last : 0xf5 ≤ b → b < 256 → follow b ≡ behind 0 0x80 0xbf
   unfolding rows followIn follow isIn behind ranges
   lead-last l h = lead-rule 0 0x80 0xbf l h tt
-
--- what is left at a place within a list begins with what is there
-front : (s : List ℕ) (at : ℕ) → at < length s → drop at s ≡ getD s at 0 ∷ drop (at + 1) s
-front s at h = rw (add-one, drop-cons s at 0)
 
 -- One byte within bounds.
 module _ (s : List ℕ) (at low high : ℕ) where

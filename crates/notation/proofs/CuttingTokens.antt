@@ -20,7 +20,8 @@ use Rattle.notation.specs.Literals.{literalToken, quotedToken, quoted, i
 use Rattle.notation.specs.Words.{same, falseWord, trueWord, nullWord, undefinedWord, simpleWord, hexPrefix, base64Prefix, infinityWord, isFloatWord, isPlainDecimal, simpleBy, simpleToken, value, worded, prefixed, word}
 use Rattle.notation.specs.Cutting.{startsWith, afterMinus, opening, cutBy}
 use Rattle.notation.proofs.Good.{Good, good-cons, good-ok}
-use Rattle.notation.proofs.ScanningElements.{clash, both-true, word-on, digit-on}
+use Rattle.cbor.proofs.Utf8Laws.{both-true}
+use Rattle.notation.proofs.ScanningElements.{clash, word-on, digit-on}
 use Rattle.notation.proofs.ScanningSteps.{Sure, sure-ok, sure-refuse, good-soft, sure-if, good-then, sure-then, run-sure, whether-sure, expect-sure}
 use Rattle.notation.proofs.CuttingNumbers.{indicator-sure, chosen-sure, number-sure}
 

@@ -18,6 +18,7 @@ use Rattle.notation.specs.Numbers.{digitValue, isDigit, numberFrom, digi
 use Rattle.notation.specs.Tokens.{Token, begins, leaf, opens, tagging}
 use Rattle.notation.specs.Cutting.{afterMinus, cutBy, cut, placed, next}
 use Rattle.notation.specs.Printing.{decimalWithin, decimalOf, widthName, indicatorOf, printInt}
+use Rattle.notation.proofs.ScanningElements.{off-is}
 use Rattle.notation.proofs.Good.{Stop, stop-nil, stop-at}
 
 -- TESTS AT THE FRONT OF A TEXT: all elements pass one; the first element, if there is one, does not
@@ -83,9 +84,6 @@ stop-extends b e =
     let p = either-false (isWord b) _ e in
     let q = either-false (is underscore b) _ (p .1) in
     rw (p .0) (either-false (is dot b) _ (q .1) .0)
-
-pub stop-differs : (c : ℕ) → goesOn c ≡ true → (b : ℕ) → goesOn b ≡ false → eqb b c ≡ false
-stop-differs c h b e = differs goesOn b c e h
 
 pub digit-range : (b : ℕ) → isDigit 10 b ≡ true → (0x30 ≤ b) × (b < 0x3a)
 unfolding isDigit digitValue
@@ -336,7 +334,7 @@ named w n h = named-as h (shown w n)
 
 pub stop-indicates : {r : List ℕ} → Stop r → Halts indicates r
 unfolding goesOn isWord is classNumber classOf classIn classRows isIn
-stop-indicates st = stop-halts indicates (λ b e. rw (stop-word b e) (stop-differs 0x5f refl b e)) st
+stop-indicates st = stop-halts indicates (λ b e. rw (stop-word b e) (off-is 0x5f refl b e)) st
 
 -- INTEGERS AND TAG OPENINGS
 limit-most : (w : Width) → limit w ≤ limit w8
@@ -353,7 +351,7 @@ judged-ok w n c make r h e = rw (le-leb n (limit w8) (omega (arith, limit-most w
 
 not-paren : {r : List ℕ} → Stop r → Halts (λ b. eqb b 0x28) r
 unfolding goesOn isWord is classNumber classOf classIn classRows isIn
-not-paren st = stop-halts (λ b. eqb b 0x28) (stop-differs 0x28 refl) st
+not-paren st = stop-halts (λ b. eqb b 0x28) (off-is 0x28 refl) st
 
 decimal-integer : (g : Sign) (w : Width) (n : ℕ) (r : List ℕ) → n ≤ limit w → Stop r
     → decimal g (elim g [ unsigned ↦ n | negative ↦ suc n ]) (indicatorOf w n ++ r) ≡ ok (begins (leaf (int g w n))) r

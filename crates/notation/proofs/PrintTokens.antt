@@ -22,8 +22,9 @@ use Rattle.notation.specs.Tokens.{Opener, bracket, brace, leaf, chunking
 use Rattle.notation.specs.Cutting.{opening, cutBy, next}
 use Rattle.notation.specs.Form.{give, sized, contains}
 use Rattle.notation.specs.Printing.{decimalWithin, decimalOf, blankBehind, sizeOf, printSimple}
+use Rattle.notation.proofs.ScanningElements.{off-is}
 use Rattle.notation.proofs.Good.{Stop, stop-at}
-use Rattle.notation.proofs.PrintNumbers.{Each, Halts, run-all, whether-no, sure, stop-halts, stop-word, stop-differs, decimal-digits, number-decimal, digits-decimal, gap, next-at, indicator-absent, indicator-wide, Shown, as-shortest, by-name, shown, choose-absent, choose-wide}
+use Rattle.notation.proofs.PrintNumbers.{Each, Halts, run-all, whether-no, sure, stop-halts, stop-word, decimal-digits, number-decimal, digits-decimal, gap, next-at, indicator-absent, indicator-wide, Shown, as-shortest, by-name, shown, choose-absent, choose-wide}
 
 -- SIMPLE VALUES
 
@@ -38,7 +39,7 @@ word-read b w r e h q = rw (run-all isWord w r (each-of isWord 0 w e) h) (rw (wh
 -- a word with a text behind it that no token goes on into
 word-alone : (b : ℕ) (w r : List ℕ) → T (every (λ k c. isWord c) 0 w) → Stop r → word b (w ++ r) ≡ worded (b ∷ w) r
 unfolding goesOn isWord is classNumber classOf classIn classRows isIn
-word-alone b w r e st = word-read b w r e (stop-halts isWord stop-word st) (stop-halts (λ c. eqb c 0x27) (stop-differs 0x27 refl) st)
+word-alone b w r e st = word-read b w r e (stop-halts isWord stop-word st) (stop-halts (λ c. eqb c 0x27) (off-is 0x27 refl) st)
 
 plain-decimal : (n : ℕ) → isPlainDecimal (decimalOf n) ≡ true
 unfolding decimalOf decimalWithin isPlainDecimal

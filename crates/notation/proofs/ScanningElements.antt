@@ -8,6 +8,7 @@ use lib.Dec.{T, leb, ltb, eqb}
 use lib.ListN.{getD, replicate}
 use borrow.Author.Tests.{leb-true, ltb-true, eqb-true}
 use Rattle.cbor.specs.Utf8.{Range, _to_, isIn}
+use Rattle.cbor.proofs.Utf8Laws.{both-true, is-in}
 use Rattle.cbor.proofs.Table.{every, between}
 use Rattle.notation.specs.Classes.{Class, other, blank, digit, letter, underscore, minus, dot, quote, apostrophe, slash, hash, comma, colon, openParen, closeParen, openBracket, closeBracket, openBrace, closeBrace, less, greater, endMark, classNumber, ClassRow, classRows, classIn, classOf, is, isWord, goesOn}
 use Rattle.notation.specs.Numbers.{digitValue, isDigit, makesFloat, radixOf}
@@ -20,20 +21,10 @@ is-true false t = absurd t
 pub clash : true ≡ false → ⊥
 clash e = let z : _≡_ {A = ℕ} 0 1 = cc in omega arith
 
-pub both-true : (a b : Bool) → a && b ≡ true → (a ≡ true) × (b ≡ true)
-both-true true b e = (refl, e)
-both-true false b e = absurd (clash (sym e))
-
 -- what follows from either side follows
 pub either-true : (a b : Bool) {P : Type 0} → a || b ≡ true → (a ≡ true → P) → (b ≡ true → P) → P
 either-true true b e f g = f refl
 either-true false b e f g = g e
-
-pub is-in : (g : Range) (b : ℕ) → isIn g b ≡ true → (g .low ≤ b) × (b ≤ g .high)
-unfolding isIn
-is-in g b e =
-    let p = both-true (leb (g .low) b) (leb b (g .high)) e in
-    (leb-true (g .low) b (p .0), leb-true b (g .high) (p .1))
 
 -- WHAT GOES ON IN A TOKEN: words, digits of each radix, and what makes a float of digits
 pub word-on : (b : ℕ) → isWord b ≡ true → goesOn b ≡ true
