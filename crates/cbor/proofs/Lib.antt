@@ -8,6 +8,7 @@ pub mod Buffer
 pub mod Arguments
 pub mod Heads
 pub mod HeadCode
+pub mod KindCode
 pub mod Several
 pub mod DecodeEncode
 pub mod EncodeBytes
