@@ -2,7 +2,6 @@
 ghost use mathlib.Core.Path.{_≡_};
 ghost use Rattle.cbor.specs.Answers.{kindNumber};
 
-
 // The kinds of refusal, in the order of their numbers, 1 to 17.
 pub enum RefusalKind {
     TooLong,

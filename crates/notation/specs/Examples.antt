@@ -6,7 +6,7 @@ use mathlib.Core.List as L
 use mathlib.Core.Path.{_≡_, refl}
 use lib.ListN.{length}
 use Rattle.cbor.specs.Ascii.{ascii}
-use Rattle.cbor.specs.Refusals.{Result, ok, refuse, bind, Verdict, accepted, refused, verdictOf}
+use Rattle.cbor.specs.Refusals.{Result, ok, refuse, bind, Verdict, accepted, refused, verdictOf, noSuchPath}
 use Rattle.cbor.specs.Widths.{argumentBytes, limit, fits, shortest, information, bigEndian, valueFrom}
 use Rattle.cbor.specs.Items.{Item, Items, count, count₂, levels}
 use Rattle.cbor.specs.Heads.{majorNumber, majorOf, initial, head, informationOf, isFloat, isAllowed, isIndefinite, taking, started, argued, headBy, nextHead}
@@ -24,6 +24,8 @@ use Rattle.notation.specs.Literals.{literalToken, quotedToken, quoted, i
 use Rattle.notation.specs.Words.{same, isFloatWord, isPlainDecimal, simpleBy, simpleToken, value, worded, prefixed, word}
 use Rattle.notation.specs.Cutting.{startsWith, afterMinus, opening as openingToken, cutBy, cut, place, placed, next}
 use Rattle.notation.specs.Form.{then, strayIndicator, strayClosing, stray, strays, shapeNumber, closing as closingRule, sized, contains, embeds, tags, afterTag, inside, literalItem, beginning, oneRule, addItem, afterItem, itemsRule, afterValue, afterKey, pairsRule, addChunk, afterChunk, isWanted, chunk, chunksRule, rules, obey, readsWithin, reads as readsBy}
+use Rattle.cbor.specs.Paths.{Found, found, nowhere}
+use Rattle.notation.specs.Places.{separated, past, toElement, toValue, into, toward, levelsAt, around, Span, spanOf, spanAt}
 use Rattle.notation.specs.Printing.{decimalWithin, decimalOf, hexDigitOf, hexByteOf, hexOf, escapeOf, escapedOf, widthName, indicatorOf, printString, printChunks, printChunked, blankBehind, sizeOf, printSimple, printInt, print, printText}
 use Rattle.notation.specs.Reading.{marked, checked, sequence, readText, outside, alone, single, readItem}
 
@@ -32,9 +34,10 @@ unfoldable pub bytesOf : Verdict Items → Verdict (List ℕ)
 bytesOf (accepted xs) = accepted (encodeAll xs)
 bytesOf (refused n place) = refused n place
 
--- what is asked: a text; the text of one item, with 16 levels left; the text of bytes
+-- what is asked: a text; the text of one item, with 16 levels left; the text of bytes; where the item at a path stands in a text
 pub data Question : Type 0 where
   ofText ofItem ofBytes : List ℕ → Question
+  ofPath : List ℕ → List ℕ → Question
 
 unfoldable pub bytesOfItem : Verdict Item → Verdict (List ℕ)
 bytesOfItem (accepted x) = accepted (encode x)
@@ -44,10 +47,15 @@ unfoldable pub printedOf : Verdict Items → Verdict (List ℕ)
 printedOf (accepted xs) = accepted (printText xs)
 printedOf (refused n place) = refused n place
 
+unfoldable pub spanned : Found Span → Verdict (List ℕ)
+spanned (found z) = accepted (z .start ∷ z .end ∷ [])
+spanned (nowhere i) = refused noSuchPath i
+
 unfoldable pub answer : Question → Verdict (List ℕ)
 answer (ofText t) = bytesOf (readText t)
 answer (ofItem t) = bytesOfItem (readItem mostLevels t)
 answer (ofBytes s) = printedOf (verdictOf (length s) (decode s))
+answer (ofPath p t) = spanned (spanAt p t)
 
 pub record Example : Type 0 where
   pub question : Question
@@ -64,6 +72,12 @@ readsItem t b = record { question = ofItem (ascii t); expected = accepted b }
 
 refusesItem : String → ℕ → ℕ → Example
 refusesItem t n place = record { question = ofItem (ascii t); expected = refused n place }
+
+stands : String → List ℕ → ℕ → ℕ → Example
+stands t p a e = record { question = ofPath p (ascii t); expected = accepted (a ∷ e ∷ []) }
+
+lacks : String → List ℕ → Example
+lacks t p = record { question = ofPath p (ascii t); expected = refused noSuchPath 0 }
 
 prints : List ℕ → String → Example
 prints b t = record { question = ofBytes b; expected = accepted (ascii t) }
@@ -324,9 +338,28 @@ printed =
     ∷ prints (0xbf ∷ 0x01 ∷ 0x02 ∷ 0xff ∷ []) "{_ 1: 2}\n"
     ∷ []
 
+-- where items stand: blanks and comments around an item are no part of it, and tags, keys, `<< >>` and chunks are not entered
+places : List Example
+places =
+    stands "7" (0 ∷ []) 0 1
+    ∷ stands " /c/ 7 # d\n" (0 ∷ []) 5 6
+    ∷ stands "[1, { 2 : 3 } ], 7" (0 ∷ []) 0 15
+    ∷ stands "[1, { 2 : 3 } ], 7" (0 ∷ 1 ∷ []) 4 13
+    ∷ stands "[1, { 2 : 3 } ], 7" (0 ∷ 1 ∷ 0 ∷ []) 10 11
+    ∷ stands "[1, { 2 : 3 } ], 7" (1 ∷ []) 17 18
+    ∷ stands "{1: 2, 3: <<4>>_1 , 5: 6(7)}" (0 ∷ 1 ∷ []) 10 17
+    ∷ stands "{1: 2, 3: <<4>>_1 , 5: 6(7)}" (0 ∷ 2 ∷ []) 23 27
+    ∷ stands "(_ 'a', 'b')" (0 ∷ []) 0 12
+    ∷ lacks "[1]" (0 ∷ 1 ∷ [])
+    ∷ lacks "1([2])" (0 ∷ 0 ∷ [])
+    ∷ lacks "<<1>>" (0 ∷ 0 ∷ [])
+    ∷ lacks "(_ 'a')" (0 ∷ 0 ∷ [])
+    ∷ lacks "1" []
+    ∷ []
+
 pub examples : List Example
-examples = numbers ++ indicators ++ words ++ literals ++ quotes ++ comments ++ form ++ oneItem ++ printed
+examples = numbers ++ indicators ++ words ++ literals ++ quotes ++ comments ++ form ++ oneItem ++ printed ++ places
 
 pub examples-hold : L.map (λ (e : Example). answer (e .question)) examples ≡ L.map (λ (e : Example). e .expected) examples
-unfolding examples numbers indicators words literals quotes comments form oneItem printed reads refuses readsItem refusesItem prints answer bytesOf bytesOfItem printedOf bind verdictOf argumentBytes limit fits shortest information bigEndian valueFrom count count₂ levels majorNumber majorOf initial head informationOf isFloat isAllowed isIndefinite taking started argued headBy nextHead encodeString opening closing enclosed encodeChunks encode isIn rows followIn follow areIn sequenceBy firstBadFrom firstBad isUtf8 elementSize chunksLength divides isTypedArray mayTag isText isSimple stepAt severalBy severalWithin several content chunkBy bytesChunk entry extent tagged elements entries bytesChunks itemBy itemWith item decode classNumber classRows classIn classOf is isWord isComment skipped leftIn skipFrom skip run whether expect indicated indicator choose digitValue isDigit numberFrom digits makesFloat isFloating radixOf judged integerToken integer otherInteger decimal based afterZero number utf8Of escapes escapedIn wholeUnit unit moveAt unquote literalToken quotedToken quoted isBody body after halfEnd hexDigit hexFrom hexContent sextet sextets lastTwo lastThree lastFour fullFour base64From base64Content contained encodedLiteral same isFloatWord isPlainDecimal simpleBy simpleToken value worded prefixed word startsWith afterMinus openingToken cutBy cut place placed next then strayIndicator strayClosing stray strays shapeNumber closingRule sized contains embeds tags afterTag inside literalItem beginning oneRule addItem afterItem itemsRule afterValue afterKey pairsRule addChunk afterChunk isWanted chunk chunksRule rules obey readsWithin readsBy marked checked sequence readText outside alone single readItem decimalWithin decimalOf hexDigitOf hexByteOf hexOf escapeOf escapedOf widthName indicatorOf printString printChunks printChunked blankBehind sizeOf printSimple printInt print printText
+unfolding examples numbers indicators words literals quotes comments form oneItem printed reads refuses readsItem refusesItem stands lacks places spanned prints answer bytesOf bytesOfItem printedOf bind verdictOf argumentBytes limit fits shortest information bigEndian valueFrom count count₂ levels majorNumber majorOf initial head informationOf isFloat isAllowed isIndefinite taking started argued headBy nextHead encodeString opening closing enclosed encodeChunks encode isIn rows followIn follow areIn sequenceBy firstBadFrom firstBad isUtf8 elementSize chunksLength divides isTypedArray mayTag isText isSimple stepAt severalBy severalWithin several content chunkBy bytesChunk entry extent tagged elements entries bytesChunks itemBy itemWith item decode classNumber classRows classIn classOf is isWord isComment skipped leftIn skipFrom skip run whether expect indicated indicator choose digitValue isDigit numberFrom digits makesFloat isFloating radixOf judged integerToken integer otherInteger decimal based afterZero number utf8Of escapes escapedIn wholeUnit unit moveAt unquote literalToken quotedToken quoted isBody body after halfEnd hexDigit hexFrom hexContent sextet sextets lastTwo lastThree lastFour fullFour base64From base64Content contained encodedLiteral same isFloatWord isPlainDecimal simpleBy simpleToken value worded prefixed word startsWith afterMinus openingToken cutBy cut place placed next then strayIndicator strayClosing stray strays shapeNumber closingRule sized contains embeds tags afterTag inside literalItem beginning oneRule addItem afterItem itemsRule afterValue afterKey pairsRule addChunk afterChunk isWanted chunk chunksRule rules obey readsWithin readsBy marked checked sequence readText outside alone single readItem decimalWithin decimalOf hexDigitOf hexByteOf hexOf escapeOf escapedOf widthName indicatorOf printString printChunks printChunked blankBehind sizeOf printSimple printInt print printText separated past toElement toValue into toward levelsAt around spanOf spanAt
 examples-hold = refl
