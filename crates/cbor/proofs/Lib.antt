@@ -9,6 +9,7 @@ pub mod Arguments
 pub mod Heads
 pub mod HeadCode
 pub mod KindCode
+pub mod EmitCode
 pub mod Several
 pub mod DecodeEncode
 pub mod EncodeBytes

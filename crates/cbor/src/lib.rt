@@ -1,4 +1,5 @@
 // CBOR (RFC 8949).
+pub mod emit;
 pub mod head;
 pub mod refusal;
 pub mod utf8;
