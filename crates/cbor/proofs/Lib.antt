@@ -11,7 +11,12 @@ pub mod HeadCode
 pub mod KindCode
 pub mod EmitCode
 pub mod Several
+pub mod Leaves
 pub mod DecodeEncode
+pub mod ItemLeaves
+pub mod WalkParts
+pub mod WalkCycle
+pub mod WalkItems
 pub mod EncodeBytes
 pub mod EncodeDecode
 pub mod Paths

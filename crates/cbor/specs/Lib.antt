@@ -13,5 +13,6 @@ pub mod Paths
 pub mod Buffer
 pub mod Answers
 pub mod HeadAnswers
+pub mod WalkAnswers
 pub mod Theorems
 pub mod Examples

@@ -3,3 +3,4 @@ pub mod emit;
 pub mod head;
 pub mod refusal;
 pub mod utf8;
+pub mod walk;

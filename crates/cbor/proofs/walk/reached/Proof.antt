@@ -1,0 +1,12 @@
+-- `cbor::walk::reached` meets its contract.
+-- Assumes nothing.
+use Rattle.cbor.proofs.walk.reached.Statement.{statement}
+use Rattle.cbor.proofs.walk.reached.Tie as tie
+use borrow.Author.Needs.{needs}
+use Rattle.cbor.proofs.WalkParts.{told-made}
+
+pub reached-spec : {M : Type 1} → statement M
+reached-spec =
+    tie.close (tie.spec
+    (λ c. search told-made)  -- returns
+    )

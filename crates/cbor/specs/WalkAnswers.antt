@@ -1,0 +1,141 @@
+-- What the code that walks over bytes answers: where an item ends, and how many bytes of strings are in it.
+use Prim.Native.Nat.{ℕ, zero, suc, _+_, _-_, _%_, _^_, _≤_, _<_, min}
+use mathlib.Core.Path.{_≡_}
+use mathlib.Core.List.{List, [], _∷_}
+use mathlib.Core.Bool.{Bool, true, false, _&&_}
+use lib.Dec.{eqb}
+use lib.ListN.{length, drop}
+use Rattle.cbor.specs.Refusals.{Result, ok, refuse, bind, tooDeep, badTypedArray}
+use Rattle.cbor.specs.Items.{Kind, byteString, textString, Chunk, Item, int, string, chunked, array, map, tag, simple, Items, none, more, Pairs, none₂, more₂}
+use Rattle.cbor.specs.TypedArrays.{chunksLength, elementSize, isTypedArray, mayTag}
+use Rattle.cbor.specs.Decode.{Until, counted, broken, ended, Step, over, another, stepAt, several, chunk, Entry, entry, item, decode}
+use Rattle.cbor.specs.Answers.{kindNumber}
+use Rattle.cbor.specs.HeadAnswers.{headTold, headAt}
+use Rattle.cbor.specs.declared.head.HeadAt.{HeadAt}
+use Rattle.cbor.specs.declared.head.HeadRead.the-variants.{Head as HeadV}
+use Rattle.cbor.specs.declared.walk.Walked.{Walked}
+use Rattle.cbor.specs.declared.walk.Walked.the-variants.{Made as MadeV, Refused as RefusedV}
+use Rattle.cbor.specs.declared.walk.Extent.{Extent}
+use Rattle.cbor.specs.declared.walk.Extent.the-variants.{Counted, Broken, Ended}
+use Rattle.cbor.specs.declared.walk.Turn.{Turn}
+use Rattle.cbor.specs.declared.walk.Turn.the-variants.{Over, Another}
+
+-- THE ANSWER
+
+-- where it ends and how many bytes of strings it has; or a refusal's number and place
+pub data WalkTold : Type 0 where
+  made : ℕ → ℕ → WalkTold
+  refused : ℕ → ℕ → WalkTold
+
+unfoldable pub walkTold : Walked → WalkTold
+walkTold (MadeV m) = made (m .end) (m .size)
+walkTold (RefusedV e) = refused (kindNumber (e .kind)) (e .place)
+
+-- the bytes of the strings in an item: of a string its own, chunked or not
+unfoldable mutual
+  pub contents : Item → ℕ
+  contents (int g w n) = 0
+  contents (string k w b) = length b
+  contents (chunked k cs) = chunksLength cs
+  contents (array z xs) = contentsAll xs
+  contents (map z ps) = contentsAll₂ ps
+  contents (tag w n x) = contents x
+  contents (simple n) = 0
+
+  pub contentsAll : Items → ℕ
+  contentsAll none = 0
+  contentsAll (more x xs) = contents x + contentsAll xs
+
+  pub contentsAll₂ : Pairs → ℕ
+  contentsAll₂ none₂ = 0
+  contentsAll₂ (more₂ k x ps) = (contents k + contents x) + contentsAll₂ ps
+
+-- a result of which a number is known
+unfoldable pub sized : {A : Type 0} → (A → ℕ) → Result A → Result ℕ
+sized f (ok x r) = ok (f x) r
+sized f (refuse n left) = refuse n left
+
+-- of what was read from n bytes
+unfoldable pub toldOf : ℕ → Result ℕ → WalkTold
+toldOf n (ok k r) = made (n - length r) k
+toldOf n (refuse i left) = refused i (n - left)
+
+unfoldable pub walkOf : ℕ → Result Item → WalkTold
+walkOf n res = toldOf n (sized contents res)
+
+unfoldable pub walkAllOf : ℕ → Result Items → WalkTold
+walkAllOf n res = toldOf n (sized contentsAll res)
+
+-- INSIDE THE CYCLE
+
+-- an item one level down
+unfoldable pub below : ℕ → List ℕ → Result Item
+below zero s = refuse tooDeep (length s)
+below (suc d) s = item d s
+
+unfoldable pub kindOf : Bool → Kind
+kindOf true = textString
+kindOf false = byteString
+
+unfoldable pub entryContents : Entry → ℕ
+entryContents e = contents (e .key) + contents (e .value)
+
+unfoldable pub chunkContents : Chunk → ℕ
+chunkContents c = length (c .content)
+
+-- one of several inside an item of a major type: an element of an array, an entry of a map, a chunk of a string
+unfoldable pub oneOf : ℕ → ℕ → List ℕ → Result ℕ
+oneOf major d s =
+    elim (eqb major 4) [
+      | true ↦ sized contents (below d s)
+      | false ↦ elim (eqb major 5) [ true ↦ sized entryContents (entry (below d) s) | false ↦ sized chunkContents (chunk (kindOf (eqb major 3)) s) ]
+    ]
+
+-- all of them
+unfoldable pub allOf : ℕ → ℕ → Until → List ℕ → Result ℕ
+allOf major d u s = several 0 _+_ (oneOf major d) u s
+
+-- a tag's item, at whose head `left` were left
+unfoldable pub tagOf : ℕ → ℕ → ℕ → List ℕ → Result ℕ
+tagOf n d left s = bind (below d s) (λ x r. elim (mayTag n x) [ true ↦ ok (contents x) r | false ↦ refuse badTypedArray left ])
+
+unfoldable pub untilOf : Extent → Until
+untilOf (Counted n) = counted n
+untilOf Broken = broken
+untilOf Ended = ended
+
+unfoldable pub turnOf : List ℕ → Turn → Step
+turnOf s (Over e) = over (drop e s)
+turnOf s (Another u) = another (untilOf u)
+
+unfoldable pub Inner : List ℕ → Turn → Type 0
+Inner s (Over e) = e ≤ length s
+Inner s (Another u) = Unit
+
+pub record Turned (s : List ℕ) (at : ℕ) (u : Extent) (r : Turn) : Type 0 where
+  pub is : turnOf s r ≡ stepAt (untilOf u) (drop at s)
+  pub inside : at ≤ length s → Inner s r
+
+-- a sum that stops at the largest number
+abbrev pub capped : ℕ → ℕ → ℕ
+capped a b = min (a + b) (2 ^ 64 - 1)
+
+-- the same answer counted from `from` places before, with `size` bytes of strings before it
+unfoldable pub afterTold : ℕ → ℕ → WalkTold → WalkTold
+afterTold from size (made e k) = made (capped from e) (capped size k)
+afterTold from size (refused i p) = refused i (capped from p)
+
+-- the head at the front
+pub record Headed (s : List ℕ) (h : HeadAt) : Type 0 where
+  pub is : headTold (HeadV h) ≡ headAt s 0
+
+pub record Within (s : List ℕ) (from : ℕ) : Type 0 where
+  pub inside : from ≤ length s
+
+pub record ElementSize (n r : ℕ) : Type 0 where
+  pub is : r ≡ elementSize n
+  pub some : 0 < r
+
+-- whether a tag n may stand before an item, by its major type and the bytes in it
+unfoldable pub mayTagBy : ℕ → ℕ → ℕ → Bool
+mayTagBy n major size = elim (isTypedArray n) [ true ↦ elim (eqb n 76) [ true ↦ false | false ↦ eqb major 2 && eqb (size % elementSize n) 0 ] | false ↦ true ]

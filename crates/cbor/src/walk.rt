@@ -1,0 +1,340 @@
+// A walk over items (RFC 8949), one behind the other and one inside the other: where each ends, or why it is refused.
+// An item walker gets a slice that starts at its item, and hands the part that starts at the next item on.
+use crate::head;
+use crate::head::HeadAt;
+use crate::head::HeadRead;
+use crate::refusal::Refusal;
+use crate::refusal::RefusalKind;
+use crate::utf8;
+ghost use mathlib.Core.Path.{_≡_};
+ghost use Prim.Native.Nat.{_/_, _≤_};
+ghost use mathlib.Core.Bool.{true, false};
+ghost use lib.ListN.{length, drop, getD};
+ghost use Rattle.cbor.specs.Items.{Item};
+ghost use Rattle.cbor.specs.Heads.{majorNumber, strings};
+ghost use Rattle.cbor.specs.Decode.{content, chunk, entry, item, decode};
+ghost use Rattle.cbor.specs.Valid.{isText};
+ghost use Rattle.cbor.specs.Answers.{kindNumber};
+ghost use Rattle.cbor.specs.WalkAnswers.{made, refused, walkTold, sized, toldOf, walkOf, walkAllOf, below, kindOf, entryContents, chunkContents, oneOf, allOf, tagOf, untilOf, Turned, capped, afterTold, Headed, Within, ElementSize, mayTagBy, contents};
+
+// What was walked over ends before `end`; `size` is the number of bytes of strings in it.
+pub struct Made {
+    pub end: usize,
+    pub size: usize,
+}
+
+pub enum Walked {
+    Made(Made),
+    Refused(Refusal),
+}
+
+// How far several go: a number of them, to a break, to the end of the bytes.
+pub enum Extent {
+    Counted(u64),
+    Broken,
+    Ended,
+}
+
+// What stands next: nothing, and they end there; or another one.
+enum Turn {
+    Over(usize),
+    Another(Extent),
+}
+
+fn reached(end: usize, size: usize) -> Walked
+    ensures { λ r. ⌜ walkTold r ≡ made end size ⌝ }
+{
+    Walked::Made(Made { end, size })
+}
+
+fn refuse(kind: RefusalKind, place: usize) -> Walked
+    ensures { λ r. ⌜ walkTold r ≡ refused (kindNumber kind) place ⌝ }
+{
+    Walked::Refused(Refusal { kind, place })
+}
+
+// A sum that stops at the largest number.
+fn sum(a: usize, b: usize) -> usize
+    ensures { λ r. ⌜ r ≡ capped a b ⌝ }
+{
+    if b <= 18446744073709551615 - a {
+        a + b
+    } else {
+        18446744073709551615
+    }
+}
+
+// The answer for a part, as that for the whole: the part starts at `from`, and `size` bytes of strings stand before it.
+fn after(from: usize, size: usize, part: Walked) -> Walked
+    ensures { λ r. ⌜ walkTold r ≡ afterTold from size (walkTold part) ⌝ }
+{
+    match part {
+        Walked::Made(m) => reached(sum(from, m.end), sum(size, m.size)),
+        Walked::Refused(e) => {
+            let kind = e.kind;
+            refuse(kind, sum(from, e.place))
+        }
+    }
+}
+
+fn initial_at(bytes: &[u8], at: usize) -> u8
+    ensures { λ r. ⌜ r ≡ getD (now (bytes .entry)) at 0 ⌝ }
+{
+    if at < bytes.len() { bytes[at] } else { 0 }
+}
+
+// What stands next at a place.
+fn turn_at(bytes: &[u8], at: usize, until: Extent) -> Turn
+    ensures { λ r. ⌜ Turned (now (bytes .entry)) at until r ⌝ }
+{
+    match until {
+        Extent::Counted(n) => {
+            if n == 0 {
+                return Turn::Over(at);
+            }
+            Turn::Another(Extent::Counted(n - 1))
+        }
+        Extent::Broken => {
+            if bytes.len() <= at {
+                return Turn::Another(Extent::Broken);
+            }
+            if bytes[at] == 0xff {
+                return Turn::Over(at + 1);
+            }
+            Turn::Another(Extent::Broken)
+        }
+        Extent::Ended => {
+            if bytes.len() <= at {
+                return Turn::Over(at);
+            }
+            Turn::Another(Extent::Ended)
+        }
+    }
+}
+
+// STRINGS
+
+// Whether bytes may be the content of a string: of a text string, if they are UTF-8.
+fn is_text(bytes: &[u8], text: bool) -> bool
+    ensures { λ r. ⌜ r ≡ isText (kindOf text) (now (bytes .entry)) ⌝ }
+{
+    if text {
+        return utf8::first_bad(bytes) == bytes.len();
+    }
+    true
+}
+
+// The content of a string: `n` bytes behind its head, which is at the front.
+fn content(bytes: &[u8], from: usize, n: u64, text: bool) -> Walked
+    requires { ⌜ Within (now bytes) from ⌝ }
+    ensures { λ r. ⌜ walkTold r ≡ toldOf (length (now (bytes .entry))) (sized length (content (kindOf text) n (length (now (bytes .entry))) (drop from (now (bytes .entry))))) ⌝ }
+{
+    if ((bytes.len() - from) as u64) < n {
+        return refuse(RefusalKind::EndsInside, 0);
+    }
+    let end = from + n as usize;
+    if is_text(&bytes[from..end], text) {
+        return reached(end, end - from);
+    }
+    refuse(RefusalKind::NotUtf8, 0)
+}
+
+fn string_major(text: bool) -> u8
+    ensures { λ r. ⌜ r ≡ majorNumber (strings (kindOf text)) ⌝ }
+{
+    if text { 3 } else { 2 }
+}
+
+// A chunk of a string.
+fn chunk(bytes: &[u8], text: bool) -> Walked
+    ensures { λ r. ⌜ walkTold r ≡ toldOf (length (now (bytes .entry))) (sized chunkContents (chunk (kindOf text) (now (bytes .entry)))) ⌝ }
+{
+    if bytes.len() == 0 {
+        return refuse(RefusalKind::EndsInside, 0);
+    }
+    if bytes[0] / 32 != string_major(text) {
+        return refuse(RefusalKind::NotWellFormed, 0);
+    }
+    let read = head::read_head(bytes, 0);
+    match read {
+        HeadRead::Refused(e) => Walked::Refused(e),
+        HeadRead::Head(h) => {
+            if h.info == 31 {
+                return refuse(RefusalKind::NotWellFormed, 0);
+            }
+            content(bytes, h.end, h.argument, text)
+        }
+    }
+}
+
+// TAGS
+
+// The size of the elements of a typed array (RFC 8746, section 2.1).
+fn element_size(n: u64) -> usize
+    ensures { λ r. ⌜ ElementSize n r ⌝ }
+{
+    let e = n / 16 % 2 + n % 4;
+    match e {
+        0 => 1,
+        1 => 2,
+        2 => 4,
+        3 => 8,
+        _ => 16,
+    }
+}
+
+// Whether a tag may stand before an item, by its major type and the bytes in it.
+fn may_tag(n: u64, major: u8, size: usize) -> bool
+    ensures { λ r. ⌜ r ≡ mayTagBy n major size ⌝ }
+{
+    if n < 64 {
+        return true;
+    }
+    if 87 < n {
+        return true;
+    }
+    if n == 76 {
+        return false;
+    }
+    if major != 2 {
+        return false;
+    }
+    size % element_size(n) == 0
+}
+
+// THE CYCLE
+
+// The item at the front, with levels left.
+pub fn item(bytes: &[u8], levels: usize) -> Walked
+    ensures { λ r. ⌜ walkTold r ≡ walkOf (length (now (bytes .entry))) (item levels (now (bytes .entry))) ⌝ }
+{
+    let read = head::read_head(bytes, 0);
+    match read {
+        HeadRead::Refused(e) => Walked::Refused(e),
+        HeadRead::Head(h) => behind(bytes, h, levels),
+    }
+}
+
+// The item at the front, by its head.
+fn behind(bytes: &[u8], h: HeadAt, levels: usize) -> Walked
+    requires { ⌜ Headed (now bytes) h ⌝ }
+    ensures { λ r. ⌜ walkTold r ≡ walkOf (length (now (bytes .entry))) (item levels (now (bytes .entry))) ⌝ }
+{
+    let major = h.major;
+    if major <= 1 {
+        return reached(h.end, 0);
+    }
+    if major <= 3 {
+        if h.info == 31 {
+            return several(bytes, h.end, Extent::Broken, major, levels);
+        }
+        return content(bytes, h.end, h.argument, major == 3);
+    }
+    if major == 7 {
+        if h.info == 31 {
+            return refuse(RefusalKind::NotWellFormed, 0);
+        }
+        return reached(h.end, 0);
+    }
+    if levels == 0 {
+        return refuse(RefusalKind::TooDeep, 0);
+    }
+    if major == 6 {
+        return tag(bytes, h.end, h.argument, levels);
+    }
+    if h.info == 31 {
+        return several(bytes, h.end, Extent::Broken, major, levels);
+    }
+    several(bytes, h.end, Extent::Counted(h.argument), major, levels)
+}
+
+// The item at the front, one level down.
+fn below(bytes: &[u8], levels: usize) -> Walked
+    ensures { λ r. ⌜ walkTold r ≡ walkOf (length (now (bytes .entry))) (below levels (now (bytes .entry))) ⌝ }
+{
+    if levels == 0 {
+        return refuse(RefusalKind::TooDeep, 0);
+    }
+    item(bytes, levels - 1)
+}
+
+// A tag's item, behind its head.
+fn tag(bytes: &[u8], from: usize, n: u64, levels: usize) -> Walked
+    requires { ⌜ Within (now bytes) from ⌝ }
+    ensures { λ r. ⌜ walkTold r ≡ toldOf (length (now (bytes .entry))) (tagOf n levels (length (now (bytes .entry))) (drop from (now (bytes .entry)))) ⌝ }
+{
+    let part = after(from, 0, below(&bytes[from..], levels));
+    match part {
+        Walked::Refused(e) => Walked::Refused(e),
+        Walked::Made(m) => {
+            if may_tag(n, initial_at(bytes, from) / 32, m.size) {
+                return Walked::Made(m);
+            }
+            refuse(RefusalKind::BadTypedArray, 0)
+        }
+    }
+}
+
+// An entry of a map: a key and its value.
+fn entry(bytes: &[u8], levels: usize) -> Walked
+    ensures { λ r. ⌜ walkTold r ≡ toldOf (length (now (bytes .entry))) (sized entryContents (entry (below levels) (now (bytes .entry)))) ⌝ }
+{
+    let key = below(bytes, levels);
+    match key {
+        Walked::Refused(e) => Walked::Refused(e),
+        Walked::Made(k) => {
+            let end = k.end;
+            after(end, k.size, below(&bytes[end..], levels))
+        }
+    }
+}
+
+// One of several inside an item of a major type.
+fn one(bytes: &[u8], major: u8, levels: usize) -> Walked
+    ensures { λ r. ⌜ walkTold r ≡ toldOf (length (now (bytes .entry))) (oneOf major levels (now (bytes .entry))) ⌝ }
+{
+    if major == 4 {
+        return below(bytes, levels);
+    }
+    if major == 5 {
+        return entry(bytes, levels);
+    }
+    chunk(bytes, major == 3)
+}
+
+// Several inside an item of a major type, from a place on.
+fn several(bytes: &[u8], from: usize, until: Extent, major: u8, levels: usize) -> Walked
+    requires { ⌜ Within (now bytes) from ⌝ }
+    ensures { λ r. ⌜ walkTold r ≡ toldOf (length (now (bytes .entry))) (allOf major levels (untilOf until) (drop from (now (bytes .entry)))) ⌝ }
+{
+    let mut at = from;
+    let mut size: usize = 0;
+    let mut left = until;
+    loop {
+        let turn = turn_at(bytes, at, left);
+        match turn {
+            Turn::Over(end) => return reached(end, size),
+            Turn::Another(next) => {
+                let part = after(at, size, one(&bytes[at..], major, levels));
+                match part {
+                    Walked::Refused(e) => return Walked::Refused(e),
+                    Walked::Made(m) => {
+                        at = m.end;
+                        size = m.size;
+                        left = next;
+                    }
+                }
+            }
+        }
+    }
+}
+
+// The items of a whole sequence of at most 65,535 bytes, to its end.
+pub fn walk_all(bytes: &[u8]) -> Walked
+    ensures { λ r. ⌜ walkTold r ≡ walkAllOf (length (now (bytes .entry))) (decode (now (bytes .entry))) ⌝ }
+{
+    if 65535 < bytes.len() {
+        return refuse(RefusalKind::TooLong, 0);
+    }
+    several(bytes, 0, Extent::Ended, 4, 17)
+}
