@@ -41,11 +41,11 @@ unfolding isFloat isAllowed majorNumber
 plain-strings byteString = record { whole = λ w. refl; free = λ w n. refl; most = omega arith }
 plain-strings textString = record { whole = λ w. refl; free = λ w n. refl; most = omega arith }
 
-plain-arrays : Plain arrays
+pub plain-arrays : Plain arrays
 unfolding isFloat isAllowed majorNumber
 plain-arrays = record { whole = λ w. refl; free = λ w n. refl; most = omega arith }
 
-plain-maps : Plain maps
+pub plain-maps : Plain maps
 unfolding isFloat isAllowed majorNumber
 plain-maps = record { whole = λ w. refl; free = λ w n. refl; most = omega arith }
 
@@ -90,7 +90,7 @@ shortest-simple n e = go (leb n 23) refl (leb 32 n) refl (leb n 255) refl e
     go false p true q false r e = absurd (false≢true e)
     go false p false q c r e = absurd (false≢true e)
 
-begins : (x : Item) → Valid x → Begins (encode x)
+pub begins : (x : Item) → Valid x → Begins (encode x)
 unfolding encode Valid Fits
 begins (int g w n) v = begins-head (integers g) w n v
 begins (string k w b) v = begins-string k w b v
@@ -112,17 +112,17 @@ by-head zero s h r e = rw e
 by-head (suc d) s h r e = rw e
 
 -- the argument that a head shows: an open one shows none
-abbrev shown : Size → ℕ → ℕ
+abbrev pub shown : Size → ℕ → ℕ
 shown (definite w) n = n
 shown indefinite n = 0
 
-opening-shown : (m : Major) (z : Size) (n : ℕ) (r : List ℕ) → Plain m → isIndefinite m ≡ true → Fits z n
+pub opening-shown : (m : Major) (z : Size) (n : ℕ) (r : List ℕ) → Plain m → isIndefinite m ≡ true → Fits z n
     → nextHead (opening m z n ++ r) ≡ ok (record { major = m; size = z; argument = shown z n }) r
 unfolding opening Fits
 opening-shown m (definite w) n r p i h = head-read m w n r h (p .whole w) (p .free w n)
 opening-shown m indefinite n r p i h = opening-read m r i
 
-closing-tail : (z : Size) (n : ℕ) (r : List ℕ) → closing z ++ r ≡ tailOf (extent z n) r
+pub closing-tail : (z : Size) (n : ℕ) (r : List ℕ) → closing z ++ r ≡ tailOf (extent z n) r
 unfolding closing extent
 closing-tail (definite w) n r = refl
 closing-tail indefinite n r = refl

@@ -34,7 +34,7 @@ pub begins-more : {s : List ℕ} (t : List ℕ) → Begins s → Begins (s ++ t)
 begins-more t b = record { first = b .first; rest = b .rest ++ t; is = ap (λ (x : List ℕ). x ++ t) (b .is); low = b .low }
 
 -- nothing is left to be read
-step-over : (u : Until) (r : List ℕ) → Meets u 0 r → stepAt u (tailOf u r) ≡ over r
+pub step-over : (u : Until) (r : List ℕ) → Meets u 0 r → stepAt u (tailOf u r) ≡ over r
 unfolding stepAt
 step-over (counted n) r h = rw (h, stepAt)
 step-over broken r h = refl
@@ -52,7 +52,7 @@ goes-cons (counted m) n b s r l h = record { next = counted n; step = rw (h, ste
 goes-cons broken n b s r l h = let e : b ≡ break → ⊥ = omega arith in record { next = broken; step = rw (ne-eqb b break e, stepAt); meets = tt; tail = refl }
 goes-cons ended n b s r l h = record { next = ended; step = refl; meets = h; tail = refl }
 
-goes : (u : Until) (n : ℕ) (s r : List ℕ) → Begins s → Meets u (suc n) r → Goes u n s r
+pub goes : (u : Until) (n : ℕ) (s r : List ℕ) → Begins s → Meets u (suc n) r → Goes u n s r
 goes u n s r b h = rw (b .is) (goes-cons u n (b .first) (b .rest) r (b .low) h)
 
 module _ {A L : Type 0} (nil : L) (cons : A → L → L) (rd : List ℕ → Result A) where

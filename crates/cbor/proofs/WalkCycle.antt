@@ -158,7 +158,7 @@ module _ (n major d : ℕ) (s : List ℕ) {t : WalkTold} where
 
 pub ruleset one-ways = (one-item, one-entry, one-chunk)
 
-one-leaves : (major d : ℕ) (s : List ℕ) → Leaves 1 same s (oneOf major d s)
+pub one-leaves : (major d : ℕ) (s : List ℕ) → Leaves 1 same s (oneOf major d s)
 unfolding oneOf
 one-leaves major d s = by (eqb major 4) (eqb major 5)
   where

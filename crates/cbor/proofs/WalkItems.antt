@@ -149,26 +149,32 @@ first-of [] (suc at) = refl
 first-of (b ∷ s) zero = refl
 first-of (b ∷ s) (suc at) = first-of s at
 
+-- what an item walker tells of the part from a place on
 bind-zero : (res : Result ℕ) → bind res (λ m r. ok (0 + m) r) ≡ res
 unfolding bind
 bind-zero (ok m r) = let e : 0 + m ≡ m = omega arith in ap (λ (n : ℕ). ok n r) e
 bind-zero (refuse n l) = refl
 
+pub part-told : (s : List ℕ) (at : ℕ) (rd : List ℕ → Result ℕ) (inner part : Walked) → at ≤ length s → length s * 1 < 2 ^ 63 → ((t : List ℕ) → Leaves 1 same t (rd t))
+    → walkTold inner ≡ toldOf (length (take (length s - at) (drop at s))) (rd (take (length s - at) (drop at s))) → walkTold part ≡ afterTold at 0 (walkTold inner)
+    → walkTold part ≡ toldOf (length s) (rd (drop at s))
+part-told s at rd inner part h long one told after =
+    after ∙ ap (afterTold at 0) (told ∙ ap (λ (t : List ℕ). toldOf (length t) (rd t)) (tail-is s at))
+    ∙ after-told s at 0 (rd (drop at s)) h (omega arith) (omega arith) (one (drop at s))
+    ∙ ap (toldOf (length s)) (bind-zero (rd (drop at s)))
+
 module _ (n d : ℕ) {s : List ℕ} {from : ℕ} (w : Within s from) (inner : Walked) (long : length s * 1 < 2 ^ 63) (told : walkTold inner ≡ walkOf (length (take (length s - from) (drop from s))) (below d (take (length s - from) (drop from s))))
     (part : Walked) (after : walkTold part ≡ afterTold from 0 (walkTold inner)) where
-  part-told : walkTold part ≡ toldOf (length s) (sized contents (below d (drop from s)))
+  inner-told : walkTold part ≡ toldOf (length s) (sized contents (below d (drop from s)))
   unfolding walkOf
-  part-told =
-      after ∙ ap (afterTold from 0) (told ∙ ap (λ (t : List ℕ). toldOf (length t) (sized contents (below d t))) (tail-is s from))
-      ∙ after-told s from 0 (sized contents (below d (drop from s))) (w .inside) (omega arith) (omega arith) (leaves-sized 1 contents (drop from s) (below d (drop from s)) (below-leaves d (drop from s)))
-      ∙ ap (toldOf (length s)) (bind-zero (sized contents (below d (drop from s))))
+  inner-told = part-told s from (λ t. sized contents (below d t)) inner part (w .inside) long (λ t. leaves-sized 1 contents t (below d t) (below-leaves d t)) told after
 
   tag-is : tagOf n d (length s) (drop from s) ≡ bind (sized contents (below d (drop from s))) (λ k r. elim (mayTagBy n (getD s from 0 / 32) k) [ true ↦ ok k r | false ↦ refuse badTypedArray (length s) ])
   unfolding tagOf
   tag-is = rw (← first-of s from) (tag-by n (getD (drop from s) 0 0 / 32) (length s) (below d (drop from s)) (below-divides d (drop from s)))
 
   pub tag-refused : {e : Refusal} → part ≡ RefusedV e → walkTold (RefusedV e) ≡ toldOf (length s) (tagOf n d (length s) (drop from s))
-  tag-refused h = lost (length s) (sized contents (below d (drop from s))) _ part part-told h ∙ ap (toldOf (length s)) (sym tag-is)
+  tag-refused h = lost (length s) (sized contents (below d (drop from s))) _ part inner-told h ∙ ap (toldOf (length s)) (sym tag-is)
 
   module _ {m : Made} (h : part ≡ MadeV m) {b : ℕ} (i : b ≡ getD s from 0) {v : Bool} (j : v ≡ mayTagBy n (b / 32) (m .size)) where
     tag-at : (g : Reached (length s) m (sized contents (below d (drop from s))))
@@ -181,14 +187,14 @@ module _ (n d : ℕ) {s : List ℕ} {from : ℕ} (w : Within s from) (inner : Wa
     pub tag-good : v ≡ true → walkTold (MadeV m) ≡ toldOf (length s) (tagOf n d (length s) (drop from s))
     unfolding walkTold toldOf
     tag-good y =
-        let g = reached (sized contents (below d (drop from s))) part part-told h in
+        let g = reached (sized contents (below d (drop from s))) part inner-told h in
         ap (λ (k : ℕ). made k (m .size)) (g .ends)
         ∙ ap (λ (x : Bool). toldOf (length s) (elim x [ true ↦ ok (m .size) (g .rest) | false ↦ refuse badTypedArray (length s) ])) (sym y) ∙ tag-at g
 
     pub tag-bad : {t : WalkTold} → v ≡ false → t ≡ refused (kindNumber BadTypedArray) 0 → t ≡ toldOf (length s) (tagOf n d (length s) (drop from s))
     unfolding toldOf kindNumber
     tag-bad y f =
-        let g = reached (sized contents (below d (drop from s))) part part-told h in
+        let g = reached (sized contents (below d (drop from s))) part inner-told h in
         f ∙ at-front badTypedArray (length s)
         ∙ ap (λ (x : Bool). toldOf (length s) (elim x [ true ↦ ok (m .size) (g .rest) | false ↦ refuse badTypedArray (length s) ])) (sym y) ∙ tag-at g
 

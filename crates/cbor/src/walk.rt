@@ -36,7 +36,7 @@ pub enum Extent {
 }
 
 // What stands next: nothing, and they end there; or another one.
-enum Turn {
+pub enum Turn {
     Over(usize),
     Another(Extent),
 }
@@ -65,7 +65,7 @@ fn sum(a: usize, b: usize) -> usize
 }
 
 // The answer for a part, as that for the whole: the part starts at `from`, and `size` bytes of strings stand before it.
-fn after(from: usize, size: usize, part: Walked) -> Walked
+pub fn after(from: usize, size: usize, part: Walked) -> Walked
     ensures { λ r. ⌜ walkTold r ≡ afterTold from size (walkTold part) ⌝ }
 {
     match part {
@@ -84,7 +84,7 @@ fn initial_at(bytes: &[u8], at: usize) -> u8
 }
 
 // What stands next at a place.
-fn turn_at(bytes: &[u8], at: usize, until: Extent) -> Turn
+pub fn turn_at(bytes: &[u8], at: usize, until: Extent) -> Turn
     ensures { λ r. ⌜ Turned (now (bytes .entry)) at until r ⌝ }
 {
     match until {
@@ -290,7 +290,7 @@ fn entry(bytes: &[u8], levels: usize) -> Walked
 }
 
 // One of several inside an item of a major type.
-fn one(bytes: &[u8], major: u8, levels: usize) -> Walked
+pub fn one(bytes: &[u8], major: u8, levels: usize) -> Walked
     ensures { λ r. ⌜ walkTold r ≡ toldOf (length (now (bytes .entry))) (oneOf major levels (now (bytes .entry))) ⌝ }
 {
     if major == 4 {

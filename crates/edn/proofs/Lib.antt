@@ -1,2 +1,5 @@
+pub mod Steps
+pub mod Traces
+pub mod Parts
 pub mod Verdicts
 pub mod Demands

@@ -1,3 +1,5 @@
 pub mod Operations
+pub mod Following
+pub mod Answers
 pub mod Demands
 pub mod Examples

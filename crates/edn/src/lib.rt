@@ -1,1 +1,2 @@
 // The notation and its bytes: read, print, look up, correct.
+pub mod look;
