@@ -23,3 +23,6 @@ pub mod Splice
 pub mod Replace
 pub mod Substitution
 pub mod Edited
+pub mod ClassCode
+pub mod Marked
+pub mod ScanCode

@@ -13,3 +13,5 @@ pub mod Places
 pub mod Printing
 pub mod Theorems
 pub mod Examples
+pub mod Stands
+pub mod ScanAnswers

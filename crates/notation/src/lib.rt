@@ -1,1 +1,3 @@
 // CBOR diagnostic notation.
+pub mod class;
+pub mod scan;
