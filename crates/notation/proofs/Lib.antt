@@ -26,3 +26,6 @@ pub mod Edited
 pub mod ClassCode
 pub mod Marked
 pub mod ScanCode
+pub mod AmountCode
+pub mod IndicatorCode
+pub mod NumberCode

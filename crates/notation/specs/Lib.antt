@@ -15,3 +15,5 @@ pub mod Theorems
 pub mod Examples
 pub mod Stands
 pub mod ScanAnswers
+pub mod TokenAnswers
+pub mod NumberAnswers
