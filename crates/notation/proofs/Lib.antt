@@ -29,3 +29,4 @@ pub mod ScanCode
 pub mod AmountCode
 pub mod IndicatorCode
 pub mod NumberCode
+pub mod WordCode

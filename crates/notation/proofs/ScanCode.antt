@@ -301,7 +301,7 @@ expect-none c n (b ∷ r) h = rw (h, expect)
 
 -- what is next, in the words of the definitions
 module _ {s : List ℕ} {at c : ℕ} {t : Bool} (p : Peeked s at c t) where
-  peeked-yes : t ≡ true → drop at (marked s) ≡ c ∷ drop (at + 1) (marked s)
+  pub peeked-yes : t ≡ true → drop at (marked s) ≡ c ∷ drop (at + 1) (marked s)
   unfolding isNext
   peeked-yes e = let h : at < length s = omega (arith, p .inside e) in at-byte s at h ∙ ap (λ (b : ℕ). b ∷ drop (at + 1) (marked s)) (eqb-true _ c (sym (p .is ∙ rw (at-byte s at h)) ∙ e))
 

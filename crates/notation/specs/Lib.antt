@@ -17,3 +17,4 @@ pub mod Stands
 pub mod ScanAnswers
 pub mod TokenAnswers
 pub mod NumberAnswers
+pub mod WordAnswers

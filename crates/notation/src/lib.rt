@@ -5,3 +5,4 @@ pub mod indicator;
 pub mod number;
 pub mod scan;
 pub mod token;
+pub mod word;
