@@ -30,3 +30,10 @@ pub mod AmountCode
 pub mod IndicatorCode
 pub mod NumberCode
 pub mod WordCode
+pub mod LiteralCode
+pub mod HexCode
+pub mod QuotedCode
+pub mod QuotedLoops
+pub mod Base64Code
+pub mod StringCode
+pub mod CutCode

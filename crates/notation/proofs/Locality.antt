@@ -77,7 +77,7 @@ front-good s front t e f h =
 next-good : (s : List ℕ) → Good (λ p q. next) s (next s)
 next-good s = let w = skip-front s in front-good s (w .0) (skip s) (w .1) refl (w .2)
 
-cut-below : (s : List ℕ) → Below (length s) (cut s)
+pub cut-below : (s : List ℕ) → Below (length s) (cut s)
 unfolding cut
 cut-below [] = tt
 cut-below (b ∷ s) = good-below (λ p q. cutBy (classOf b) b) s (cutBy (classOf b) b s) (cutBy-sure (classOf b) b s)

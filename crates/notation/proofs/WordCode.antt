@@ -175,9 +175,9 @@ module _ {s : List ℕ} {from end : ℕ} (p : Part s from end) where
   pub plain-index : (end - from ≡ 0 → ⊥) → from < length s
   plain-index n = omega (arith, n, p .inside)
 
-  cons : (end - from ≡ 0 → ⊥) → span from end (marked s) ≡ getD s from 0 ∷ span (from + 1) end (marked s)
+  pub part-cons : (end - from ≡ 0 → ⊥) → span from end (marked s) ≡ getD s from 0 ∷ span (from + 1) end (marked s)
   unfolding span
-  cons n =
+  part-cons n =
       let e : end - from ≡ suc (end - (from + 1)) = omega (arith, n) in
       rw (e, at-byte s from (plain-index n))
 
@@ -186,12 +186,12 @@ module _ {s : List ℕ} {from end : ℕ} (p : Part s from end) where
   plain-one e =
       let n : end - from ≡ 0 → ⊥ = λ z. omega arith in
       let f : end ≡ from + 1 = omega arith in
-      rw (cons n, f, span-none (from + 1) (marked s))
+      rw (part-cons n, f, span-none (from + 1) (marked s))
 
   pub plain-more : (end - from ≡ 0 → ⊥) → (end - from ≡ 1 → ⊥) → leb 0x31 (getD s from 0) ≡ isPlainDecimal (span from end (marked s))
   plain-more n m =
       let l : length (span (from + 1) end (marked s)) ≡ end - (from + 1) = span-length (from + 1) end (marked s) (omega (arith, n)) (omega (arith, p .inside, length-marked s)) in
-      rw (cons n) (several (getD s from 0) (span (from + 1) end (marked s)) (omega (arith, l, n, m)))
+      rw (part-cons n) (several (getD s from 0) (span (from + 1) end (marked s)) (omega (arith, l, n, m)))
 
 pub ruleset plain-ways = (plain-none, plain-one, plain-more)
 

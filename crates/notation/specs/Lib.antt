@@ -18,3 +18,7 @@ pub mod ScanAnswers
 pub mod TokenAnswers
 pub mod NumberAnswers
 pub mod WordAnswers
+pub mod LiteralAnswers
+pub mod QuotedAnswers
+pub mod Base64Answers
+pub mod CutAnswers

@@ -1,0 +1,15 @@
+-- `notation::base64::all_sextets` meets its contract.
+-- Assumes nothing.
+use Rattle.notation.proofs.Base64Code.{all-ways}
+use Rattle.notation.proofs.base64.all_sextets.Statement.{statement}
+use Rattle.notation.proofs.base64.all_sextets.Tie as tie
+use borrow.Author.Needs.{needs}
+
+pub all-sextets-spec : {M : Type 1} → statement M
+all-sextets-spec =
+    tie.close (tie.spec
+    (λ c. search all-ways)  -- returns
+    (λ c. search all-ways)  -- returns-2
+    (λ c. search all-ways)  -- returns-3
+    (λ c. search all-ways)  -- returns-4
+    )

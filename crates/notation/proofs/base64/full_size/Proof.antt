@@ -1,0 +1,14 @@
+-- `notation::base64::full_size` meets its contract.
+-- Assumes nothing.
+use Rattle.notation.proofs.Base64Code.{full-ways}
+use borrow.Author.Needs.{needs}
+use Rattle.notation.proofs.base64.full_size.Statement.{statement}
+use Rattle.notation.proofs.base64.full_size.Tie as tie
+
+pub full-size-spec : {M : Type 1} → statement M
+full-size-spec =
+    tie.close (tie.spec
+    (λ c κs. search needs)  -- all-sextets-requires
+    (λ c. search full-ways)  -- returns
+    (λ c. search full-ways)  -- returns-2
+    )

@@ -1,0 +1,16 @@
+-- `notation::base64::last_three` meets its contract.
+-- Assumes nothing.
+use Rattle.notation.proofs.Base64Code.{three-ways}
+use Rattle.notation.proofs.base64.last_three.Statement.{statement}
+use Rattle.notation.proofs.base64.last_three.Tie as tie
+use borrow.Author.Needs.{needs}
+
+pub last-three-spec : {M : Type 1} → statement M
+last-three-spec =
+    tie.close (tie.spec
+    (λ c. search three-ways)  -- returns
+    (λ c. search three-ways)  -- returns-2
+    (λ c. search three-ways)  -- returns-3
+    (λ c. search three-ways)  -- returns-4
+    (λ c. search three-ways)  -- returns-5
+    )

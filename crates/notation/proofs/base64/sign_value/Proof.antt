@@ -1,0 +1,17 @@
+-- `notation::base64::sign_value` meets its contract.
+-- Assumes nothing.
+use Rattle.notation.proofs.Base64Code.{sign-ways}
+use Rattle.notation.proofs.base64.sign_value.Statement.{statement}
+use Rattle.notation.proofs.base64.sign_value.Tie as tie
+use borrow.Author.Needs.{needs}
+
+pub sign-value-spec : {M : Type 1} → statement M
+sign-value-spec =
+    tie.close (tie.spec
+    (λ c. search sign-ways)  -- returns
+    (λ c. search sign-ways)  -- returns-2
+    (λ c. search sign-ways)  -- returns-3
+    (λ c. search sign-ways)  -- returns-4
+    (λ c. search sign-ways)  -- returns-5
+    (λ c. search sign-ways)  -- returns-6
+    )

@@ -1,0 +1,14 @@
+-- `notation::base64::third_byte` meets its contract.
+-- Assumes nothing.
+use Rattle.notation.proofs.Base64Code.{third-is}
+use borrow.Author.Needs.{needs}
+use Rattle.notation.proofs.base64.third_byte.Statement.{statement}
+use Rattle.notation.proofs.base64.third_byte.Tie as tie
+
+pub third-byte-spec : {M : Type 1} → statement M
+third-byte-spec =
+    tie.close (tie.spec
+    (λ c. search needs)  -- mul-result
+    (λ c. search needs)  -- add-result
+    (λ c. search third-is)  -- returns
+    )

@@ -1,0 +1,14 @@
+-- `notation::hex::hex_end` meets its contract.
+-- Assumes nothing.
+use Rattle.notation.proofs.HexCode.{hex-end-ways}
+use Rattle.notation.proofs.hex.hex_end.Statement.{statement}
+use Rattle.notation.proofs.hex.hex_end.Tie as tie
+use borrow.Author.Needs.{needs}
+
+pub hex-end-spec : {M : Type 1} → statement M
+hex-end-spec =
+    tie.close (tie.spec
+    (λ c. search hex-end-ways)  -- returns
+    (λ c. search hex-end-ways)  -- returns-2
+    (λ c. search hex-end-ways)  -- returns-3
+    )

@@ -1,0 +1,19 @@
+-- `notation::quoted::escaped` meets its contract.
+-- Assumes nothing.
+use Rattle.notation.proofs.QuotedCode.{escaped-ways}
+use Rattle.notation.proofs.quoted.escaped.Statement.{statement}
+use Rattle.notation.proofs.quoted.escaped.Tie as tie
+use borrow.Author.Needs.{needs}
+
+pub escaped-spec : {M : Type 1} → statement M
+escaped-spec =
+    tie.close (tie.spec
+    (λ c. search escaped-ways)  -- returns
+    (λ c. search escaped-ways)  -- returns-2
+    (λ c. search escaped-ways)  -- returns-3
+    (λ c. search escaped-ways)  -- returns-4
+    (λ c. search escaped-ways)  -- returns-5
+    (λ c. search escaped-ways)  -- returns-6
+    (λ c. search escaped-ways)  -- returns-7
+    (λ c. search escaped-ways)  -- returns-8
+    )
