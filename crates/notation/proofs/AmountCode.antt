@@ -6,15 +6,14 @@ use mathlib.Core.Bool.{Bool, true, false, _&&_, _||_}
 use Prim.Native.Nat.{ℕ, zero, suc, _+_, _-_, _*_, _/_, _≤_, _<_, min}
 use native.Mathlib.Nat.{le-div-iff-mul-le, mul-le-mul-left, add-mul, one-mul}
 use native.Mathlib.Omega.{arith}
-use lib.Dec.{leb, ltb, eqb, eqb→eq}
+use lib.Dec.{leb, ltb, eqb}
 use lib.ListN.{length, drop, getD}
 use mir.Syntax.{w64 as bits64}
 use mir.Val.{Fits}
 use borrow.Author.Tests.{le-leb, lt-leb, leb-true, leb-false, lt-ltb, le-ltb, ne-eqb}
 use Rattle.cbor.specs.Refusals.{Result, ok, refuse, bind}
 use Rattle.cbor.specs.Widths.{w8, limit}
-use Rattle.cbor.specs.Utf8.{_to_, isIn}
-use Rattle.cbor.proofs.Table.{between}
+use Rattle.cbor.specs.Utf8.{isIn}
 use Rattle.notation.specs.Numbers.{digitValue, isDigit, numberFrom, makesFloat, isFloating}
 use Rattle.notation.specs.Reading.{marked}
 use Rattle.notation.specs.Stands.{span}
@@ -23,38 +22,6 @@ use Rattle.notation.specs.NumberAnswers.{heavy, Counts, Base, Grown, flo
 use Rattle.notation.specs.declared.amount.Amount.{Amount}
 use Rattle.notation.specs.declared.amount.Digits.{Digits}
 use Rattle.notation.proofs.Marked.{length-marked, at-byte, byte-at, at-end, past-end, span-none, span-more, Running, run-start, run-step, run-stop, run-end}
-
--- THE VALUE OF A DIGIT: each return is tested at each byte that comes there
-module _ {b : ℕ} where
-  pub value-below : b < 0x30 → 99 ≡ digitValue b
-  unfolding digitValue isIn
-  value-below h = eqb→eq 99 (digitValue b) (between (λ k. eqb 99 (digitValue k)) 0 0x30 tt b (omega arith) h)
-
-  pub value-decimal : 0x30 ≤ b → b < 0x3a → b - 0x30 ≡ digitValue b
-  unfolding digitValue isIn
-  value-decimal l h = eqb→eq (b - 0x30) (digitValue b) (between (λ k. eqb (k - 0x30) (digitValue k)) 0x30 0x3a tt b l h)
-
-  pub value-signs : 0x3a ≤ b → b < 0x41 → 99 ≡ digitValue b
-  unfolding digitValue isIn
-  value-signs l h = eqb→eq 99 (digitValue b) (between (λ k. eqb 99 (digitValue k)) 0x3a 0x41 tt b l h)
-
-  pub value-capital : 0x41 ≤ b → b < 0x47 → b - 0x37 ≡ digitValue b
-  unfolding digitValue isIn
-  value-capital l h = eqb→eq (b - 0x37) (digitValue b) (between (λ k. eqb (k - 0x37) (digitValue k)) 0x41 0x47 tt b l h)
-
-  pub value-letters : 0x47 ≤ b → b < 0x61 → 99 ≡ digitValue b
-  unfolding digitValue isIn
-  value-letters l h = eqb→eq 99 (digitValue b) (between (λ k. eqb 99 (digitValue k)) 0x47 0x61 tt b l h)
-
-  pub value-small : 0x61 ≤ b → b < 0x67 → b - 0x57 ≡ digitValue b
-  unfolding digitValue isIn
-  value-small l h = eqb→eq (b - 0x57) (digitValue b) (between (λ k. eqb (k - 0x57) (digitValue k)) 0x61 0x67 tt b l h)
-
-  pub value-above : 0x67 ≤ b → b < 256 → 99 ≡ digitValue b
-  unfolding digitValue isIn
-  value-above l h = eqb→eq 99 (digitValue b) (between (λ k. eqb 99 (digitValue k)) 0x67 256 tt b l h)
-
-pub ruleset value-ways = (value-below, value-decimal, value-signs, value-capital, value-letters, value-small)
 
 -- THE LIMIT
 same-test : (a b c d : ℕ) → (a ≤ b → c ≤ d) → (c ≤ d → a ≤ b) → leb a b ≡ leb c d
@@ -185,9 +152,9 @@ module _ {s : List ℕ} {i radix first : ℕ} where
           let t : isDigit radix (getD s at 0) ≡ true = lt-ltb (digitValue (getD s at 0)) radix (rw (sym e) l) in
           let n = numberFrom radix first (span i at (marked s)) in
           let c : numberFrom radix first (span i (at + 1) (marked s)) ≡ n * radix + d =
-              ap (numberFrom radix first) (span-more i at (marked s) (m .running .ahead) (omega (arith, length-marked s)))
-              ∙ (number-snoc radix first (span i at (marked s)) (getD (marked s) at 0)
-              ∙ ap (λ (k : ℕ). n * radix + k) (ap digitValue (byte-at s at h) ∙ sym e)) in
+          ap (numberFrom radix first) (span-more i at (marked s) (m .running .ahead) (omega (arith, length-marked s)))
+          ∙ (number-snoc radix first (span i at (marked s)) (getD (marked s) at 0)
+          ∙ ap (λ (k : ℕ). n * radix + k) (ap digitValue (byte-at s at h) ∙ sym e)) in
           record {
             running = run-step s (isDigit radix) i (m .running) h t;
             counts = rw c (g .is n (m .counts));

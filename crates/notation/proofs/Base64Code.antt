@@ -5,10 +5,10 @@ use mathlib.Core.List.{List, [], _∷_, _++_, append-assoc, append-nil}
 use mathlib.Core.Bool.{Bool, true, false, _&&_, _||_}
 use Prim.Native.Nat.{ℕ, zero, suc, _+_, _-_, _*_, _/_, _%_, _≤_, _<_, min}
 use native.Mathlib.Omega.{arith}
-use lib.Dec.{T, leb, ltb, eqb, eqb→eq, leb→le}
+use lib.Dec.{T, leb, eqb, eqb→eq, leb→le}
 use lib.ListN.{length, take, drop, getD, replicate, length-append}
-use borrow.Author.Tests.{le-leb, lt-leb, leb-true, leb-false, eq-eqb, ne-eqb, eqb-true, lt-ltb, le-ltb}
-use Rattle.cbor.specs.Utf8.{_to_, isIn}
+use borrow.Author.Tests.{le-leb, lt-leb, leb-true, leb-false, eq-eqb, ne-eqb, lt-ltb, le-ltb}
+use Rattle.cbor.specs.Utf8.{isIn}
 use Rattle.cbor.specs.Buffer.{over}
 use Rattle.cbor.proofs.Table.{every, between, byte}
 use Rattle.cbor.proofs.Utf8Laws.{both-true}
@@ -16,7 +16,6 @@ use Rattle.notation.specs.Classes.{blank, is}
 use Rattle.notation.specs.Literals.{Content, content, bad, after, sextet, sextets, lastTwo, lastThree, lastFour, fullFour, base64From, base64Content}
 use Rattle.notation.specs.LiteralAnswers.{decodedBy, Decodes, Put, Fills}
 use Rattle.notation.specs.Base64Answers.{sign, lettered, Letter, waits, waitingOf, Pushed, allSextets, firstOf, secondOf, thirdOf, bytesOf, flowing, Steps, fullSize, lastTwoSize, lastThreeSize, lastFourSize, Last}
-use Rattle.notation.specs.declared.literal.Scanned.{Scanned}
 use Rattle.notation.specs.declared.base64.Group.{Group}
 use Rattle.notation.proofs.LiteralCode.{take-none, front-part, part-end, put-none, put-more}
 use Rattle.notation.proofs.HexCode.{after-nil, after-after, decodes, content-is}

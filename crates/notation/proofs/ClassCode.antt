@@ -1,4 +1,4 @@
--- The table of classes: its rule is a test at each of its 256 entries, which antt computes.
+-- The table of classes: its rule is a test at each of its entries, which antt computes.
 -- Assumes nothing.
 use mathlib.Core.Path.{_≡_}
 use mathlib.Core.List.{List, [], _∷_}

@@ -2,14 +2,14 @@
 -- Assumes nothing.
 use mathlib.Core.Path.{_≡_, refl, sym, ap, _∙_, subst⁻¹}
 use mathlib.Core.List.{List, [], _∷_, _++_, append-assoc, append-nil}
-use mathlib.Core.Bool.{Bool, true, false, not}
+use mathlib.Core.Bool.{Bool, true, false}
 use Prim.Native.Nat.{ℕ, zero, suc, _+_, _-_, _*_, _≤_, _<_, min}
 use native.Mathlib.Omega.{arith}
-use lib.Dec.{leb, ltb, eqb}
+use lib.Dec.{leb, eqb}
 use lib.ListN.{length, take, drop, getD, length-append}
-use borrow.Author.Tests.{le-leb, lt-leb, eq-eqb, ne-eqb, lt-ltb, le-ltb, leb-true, leb-false}
+use borrow.Author.Tests.{eq-eqb, ne-eqb, lt-ltb, le-ltb, leb-true, leb-false}
 use Rattle.cbor.specs.Buffer.{over}
-use Rattle.notation.specs.Classes.{blank, slash, hash, is}
+use Rattle.notation.specs.Classes.{blank, is}
 use Rattle.notation.specs.Numbers.{digitValue, isDigit}
 use Rattle.notation.specs.Literals.{Content, content, bad, after, Commenting, outside, inSlash, inHash, Half, none, high, halfEnd, hexDigit, hexFrom, hexContent}
 use Rattle.notation.specs.LiteralAnswers.{decodedBy, Decodes, Put, Fills, commentingOf, halfOf, few, hexNext, HexMoved, hexEndedBy, HexEnded}
@@ -147,7 +147,7 @@ module _ (m h : ℕ) where
   unfolding hexFrom halfOf halfEnd hexEndedBy
   hex-end-half n₁ n₂ = record { is = ap (λ (k : Commenting). hexFrom k (halfOf h) []) (commenting m n₁ n₂) ∙ go (leb 16 h) refl }
     where
-      go : (t : Bool) → leb 16 h ≡ t → halfEnd (halfOf h) ≡ hexEndedBy m h t
+      go : (t : Bool) → leb 16 h ≡ t → halfEnd (halfOf h) ≡ hexEndedBy t
       go true e = rw (le-ltb h 16 (leb-true 16 h e), halfOf)
       go false e = rw (lt-ltb h 16 (leb-false 16 h e), halfOf)
 
@@ -241,7 +241,7 @@ module _ {s : List ℕ} {at end stop i size m h : ℕ} (inv : HexScan s at end s
   unfolding hexEndedBy after decodedBy
   scan-end {t} l y = go t (run-end (inv .run) (inv .stops) l ∙ ap (after (inv .done)) (y .is))
     where
-      go : (t : Bool) → hexContent (take (end - at) (drop at s)) ≡ after (inv .done) (hexEndedBy m h t)
+      go : (t : Bool) → hexContent (take (end - at) (drop at s)) ≡ after (inv .done) (hexEndedBy t)
           → Decodes (record { good = t; next = end; size = size }) (hexContent (take (end - at) (drop at s)))
       go true e = decodes (content (inv .done ++ [])) e (refl, inv .sized ∙ sym (ap length (append-nil (inv .done))))
       go false e = decodes bad e refl

@@ -161,7 +161,9 @@ module _ (m n : ℕ) where
     choose-small g = rw (ne-eqb m 0 k, chooseBy) (rw (lt-leb m 2 h) (rw (sym e) (rw (lt-leb n l g))))
 
 pub ruleset limit-ways = (limit-0, limit-1, limit-2, limit-4, limit-8)
+
 pub ruleset short-ways = (short-0, short-1, short-2, short-4, short-8)
+
 pub ruleset choose-ways = (choose-short, choose-none, choose-wide, choose-small)
 
 -- what the numbers say of the definition

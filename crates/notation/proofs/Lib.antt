@@ -35,5 +35,6 @@ pub mod HexCode
 pub mod QuotedCode
 pub mod QuotedLoops
 pub mod Base64Code
+pub mod LiteralViews
 pub mod StringCode
 pub mod CutCode

@@ -2,27 +2,26 @@
 -- Assumes nothing.
 use mathlib.Core.Path.{_≡_, refl, sym, ap, _∙_, subst⁻¹}
 use mathlib.Core.List.{List, [], _∷_, _++_, append-assoc, append-nil}
-use mathlib.Core.Bool.{Bool, true, false, not, _&&_, _||_}
-use Prim.Native.Nat.{ℕ, zero, suc, _+_, _-_, _*_, _≤_, _<_, min}
+use mathlib.Core.Bool.{Bool, true, false, _||_}
+use Prim.Native.Nat.{ℕ, zero, suc, _+_, _-_, _≤_, _<_, min}
 use native.Mathlib.Numerals.{add-one}
-use native.Mathlib.Nat.{add-zero, add-assoc}
+use native.Mathlib.Nat.{add-zero}
 use native.Mathlib.Omega.{arith}
-use lib.Dec.{T, leb, ltb, eqb, eqb→eq}
-use lib.ListN.{length, take, drop, set, getD, replicate, length-append, length-drop, length-set, drop-of-length-le}
+use lib.Dec.{T, leb, eqb, eqb→eq}
+use lib.ListN.{length, take, drop, set, getD, replicate, length-append, length-set, drop-of-length-le}
 use lib.Seq.{drop-cons, drop-at, take-at}
 use borrow.Author.Tests.{le-leb, lt-leb, eq-eqb, ne-eqb, eqb-true, leb-true, leb-false}
 use Rattle.cbor.specs.Refusals.{Result, ok, refuse, bind, noToken}
-use Rattle.cbor.specs.Utf8.{_to_, isIn}
+use Rattle.cbor.specs.Utf8.{isIn}
 use Rattle.cbor.specs.Buffer.{over}
-use Rattle.cbor.proofs.Buffer.{over-nil, over-one, over-more, length-over}
-use Rattle.cbor.proofs.Table.{both, every, between, byte}
-use Rattle.notation.specs.Classes.{Class, blank, slash, hash, classNumber, ClassRow, _are_, classRows, classIn, classOf, is}
-use Rattle.notation.specs.Numbers.{digitValue, isDigit}
+use Rattle.cbor.proofs.Buffer.{over-nil, over-one, over-more}
+use Rattle.cbor.proofs.Table.{every, between, byte}
+use Rattle.notation.specs.Classes.{blank, slash, hash, classNumber, classRows, classIn, classOf, is}
+use Rattle.notation.specs.Numbers.{digitValue}
 use Rattle.notation.specs.Scanning.{fault}
 use Rattle.notation.specs.Literals.{isBody, body}
 use Rattle.notation.specs.Reading.{marked}
-use Rattle.notation.specs.LiteralAnswers.{Found, scannedBy, Scans, Raw, Put, few, bodyByte, BodyByte}
-use Rattle.notation.specs.declared.literal.Scanned.{Scanned}
+use Rattle.notation.specs.LiteralAnswers.{scannedBy, Raw, Put, few, bodyByte, BodyByte}
 
 -- BYTES
 
@@ -137,7 +136,7 @@ front-marked s i h =
     let b : i + 1 ≤ length s = omega arith in
     drop-append s (256 ∷ []) i a ∙ ap (λ (x : List ℕ). x ++ 256 ∷ []) (front s i h) ∙ ap (λ (x : List ℕ). getD s i 0 ∷ x) (sym (drop-append s (256 ∷ []) (i + 1) b))
 
-true-false : _≡_ {A = Bool} true false → ⊥
+pub true-false : _≡_ {A = Bool} true false → ⊥
 true-false z = let w : _≡_ {A = ℕ} 0 1 = cc in absurd (omega arith)
 
 -- what holds of the end mark alone and of nothing holds behind the text
@@ -342,7 +341,7 @@ module _ {s : List ℕ} {at i : ℕ} (inv : Body s at i) where
         let r : body (drop at (marked s)) ≡ ok (inv .done ++ []) (drop (i + 1) (marked s)) = rw e at here in
         let r′ : body (drop at (marked s)) ≡ ok (inv .done) (drop (i + 1) (marked s)) = r ∙ ap (λ (u : List ℕ). ok u (drop (i + 1) (marked s))) (append-nil (inv .done)) in
         record {
-          scans = rw r′ (record { by = record { good = refl; size = sym (inv .sized); left = refl; inside = omega arith; ahead = omega (arith, inv .from) } });
+          scans = rw r′ (record { by = record { good = refl; size = sym (inv .sized); left = refl; inside = omega arith; ahead = omega (arith, inv .from); short = omega (arith, inv .from) } });
           is = λ c rest q.
               let f : c ≡ inv .done = ok-content (sym q ∙ r′) in
               f ∙ sym (ap (take (i - at)) (inv .split) ∙ take-at (inv .done) (drop i s) (i - at) (inv .sized));

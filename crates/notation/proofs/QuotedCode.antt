@@ -1,16 +1,16 @@
 -- Quoted strings: what a byte does at each place, and what is given.
 -- Assumes nothing.
 use mathlib.Core.Path.{_≡_, refl, sym, ap, _∙_, subst⁻¹}
-use mathlib.Core.List.{List, [], _∷_, _++_, append-assoc, append-nil}
-use mathlib.Core.Bool.{Bool, true, false, _&&_}
+use mathlib.Core.List.{List, [], _∷_}
+use mathlib.Core.Bool.{Bool, true, false}
 use Prim.Native.Nat.{ℕ, zero, suc, _+_, _-_, _*_, _/_, _%_, _≤_, _<_}
 use native.Mathlib.Omega.{arith}
-use lib.Dec.{leb, ltb, eqb}
+use lib.Dec.{eqb}
 use lib.ListN.{length}
 use borrow.Author.Tests.{le-leb, lt-leb, eq-eqb, ne-eqb, lt-ltb, le-ltb}
 use Rattle.cbor.specs.Utf8.{_to_, isIn}
 use Rattle.notation.specs.Numbers.{digitValue, isDigit}
-use Rattle.notation.specs.Quoted.{utf8Of, Quoting, character, escape, unicode, paired, Move, gives, closed, wrong, Escape, escapes, escapedIn, wholeUnit, unit, moveAt}
+use Rattle.notation.specs.Quoted.{utf8Of, character, escape, unicode, paired, Move, gives, closed, wrong, Escape, escapes, escapedIn, wholeUnit, unit, moveAt}
 use Rattle.notation.specs.LiteralAnswers.{Put}
 use Rattle.notation.specs.QuotedAnswers.{quotingOf, emitted, moveOf, roomOf, High, Sound, Digits, Whole, Emits, Goes, Sized, escapedAs, Escaped, Tail}
 use Rattle.notation.specs.declared.quoted.Moved.{Moved}

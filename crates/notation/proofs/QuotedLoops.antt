@@ -8,16 +8,15 @@ use native.Mathlib.Omega.{arith}
 use lib.Dec.{leb, ltb, eqb}
 use lib.ListN.{length, drop, getD, length-append}
 use borrow.Author.Tests.{eq-eqb, ne-eqb, eqb-true, eqb-false}
-use Rattle.cbor.specs.Refusals.{Result, ok, refuse, bind, noToken}
+use Rattle.cbor.specs.Refusals.{Result, ok, bind, noToken}
 use Rattle.cbor.specs.Buffer.{over}
 use Rattle.cbor.specs.Utf8.{_to_, isIn}
 use Rattle.notation.specs.Scanning.{fault}
 use Rattle.notation.specs.Numbers.{digitValue, isDigit}
 use Rattle.notation.specs.Reading.{marked}
 use Rattle.notation.specs.Quoted.{utf8Of, Quoting, character, escape, unicode, paired, Move, gives, closed, wrong, Escape, escapes, escapedIn, wholeUnit, unit, moveAt, unquote}
-use Rattle.notation.specs.LiteralAnswers.{Found, scannedBy, Scans, Put, Quotes}
-use Rattle.notation.specs.QuotedAnswers.{quotingOf, emitted, moveOf, roomOf, High, Sound, Goes, Sized}
-use Rattle.notation.specs.declared.literal.Scanned.{Scanned}
+use Rattle.notation.specs.LiteralAnswers.{scannedBy, Scans, Put, Quotes}
+use Rattle.notation.specs.QuotedAnswers.{quotingOf, emitted, moveOf, Sound, Goes, Sized}
 use Rattle.notation.specs.declared.quoted.Moved.{Moved}
 use Rattle.notation.proofs.TextScan.{tested}
 use Rattle.notation.proofs.LiteralCode.{pre, pre-nil, pre-pre, front-marked, past, ok-content, put-none, put-more}
@@ -189,7 +188,7 @@ module _ {s : List ℕ} {at q i size m u h : ℕ} (inv : QuoteScan s at q i size
     quote-closed k₃ k₄ =
         let e : r .kind ≡ 3 = omega arith in
         rw (run-closed (inv .run) l x e)
-        (record { by = record { good = refl; size = inv .sized; left = refl; inside = omega arith; ahead = omega (arith, inv .run .from) } })
+        (record { by = record { good = refl; size = inv .sized; left = refl; inside = omega arith; ahead = omega (arith, inv .run .from); short = omega (arith, inv .run .from, inv .short) } })
 
     pub quote-wrong : 4 ≤ r .kind → Scans s at (record { good = false; next = at; size = 0 }) (unquote q character (drop at (marked s)))
     quote-wrong k = let e : r .kind ≡ 4 = omega (arith, x .most) in scans-no noToken (run-wrong (inv .run) l x e)

@@ -78,6 +78,7 @@ module _ {b k : ℕ} (cl : Classed b k) where
       rest false = rw (lt-leb 0x20 b h)
 
 pub ruleset outside-ways = (outside-blank, outside-slash, outside-hash, outside-end)
+
 pub ruleset word-ways = (word-digit, word-letter, word-none)
 
 pub comment-line : (mode b : ℕ) → (mode ≡ 1 → ⊥) → eqb b 0x0a ≡ endsComment mode b
@@ -119,6 +120,7 @@ module _ (mode start at b : ℕ) where
     step-ended u h f g = rw (ne-eqb mode 0 n, skipBy) (rw (sym e ∙ h) (rw (sym f ∙ g)))
 
 pub ruleset first-ways = (first-between, first-inside)
+
 pub ruleset step-ways = (step-between, step-closed, step-inside, step-ended)
 
 -- SKIPPING: a step in the numbers of the code

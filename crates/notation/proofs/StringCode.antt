@@ -13,8 +13,8 @@ use Rattle.cbor.specs.Items.{Kind, byteString, textString, definite, indefinite
 use Rattle.notation.specs.Classes.{isWord}
 use Rattle.notation.specs.Scanning.{fault, run, whether}
 use Rattle.notation.specs.Indicators.{Indicator, absent, indefinitely, unknown, wide, indicator, Chosen, chosen, misfit, choose}
-use Rattle.notation.specs.Quoted.{Quoting, character, Move, gives, closed, wrong, moveAt, unquote}
-use Rattle.notation.specs.Literals.{literalToken, quotedToken, quoted, isBody, body, Content, content, bad, hexContent, base64Content, contained, encodedLiteral}
+use Rattle.notation.specs.Quoted.{character, unquote}
+use Rattle.notation.specs.Literals.{literalToken, quotedToken, quoted, body, Content, content, bad, hexContent, base64Content, contained, encodedLiteral}
 use Rattle.notation.specs.Tokens.{Token, begins, literal}
 use Rattle.notation.specs.Words.{same, hexPrefix, base64Prefix, isFloatWord, worded, prefixed, word}
 use Rattle.notation.specs.Reading.{marked}
@@ -31,6 +31,7 @@ use Rattle.notation.specs.declared.token.Token.{Token as Cut}
 use Rattle.notation.proofs.ScanningElements.{clash}
 use Rattle.notation.proofs.Marked.{here}
 use Rattle.notation.proofs.ScanCode.{whether-yes, whether-no}
+use Rattle.notation.proofs.LiteralViews.{scan-good, raw-good, quoted-bad, raw-bad, decodes-bad}
 use Rattle.notation.proofs.IndicatorCode.{choose-is, width-some, chosen-none, chosen-some}
 use Rattle.notation.proofs.NumberCode.{says-as, says-refuse}
 use Rattle.notation.proofs.WordCode.{part-cons}
@@ -126,7 +127,7 @@ module _ {form size start place : ℕ} {m : Mark} where
             let n : b ≡ [] = empty b (sym z ∙ es) in
             let sp′ : Spelled s form start 0 [] = rw n at (sp .is) in
             let q : quotedToken (kindOf form) b (x .ind) (drop (m .next) (marked s)) ≡ ok (begins (literal (kindOf form) indefinite [])) (drop (m .next) (marked s)) =
-                ap (λ (j : Indicator). quotedToken (kindOf form) b j (drop (m .next) (marked s))) i ∙ ap (λ (l : List ℕ). quotedToken (kindOf form) l indefinitely (drop (m .next) (marked s))) n in
+            ap (λ (j : Indicator). quotedToken (kindOf form) b j (drop (m .next) (marked s))) i ∙ ap (λ (l : List ℕ). quotedToken (kindOf form) l indefinitely (drop (m .next) (marked s))) n in
             says-as q (record { shown = record { code = g; indicator = refl; number = refl; written = sp′; next = here s (sp .inside) }; place = refl });
       }
 
@@ -150,59 +151,10 @@ module _ {form size start place : ℕ} {m : Mark} where
 
 pub ruleset quoted-tokens = (quoted-empty, quoted-misfit, quoted-literal)
 
--- SCANS: the only refusal of a scan is 3
-abbrev Only : {A : Type 0} → Result A → Type 0
-Only (ok x r) = Unit {0}
-Only (refuse n q) = n ≡ noToken
-
-only-bind : {A B : Type 0} (R : Result A) (f : A → List ℕ → Result B) → Only R → ((x : A) (r : List ℕ) → Only (f x r)) → Only (bind R f)
-unfolding bind
-only-bind (ok x r) f h g = g x r
-only-bind (refuse n q) f h g = h
-
-unquote-only : (q : ℕ) (k : Quoting) (s : List ℕ) → Only (unquote q k s)
-unfolding unquote
-unquote-only q k [] = refl
-unquote-only q k (b ∷ s) = go (moveAt q k b) (λ k′. unquote-only q k′ s)
-  where
-    go : (m : Move) → ((k′ : Quoting) → Only (unquote q k′ s)) → Only {A = List ℕ} (elim m [ gives w k′ ↦ bind (unquote q k′ s) (λ c r. ok (w ++ c) r) | closed ↦ ok [] s | wrong ↦ fault noToken ])
-    go (gives w k′) h = only-bind (unquote q k′ s) (λ c r. ok (w ++ c) r) (h k′) (λ c r. tt)
-    go closed h = tt
-    go wrong h = refl
-
-body-only : (s : List ℕ) → Only (body s)
-unfolding body
-body-only [] = refl
-body-only (b ∷ s) = go (eqb b 0x27) (eqb b 0x5c) (isBody b) (body-only s)
-  where
-    go : (u v w : Bool) → Only (body s) → Only {A = List ℕ} (elim u [ true ↦ ok [] s | false ↦ elim v [ true ↦ fault noToken | false ↦ elim w [ true ↦ bind (body s) (λ c r. ok (b ∷ c) r) | false ↦ fault noToken ] ] ])
-    go true v w h = tt
-    go false true w h = refl
-    go false false true h = only-bind (body s) (λ c r. ok (b ∷ c) r) h (λ c r. tt)
-    go false false false h = refl
-
--- a scan that found a content, and one that did not
-record Scanned-as (s : List ℕ) (at : ℕ) (r : Scanned) (res : Result (List ℕ)) : Type 0 where
-  found : List ℕ
-  is : res ≡ ok found (drop (r .next) (marked s))
-  size : r .size ≡ length found
-  inside : r .next ≤ length s
-
-scanned : {s : List ℕ} {at : ℕ} {r : Scanned} (res : Result (List ℕ)) → Scans s at r res → r .good ≡ true → Scanned-as s at r res
-unfolding scannedBy
-scanned {s} {at} {r} (ok c u) h e = record { found = c; is = ap (λ (l : List ℕ). ok c l) (sym (h .by .left)); size = h .by .size; inside = h .by .inside }
-scanned (refuse n q) h e = absurd (clash (sym e ∙ h .by))
-
-scanned-not : {s p : List ℕ} {at place : ℕ} {r : Scanned} {t : Cut} (res : Result (List ℕ)) (f : List ℕ → List ℕ → Result Token) → Only res → Scans s at r res → r .good ≡ false
-    → Refused 3 place t → Says p place t (bind res f)
-unfolding scannedBy bind
-scanned-not (ok c u) f o h e r = absurd (clash (sym (h .by .good) ∙ e))
-scanned-not (refuse n q) f o h e r = rw o (says-refuse q r)
-
-pub scan-inside : {s : List ℕ} {at : ℕ} {r : Scanned} (res : Result (List ℕ)) → Scans s at r res → r .good ≡ true → r .next ≤ length s
-scan-inside res h e = scanned res h e .inside
-
 -- QUOTED STRINGS
+pub scan-inside : {s : List ℕ} {at : ℕ} {r : Scanned} (res : Result (List ℕ)) → Scans s at r res → r .good ≡ true → r .next ≤ length s
+scan-inside res h e = scan-good res h e .found .inside
+
 spelled-quote : (s : List ℕ) (form start stop : ℕ) (b : List ℕ) → form ≤ 1 → Quotes s (quoteOf form) start b → Spelled s form start stop b
 unfolding Spelled quoteOf
 spelled-quote s zero start stop b h q = q
@@ -214,30 +166,24 @@ module _ {s : List ℕ} {place form : ℕ} {t : Cut} {r : Scanned} (p : QuotedAt
       → Says s place t (quoted (kindOf form) (quoteOf form) (drop (place + 1) (marked s)))
   unfolding quoted bind
   quoted-good {m} g x j =
-      let a = scanned (unquote q character (drop (place + 1) (marked s))) h g in
-      let i : unquote (quoteOf form) character (drop (place + 1) (marked s)) ≡ ok (a .found) (drop (r .next) (marked s)) =
-          ap (λ (k : ℕ). unquote k character (drop (place + 1) (marked s))) (sym e) ∙ a .is in
-      let sp : Spells s form (place + 1) 0 (m .next) (a .found) =
-          record { is = spelled-quote s form (place + 1) 0 (a .found) (p .quoted) (record { rest = drop (r .next) (marked s); is = i }); inside = x .inside } in
-      says-as (rw i (rw (x .is))) (j .is s (a .found) (r .next) (a .size) x sp)
+      let a = scan-good (unquote q character (drop (place + 1) (marked s))) h g in
+      let i : unquote (quoteOf form) character (drop (place + 1) (marked s)) ≡ ok (a .all) (drop (r .next) (marked s)) =
+          ap (λ (k : ℕ). unquote k character (drop (place + 1) (marked s))) (sym e) ∙ (a .is ∙ ap (λ (l : List ℕ). ok (a .all) l) (sym (a .found .left))) in
+      let sp : Spells s form (place + 1) 0 (m .next) (a .all) =
+          record { is = spelled-quote s form (place + 1) 0 (a .all) (p .quoted) (record { rest = drop (r .next) (marked s); is = i }); inside = x .inside } in
+      says-as (rw i (rw (x .is))) (j .is s (a .all) (r .next) (a .found .size) x sp)
 
-  pub quoted-bad : r .good ≡ false → Refused 3 place t → Says s place t (quoted (kindOf form) (quoteOf form) (drop (place + 1) (marked s)))
-  unfolding quoted
-  quoted-bad g f =
-      let u = drop (place + 1) (marked s) in
-      says-as (ap (λ (k : ℕ). bind (unquote k character u) (λ b r. bind (indicator r) (quotedToken (kindOf form) b))) (sym e))
-      (scanned-not (unquote q character u) (λ b r. bind (indicator r) (quotedToken (kindOf form) b)) (unquote-only q character u) h g f)
+  pub quoted-wrong : r .good ≡ false → Refused 3 place t → Says s place t (quoted (kindOf form) (quoteOf form) (drop (place + 1) (marked s)))
+  unfolding quoted bind
+  quoted-wrong g f =
+      let i : unquote (quoteOf form) character (drop (place + 1) (marked s)) ≡ fault noToken = ap (λ (k : ℕ). unquote k character (drop (place + 1) (marked s))) (sym e) ∙ quoted-bad q h g in
+      says-as (rw i) (says-refuse 0 f)
 
 -- ENCODED ONES
 decoded : {r : Scanned} (res : Content) → Decodes r res → r .good ≡ true → (c : List ℕ) × ((res ≡ content c) × (r .size ≡ length c))
 unfolding decodedBy
 decoded (content c) d e = (c, (refl, d .by .1))
 decoded bad d e = absurd (clash (sym e ∙ d .by))
-
-decoded-not : {r : Scanned} (res : Content) → Decodes r res → r .good ≡ false → res ≡ bad
-unfolding decodedBy
-decoded-not (content c) d e = absurd (clash (sym (d .by .0) ∙ e))
-decoded-not bad d e = refl
 
 spelled-encoded : (s : List ℕ) (form start stop : ℕ) (b : List ℕ) → 2 ≤ form → contentOf form (take (stop - start) (drop start s)) ≡ content b → Spelled s form start stop b
 unfolding Spelled contentOf
@@ -260,22 +206,17 @@ raw-some res h e = omega (arith, h .next e)
 encoded-is : {s : List ℕ} {at form : ℕ} {r : Scanned} {m : Mark} → EncodedAt s at form → Raw s at r (body (drop at (marked s))) → r .good ≡ true → (x : Indicated s (r .next) m)
     → encodedLiteral (contentOf form) (drop at (marked s)) ≡ contained (contentOf form (take (r .next - 1 - at) (drop at s))) (x .ind) (drop (m .next) (marked s))
 unfolding encodedLiteral bind
-encoded-is {s} {at} {form} {r} {m} p h g x =
-    let a = scanned (body (drop at (marked s))) (h .scans) g in
-    let n : r .next - 1 - at ≡ r .size = omega (arith, h .next g) in
-    let e : a .found ≡ take (r .next - 1 - at) (drop at s) = h .is (a .found) (drop (r .next) (marked s)) (a .is) ∙ ap (λ (k : ℕ). take k (drop at s)) (sym n) in
-    rw (a .is) (rw (x .is) (ap (λ (l : List ℕ). contained (contentOf form l) (x .ind) (drop (m .next) (marked s))) e))
+encoded-is p h g x = rw (raw-good h g) (rw (x .is))
 
 module _ {s : List ℕ} {place at form : ℕ} {t : Cut} {r : Scanned} (p : EncodedAt s at form) (h : Raw s at r (body (drop at (marked s)))) where
   pub encoded-bad : r .good ≡ false → Refused 3 place t → Says s place t (encodedLiteral (contentOf form) (drop at (marked s)))
-  unfolding encodedLiteral
-  encoded-bad g f =
-      scanned-not (body (drop at (marked s))) (λ b r. bind (indicator r) (contained (contentOf form b))) (body-only (drop at (marked s))) (h .scans) g f
+  unfolding encodedLiteral bind
+  encoded-bad g f = says-as (rw (raw-bad h g)) (says-refuse 0 f)
 
   module _ (g : r .good ≡ true) {m : Mark} (x : Indicated s (r .next) m) {c : Scanned} (d : Decodes c (contentOf form (take (r .next - 1 - at) (drop at s)))) where
     pub encoded-wrong : c .good ≡ false → Refused 8 place t → Says s place t (encodedLiteral (contentOf form) (drop at (marked s)))
     unfolding contained
-    encoded-wrong k f = says-as (encoded-is p h g x ∙ ap (λ (j : Content). contained j (x .ind) (drop (m .next) (marked s))) (decoded-not _ d k)) (says-refuse 0 f)
+    encoded-wrong k f = says-as (encoded-is p h g x ∙ ap (λ (j : Content). contained j (x .ind) (drop (m .next) (marked s))) (decodes-bad _ d k)) (says-refuse 0 f)
 
     pub encoded-good : c .good ≡ true → Literally form (m .mark) (c .size) at (r .next - 1) place (m .next) t → Says s place t (encodedLiteral (contentOf form) (drop at (marked s)))
     unfolding contained

@@ -1,14 +1,14 @@
 -- What the code of string literals answers.
-use Prim.Native.Nat.{ℕ, zero, suc, _+_, _-_, _≤_, _<_}
+use Prim.Native.Nat.{ℕ, zero, suc, _+_, _≤_, _<_}
 use mathlib.Core.Path.{_≡_}
-use mathlib.Core.List.{List, [], _∷_, _++_}
+use mathlib.Core.List.{List, [], _∷_}
 use mathlib.Core.Bool.{Bool, true, false}
 use lib.Dec.{eqb, ltb}
 use lib.ListN.{length, take, drop}
 use Rattle.cbor.specs.Refusals.{Result, ok, refuse}
 use Rattle.cbor.specs.Buffer.{over}
 use Rattle.notation.specs.Reading.{marked}
-use Rattle.notation.specs.Literals.{isBody, body, Content, content, bad, after, Commenting, outside, inSlash, inHash, Half, none, high, hexFrom}
+use Rattle.notation.specs.Literals.{isBody, Content, content, bad, after, Commenting, outside, inSlash, inHash, Half, none, high, hexFrom}
 use Rattle.notation.specs.declared.literal.Scanned.{Scanned}
 use Rattle.notation.specs.declared.hex.HexStep.{HexStep}
 
@@ -21,6 +21,7 @@ pub record Found (s : List ℕ) (at : ℕ) (r : Scanned) (c rest : List ℕ) : T
   pub left : drop (r .next) (marked s) ≡ rest
   pub inside : r .next ≤ length s
   pub ahead : at < r .next
+  pub short : at + r .size < r .next
 
 unfoldable pub scannedBy : List ℕ → ℕ → Scanned → Result (List ℕ) → Type 0
 scannedBy s at r (ok c rest) = Found s at r c rest
@@ -80,12 +81,13 @@ pub record HexMoved (m h b : ℕ) (r : HexStep) : Type 0 where
   pub is : (s : List ℕ) → hexFrom (commentingOf m) (halfOf h) (b ∷ s) ≡ hexNext r s
   pub most : r .count ≤ 1
 
-unfoldable pub hexEndedBy : ℕ → ℕ → Bool → Content
-hexEndedBy m h true = content []
-hexEndedBy m h false = bad
+-- whether a text may end there
+unfoldable pub hexEndedBy : Bool → Content
+hexEndedBy true = content []
+hexEndedBy false = bad
 
 pub record HexEnded (m h : ℕ) (t : Bool) : Type 0 where
-  pub is : hexFrom (commentingOf m) (halfOf h) [] ≡ hexEndedBy m h t
+  pub is : hexFrom (commentingOf m) (halfOf h) [] ≡ hexEndedBy t
 
 -- what a byte is in a raw text: 0 it stands there, 1 it is the closing quote, 2 it may not stand there
 unfoldable pub bodyByte : ℕ → ℕ

@@ -1,4 +1,5 @@
 // Digits, and the number that they make, any number of them.
+use crate::literal::hex_value;
 ghost use mathlib.Core.Path.{_≡_};
 ghost use Prim.Native.Nat.{_+_, _*_};
 ghost use lib.Dec.{leb};
@@ -23,25 +24,7 @@ pub struct Digits {
 pub fn digit_value(b: u8) -> u64
     ensures { λ r. ⌜ r ≡ digitValue b ⌝ }
 {
-    if b < 0x30 {
-        return 99;
-    }
-    if b < 0x3a {
-        return (b - 0x30) as u64;
-    }
-    if b < 0x41 {
-        return 99;
-    }
-    if b < 0x47 {
-        return (b - 0x37) as u64;
-    }
-    if b < 0x61 {
-        return 99;
-    }
-    if b < 0x67 {
-        return (b - 0x57) as u64;
-    }
-    99
+    hex_value(b) as u64
 }
 
 // Whether a number with a digit more is in 64 bits: the one test of the limit.
@@ -109,18 +92,12 @@ pub fn count_digits(text: &[u8], from: usize, radix: u64, first: u64) -> Digits
     while at < text.len() {
         let d = digit_value(text[at]);
         if radix <= d {
-            return Digits {
-                amount,
-                next: at,
-            };
+            return Digits { amount, next: at };
         }
         amount = grow(amount, radix, d);
         at += 1;
     }
-    Digits {
-        amount,
-        next: at,
-    }
+    Digits { amount, next: at }
 }
 
 fn makes_float(radix: u64, b: u8) -> bool

@@ -1,5 +1,8 @@
 // Base64 text: what stands between the quotes of b64'..'.
 use crate::literal::Scanned;
+use crate::literal::is_blank;
+use crate::literal::least;
+use crate::literal::put;
 ghost use mathlib.Core.Path.{_≡_};
 ghost use Prim.Native.Nat.{_-_};
 ghost use lib.ListN.{take, drop};
@@ -59,7 +62,7 @@ fn sextet_value(b: u8) -> u8
 fn letter(b: u8) -> u8
     ensures { λ r. ⌜ Letter b r ⌝ }
 {
-    if crate::literal::is_blank(b) {
+    if is_blank(b) {
         return 66;
     }
     sextet_value(b)
@@ -218,7 +221,7 @@ fn last_size(g: Group) -> usize
 pub fn scan_base64(text: &[u8], at: usize, end: usize) -> Scanned
     ensures { λ r. ⌜ Decodes r (base64Content (take (end - at) (drop at (now (text .entry))))) ⌝ }
 {
-    let stop = crate::literal::least(end, text.len());
+    let stop = least(end, text.len());
     let mut i = at;
     let mut size: usize = 0;
     let mut g = waiting(0, 0, 0, 0, 0);
@@ -257,22 +260,22 @@ fn put_bytes(out: &mut [u8], p: usize, g: Group, n: usize) -> usize
     if n == 0 {
         return p;
     }
-    let q = crate::literal::put(out, p, first_byte(g));
+    let q = put(out, p, first_byte(g));
     if n == 1 {
         return q;
     }
-    let r = crate::literal::put(out, q, second_byte(g));
+    let r = put(out, q, second_byte(g));
     if n == 2 {
         return r;
     }
-    crate::literal::put(out, r, third_byte(g))
+    put(out, r, third_byte(g))
 }
 
 // Writes those bytes from `pos` on, if they all fit.
 pub fn put_base64(text: &[u8], at: usize, end: usize, out: &mut [u8], pos: usize)
     ensures { λ _. ⌜ Fills (now (out .entry)) (now (out .exit)) pos (base64Content (take (end - at) (drop at (now (text .entry))))) ⌝ }
 {
-    let stop = crate::literal::least(end, text.len());
+    let stop = least(end, text.len());
     let mut i = at;
     let mut p = pos;
     let mut g = waiting(0, 0, 0, 0, 0);

@@ -1,5 +1,9 @@
 // Hexadecimal text: what stands between the quotes of h'..'.
 use crate::literal::Scanned;
+use crate::literal::hex_value;
+use crate::literal::is_blank;
+use crate::literal::least;
+use crate::literal::put_few;
 ghost use mathlib.Core.Path.{_≡_};
 ghost use Prim.Native.Nat.{_-_};
 ghost use lib.ListN.{take, drop};
@@ -41,7 +45,7 @@ fn hex_step(mode: u8, half: u8, b: u8) -> HexStep
         }
         return hex_stay(2, half);
     }
-    if crate::literal::is_blank(b) {
+    if is_blank(b) {
         return hex_stay(0, half);
     }
     if b == 0x2f {
@@ -50,7 +54,7 @@ fn hex_step(mode: u8, half: u8, b: u8) -> HexStep
     if b == 0x23 {
         return hex_stay(2, half);
     }
-    let v = crate::literal::hex_value(b);
+    let v = hex_value(b);
     if 16 <= v {
         return hex_stay(3, half);
     }
@@ -82,7 +86,7 @@ fn hex_end(mode: u8, half: u8) -> bool
 pub fn scan_hex(text: &[u8], at: usize, end: usize) -> Scanned
     ensures { λ r. ⌜ Decodes r (hexContent (take (end - at) (drop at (now (text .entry))))) ⌝ }
 {
-    let stop = crate::literal::least(end, text.len());
+    let stop = least(end, text.len());
     let mut i = at;
     let mut size: usize = 0;
     let mut mode: u8 = 0;
@@ -112,7 +116,7 @@ pub fn scan_hex(text: &[u8], at: usize, end: usize) -> Scanned
 pub fn put_hex(text: &[u8], at: usize, end: usize, out: &mut [u8], pos: usize)
     ensures { λ _. ⌜ Fills (now (out .entry)) (now (out .exit)) pos (hexContent (take (end - at) (drop at (now (text .entry))))) ⌝ }
 {
-    let stop = crate::literal::least(end, text.len());
+    let stop = least(end, text.len());
     let mut i = at;
     let mut p = pos;
     let mut mode: u8 = 0;
@@ -124,7 +128,7 @@ pub fn put_hex(text: &[u8], at: usize, end: usize, out: &mut [u8], pos: usize)
         }
         mode = m.mode;
         half = m.half;
-        p = crate::literal::put_few(out, p, m.count, m.byte);
+        p = put_few(out, p, m.count, m.byte);
         i += 1;
     }
 }

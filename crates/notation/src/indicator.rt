@@ -1,6 +1,6 @@
 // Encoding indicators, by number: 0 none, 1 `_` alone, 2 unknown, 3 to 7 the widths of 0, 1, 2, 4 and 8 bytes.
-use crate::scan::next_is;
 use crate::scan::Cursor;
+use crate::scan::next_is;
 ghost use mathlib.Core.Path.{_≡_};
 ghost use Prim.Native.Nat.{_≤_};
 ghost use lib.ListN.{length};
@@ -55,10 +55,7 @@ pub fn indicator_at(text: &[u8], at: usize) -> Mark
             next,
         };
     }
-    Mark {
-        mark: 0,
-        next: at,
-    }
+    Mark { mark: 0, next: at }
 }
 
 fn limit_of(width: u8) -> u64

@@ -3,7 +3,7 @@ ghost use mathlib.Core.Path.{_≡_};
 ghost use mathlib.Core.List.{_∷_, []};
 ghost use mathlib.Core.Bool.{true, false};
 ghost use Prim.Native.Nat.{min};
-ghost use lib.ListN.{length, drop};
+ghost use lib.ListN.{drop};
 ghost use Rattle.notation.specs.Classes.{blank, is};
 ghost use Rattle.notation.specs.Numbers.{digitValue};
 ghost use Rattle.notation.specs.Literals.{body};

@@ -1,15 +1,15 @@
 // Integers and tag openings.
-use crate::amount::digit_value;
-use crate::amount::count_digits;
-use crate::amount::floats;
 use crate::amount::Amount;
+use crate::amount::count_digits;
+use crate::amount::digit_value;
+use crate::amount::floats;
+use crate::indicator::Mark;
 use crate::indicator::choose;
 use crate::indicator::indicator_at;
-use crate::indicator::Mark;
 use crate::scan::next_is;
+use crate::token::Token;
 use crate::token::made;
 use crate::token::refuse;
-use crate::token::Token;
 ghost use mathlib.Core.Path.{_≡_};
 ghost use mathlib.Core.Bool.{true};
 ghost use Prim.Native.Nat.{_+_, _≤_, _<_};
@@ -110,7 +110,16 @@ fn after_zero(text: &[u8], place: usize, at: usize, minus: bool) -> Token
 {
     let radix = prefix(text, at);
     if radix == 0 {
-        return decimal(text, place, at, minus, Amount { value: 0, over: false });
+        return decimal(
+            text,
+            place,
+            at,
+            minus,
+            Amount {
+                value: 0,
+                over: false,
+            },
+        );
     }
     let d = count_digits(text, at + 2, radix, digit_value(text[at + 1]));
     let next = d.next;

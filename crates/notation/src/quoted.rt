@@ -1,7 +1,9 @@
 // Quoted strings: the content between the quotes, with its escapes.
 use crate::literal::Scanned;
+use crate::literal::hex_value;
+use crate::literal::put;
+use crate::literal::put_two;
 ghost use mathlib.Core.Path.{_≡_};
-ghost use mathlib.Core.List.{_∷_, []};
 ghost use Prim.Native.Nat.{_<_};
 ghost use lib.ListN.{drop};
 ghost use Rattle.notation.specs.Quoted.{utf8Of, character, escape, unicode, paired, wholeUnit, moveAt, unquote};
@@ -128,7 +130,7 @@ fn at_digit(mode: u8, unit: u32, high: u32, b: u8) -> Moved
     requires { ⌜ Digits mode unit high ⌝ }
     ensures { λ r. ⌜ Goes (moveAt 0 (unicode mode unit high) b) r ⌝ }
 {
-    let v = crate::literal::hex_value(b);
+    let v = hex_value(b);
     if 16 <= v {
         return gives(4, 0);
     }
@@ -243,17 +245,17 @@ fn put_point(out: &mut [u8], p: usize, c: u32) -> usize
     ensures { λ r. ⌜ Put (now (out .entry)) (now (out .exit)) p r (utf8Of c) ⌝ }
 {
     if c < 0x80 {
-        return crate::literal::put(out, p, c as u8);
+        return put(out, p, c as u8);
     }
     if c < 0x800 {
-        return crate::literal::put_two(out, p, (0xc0 + c / 0x40) as u8, tail(c));
+        return put_two(out, p, (0xc0 + c / 0x40) as u8, tail(c));
     }
     if c < 0x10000 {
-        let q = crate::literal::put(out, p, (0xe0 + c / 0x1000) as u8);
-        return crate::literal::put_two(out, q, tail(c / 0x40), tail(c));
+        let q = put(out, p, (0xe0 + c / 0x1000) as u8);
+        return put_two(out, q, tail(c / 0x40), tail(c));
     }
-    let q = crate::literal::put_two(out, p, (0xf0 + c / 0x40000) as u8, tail(c / 0x1000));
-    crate::literal::put_two(out, q, tail(c / 0x40), tail(c))
+    let q = put_two(out, p, (0xf0 + c / 0x40000) as u8, tail(c / 0x1000));
+    put_two(out, q, tail(c / 0x40), tail(c))
 }
 
 // Writes what is given.
@@ -265,7 +267,7 @@ fn emit(out: &mut [u8], p: usize, kind: u8, value: u32) -> usize
         return p;
     }
     if kind == 1 {
-        return crate::literal::put(out, p, value as u8);
+        return put(out, p, value as u8);
     }
     put_point(out, p, value)
 }

@@ -108,7 +108,9 @@ impl Cursor {
             }
             at += 1;
         }
-        Cursor { at: first_of(mode, start, at) }
+        Cursor {
+            at: first_of(mode, start, at),
+        }
     }
 
     // Past letters and digits.

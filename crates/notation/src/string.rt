@@ -1,16 +1,16 @@
 // String literals as tokens. Their forms: 0 "..", 1 '..', 2 h'..', 3 b64'..'.
 use crate::base64::scan_base64;
 use crate::hex::scan_hex;
+use crate::indicator::Mark;
 use crate::indicator::choose;
 use crate::indicator::indicator_at;
-use crate::indicator::Mark;
-use crate::literal::scan_body;
 use crate::literal::Scanned;
+use crate::literal::scan_body;
 use crate::quoted::scan_quoted;
-use crate::scan::next_is;
 use crate::scan::Cursor;
-use crate::token::refuse;
+use crate::scan::next_is;
 use crate::token::Token;
+use crate::token::refuse;
 use crate::word::prefix_word;
 use crate::word::worded;
 ghost use mathlib.Core.Path.{_≡_};
@@ -44,7 +44,15 @@ fn quote_of(form: u8) -> u8
 }
 
 // A literal of `size` bytes: 9, or the token.
-fn literal(form: u8, mark: u8, size: usize, start: usize, stop: usize, place: usize, next: usize) -> Token
+fn literal(
+    form: u8,
+    mark: u8,
+    size: usize,
+    start: usize,
+    stop: usize,
+    place: usize,
+    next: usize,
+) -> Token
     ensures { λ r. ⌜ Literally form mark size start stop place next r ⌝ }
 {
     let width = choose(mark, size as u64);

@@ -1,8 +1,8 @@
 // Tokens.
 use crate::indicator::indicator_at;
 use crate::number::number;
-use crate::scan::next_is;
 use crate::scan::Cursor;
+use crate::scan::next_is;
 use crate::string::quoted;
 use crate::string::word;
 use crate::word::after_minus;

@@ -1,12 +1,12 @@
 // Words and simple values.
-use crate::amount::count_digits;
 use crate::amount::Amount;
+use crate::amount::count_digits;
 use crate::class::class;
 use crate::number::number;
 use crate::scan::next_is;
+use crate::token::Token;
 use crate::token::made;
 use crate::token::refuse;
-use crate::token::Token;
 ghost use mathlib.Core.Path.{_≡_};
 ghost use Prim.Native.Nat.{_+_, _≤_};
 ghost use lib.ListN.{length, drop};

@@ -3,7 +3,6 @@
 use Rattle.notation.proofs.Base64Code.{all-ways}
 use Rattle.notation.proofs.base64.all_sextets.Statement.{statement}
 use Rattle.notation.proofs.base64.all_sextets.Tie as tie
-use borrow.Author.Needs.{needs}
 
 pub all-sextets-spec : {M : Type 1} → statement M
 all-sextets-spec =

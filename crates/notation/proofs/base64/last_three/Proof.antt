@@ -3,7 +3,6 @@
 use Rattle.notation.proofs.Base64Code.{three-ways}
 use Rattle.notation.proofs.base64.last_three.Statement.{statement}
 use Rattle.notation.proofs.base64.last_three.Tie as tie
-use borrow.Author.Needs.{needs}
 
 pub last-three-spec : {M : Type 1} → statement M
 last-three-spec =

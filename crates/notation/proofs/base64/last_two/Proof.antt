@@ -3,7 +3,6 @@
 use Rattle.notation.proofs.Base64Code.{two-ways}
 use Rattle.notation.proofs.base64.last_two.Statement.{statement}
 use Rattle.notation.proofs.base64.last_two.Tie as tie
-use borrow.Author.Needs.{needs}
 
 pub last-two-spec : {M : Type 1} → statement M
 last-two-spec =

@@ -3,7 +3,6 @@
 use Rattle.notation.proofs.Base64Code.{sign-ways}
 use Rattle.notation.proofs.base64.sign_value.Statement.{statement}
 use Rattle.notation.proofs.base64.sign_value.Tie as tie
-use borrow.Author.Needs.{needs}
 
 pub sign-value-spec : {M : Type 1} → statement M
 sign-value-spec =

@@ -1,8 +1,8 @@
 -- `notation::class::class` meets its contract.
 -- Assumes nothing.
-use borrow.Author.Needs.{needs}
 use Rattle.notation.proofs.class.class.Statement.{statement}
 use Rattle.notation.proofs.class.class.Tie as tie
+use borrow.Author.Needs.{needs}
 use Rattle.notation.proofs.ClassCode.{class-rule}
 
 pub class-spec : {M : Type 1} → statement M

@@ -3,7 +3,6 @@
 use Rattle.notation.proofs.HexCode.{hex-end-ways}
 use Rattle.notation.proofs.hex.hex_end.Statement.{statement}
 use Rattle.notation.proofs.hex.hex_end.Tie as tie
-use borrow.Author.Needs.{needs}
 
 pub hex-end-spec : {M : Type 1} → statement M
 hex-end-spec =

@@ -1,6 +1,5 @@
 -- `notation::hex::put_hex` meets its contract.
 -- Assumes nothing.
-use lib.ListN.{length}
 use Prim.Native.Nat.{_-_}
 use Rattle.notation.proofs.HexCode.{HexPut, put-start, put-on, hex-put-ways}
 use Rattle.notation.proofs.hex.put_hex.Statement.{statement}

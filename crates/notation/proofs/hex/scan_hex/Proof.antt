@@ -1,6 +1,5 @@
 -- `notation::hex::scan_hex` meets its contract.
 -- Assumes nothing.
-use lib.ListN.{length}
 use Prim.Native.Nat.{_-_}
 use Rattle.notation.proofs.HexCode.{HexScan, scan-start, scan-on, scan-wrong, scan-end}
 use Rattle.notation.proofs.hex.scan_hex.Statement.{statement}

@@ -3,7 +3,6 @@
 use Rattle.notation.proofs.LiteralCode.{blank-ways}
 use Rattle.notation.proofs.literal.is_blank.Statement.{statement}
 use Rattle.notation.proofs.literal.is_blank.Tie as tie
-use borrow.Author.Needs.{needs}
 
 pub is-blank-spec : {M : Type 1} → statement M
 is-blank-spec =

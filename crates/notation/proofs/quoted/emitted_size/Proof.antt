@@ -3,7 +3,6 @@
 use Rattle.notation.proofs.QuotedCode.{sized-ways}
 use Rattle.notation.proofs.quoted.emitted_size.Statement.{statement}
 use Rattle.notation.proofs.quoted.emitted_size.Tie as tie
-use borrow.Author.Needs.{needs}
 
 pub emitted-size-spec : {M : Type 1} → statement M
 emitted-size-spec =

@@ -3,7 +3,6 @@
 use Rattle.notation.proofs.QuotedCode.{escaped-ways}
 use Rattle.notation.proofs.quoted.escaped.Statement.{statement}
 use Rattle.notation.proofs.quoted.escaped.Tie as tie
-use borrow.Author.Needs.{needs}
 
 pub escaped-spec : {M : Type 1} → statement M
 escaped-spec =

@@ -3,7 +3,7 @@
 use borrow.Author.Needs.{needs}
 use Rattle.notation.proofs.string.quoted.Statement.{statement}
 use Rattle.notation.proofs.string.quoted.Tie as tie
-use Rattle.notation.proofs.StringCode.{scan-inside, quoted-good, quoted-bad}
+use Rattle.notation.proofs.StringCode.{scan-inside, quoted-good, quoted-wrong}
 
 pub quoted-spec : {M : Type 1} → statement M
 quoted-spec =
@@ -15,5 +15,5 @@ quoted-spec =
     (λ c κs. search needs)  -- quoted-token-requires
     (λ c. search quoted-good)  -- returns
     (λ c κs. search needs)  -- refuse-requires
-    (λ c. search quoted-bad)  -- returns-2
+    (λ c. search quoted-wrong)  -- returns-2
     )
