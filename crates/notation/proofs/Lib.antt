@@ -38,3 +38,4 @@ pub mod Base64Code
 pub mod LiteralViews
 pub mod StringCode
 pub mod CutCode
+pub mod Taken

@@ -168,9 +168,9 @@ module _ {s : List ℕ} {place form : ℕ} {t : Cut} {r : Scanned} (p : QuotedAt
   quoted-good {m} g x j =
       let a = scan-good (unquote q character (drop (place + 1) (marked s))) h g in
       let i : unquote (quoteOf form) character (drop (place + 1) (marked s)) ≡ ok (a .all) (drop (r .next) (marked s)) =
-          ap (λ (k : ℕ). unquote k character (drop (place + 1) (marked s))) (sym e) ∙ (a .is ∙ ap (λ (l : List ℕ). ok (a .all) l) (sym (a .found .left))) in
+      ap (λ (k : ℕ). unquote k character (drop (place + 1) (marked s))) (sym e) ∙ (a .is ∙ ap (λ (l : List ℕ). ok (a .all) l) (sym (a .found .left))) in
       let sp : Spells s form (place + 1) 0 (m .next) (a .all) =
-          record { is = spelled-quote s form (place + 1) 0 (a .all) (p .quoted) (record { rest = drop (r .next) (marked s); is = i }); inside = x .inside } in
+      record { is = spelled-quote s form (place + 1) 0 (a .all) (p .quoted) (record { rest = drop (r .next) (marked s); is = i }); inside = x .inside } in
       says-as (rw i (rw (x .is))) (j .is s (a .all) (r .next) (a .found .size) x sp)
 
   pub quoted-wrong : r .good ≡ false → Refused 3 place t → Says s place t (quoted (kindOf form) (quoteOf form) (drop (place + 1) (marked s)))
