@@ -1,24 +1,23 @@
 -- What heads, strings, entries and items leave behind them.
 -- Assumes nothing.
-use Prim.Native.Nat.{ℕ, zero, suc, _+_, _-_, _/_, _%_, _≤_, _<_}
+use Prim.Native.Nat.{ℕ, zero, suc, _+_, _-_, _/_, _%_, _≤_}
 use native.Mathlib.Omega.{arith}
-use mathlib.Core.Path.{_≡_, refl, sym, ap, _∙_}
+use mathlib.Core.Path.{_≡_, refl}
 use mathlib.Core.Bool.{Bool, true, false}
 use mathlib.Core.List.{List, [], _∷_}
 use lib.Dec.{leb, eqb}
-use lib.ListN.{length, take, drop, getD, length-drop, length-take}
-use borrow.Author.Tests.{leb-true, leb-false}
+use lib.ListN.{length, take, drop, getD, length-take}
+use borrow.Author.Tests.{leb-true}
 use Rattle.cbor.specs.Refusals.{Result, ok, refuse, bind, notUtf8, notWellFormed, endsInside, float, badTypedArray}
 use Rattle.cbor.specs.Widths.{Width, w0, w1, w2, w4, w8, argumentBytes, information, valueFrom}
-use Rattle.cbor.specs.Items.{Kind, Size, definite, indefinite, Chunk, Item, int, string, chunked, array, map, tag, simple, Items, none, more, Pairs, none₂, more₂}
+use Rattle.cbor.specs.Items.{Kind, Size, definite, indefinite, Chunk, Item, chunked, array, map, tag, none, more, none₂}
 use Rattle.cbor.specs.Heads.{Major, integers, strings, arrays, maps, tags, simples, majorNumber, majorOf, Head, Information, argument, reserved, indefinitely, informationOf, isFloat, isAllowed, isIndefinite, taking, started, argued, headBy, nextHead}
 use Rattle.cbor.specs.TypedArrays.{chunksLength, mayTag}
 use Rattle.cbor.specs.Valid.{isText}
-use Rattle.cbor.specs.Decode.{Until, broken, several, content, chunkBy, chunk, Entry, entry, extent, tagged, elements, pair, entries, chunks, Enter, itemBy, itemWith, item}
-use Rattle.cbor.specs.HeadAnswers.{sizeInformation}
+use Rattle.cbor.specs.Decode.{Until, broken, several, content, chunkBy, chunk, entry, extent, tagged, elements, pair, entries, chunks, itemBy, itemWith, item}
 use Rattle.cbor.specs.WalkAnswers.{contents, contentsAll, contentsAll₂, sized, below, entryContents, chunkContents}
 use Rattle.cbor.proofs.DecodeEncode.{enterAt}
-use Rattle.cbor.proofs.Leaves.{Left, Leaves, left-cut, left-weak, left-on, leaves-behind, leaves-bind, leaves-weak, same, leaves-sized, sized-leaves, several-sized, several-leaves}
+use Rattle.cbor.proofs.Leaves.{Left, Leaves, left-cut, left-weak, left-on, leaves-behind, leaves-bind, same, leaves-sized, sized-leaves, several-sized, several-leaves}
 
 -- TAKING
 

@@ -1,39 +1,35 @@
 -- The walk over bytes: an item by its head, and the item behind a tag.
 -- Assumes nothing.
-use Prim.Native.Nat.{ℕ, zero, suc, _+_, _-_, _*_, _/_, _%_, _^_, _≤_, _<_, min}
+use Prim.Native.Nat.{ℕ, zero, suc, _+_, _-_, _*_, _/_, _%_, _^_, _≤_, _<_}
 use native.Mathlib.Omega.{arith}
 use mathlib.Core.Path.{_≡_, refl, sym, ap, _∙_}
 use mathlib.Core.Bool.{Bool, true, false, _&&_}
 use mathlib.Core.List.{List, [], _∷_}
-use lib.Dec.{leb, eqb}
-use lib.ListN.{length, take, drop, getD, length-drop}
-use lib.Seq.{drop-drop}
-use borrow.Author.Tests.{eq-eqb, ne-eqb, le-leb, lt-leb}
+use lib.Dec.{eqb}
+use lib.ListN.{length, take, drop, getD}
+use borrow.Author.Tests.{ne-eqb, le-leb, lt-leb}
 use Rattle.cbor.specs.Refusals.{Result, ok, refuse, bind, tooLong, tooDeep, badTypedArray, notWellFormed}
-use Rattle.cbor.specs.Items.{Sign, unsigned, negative, Kind, byteString, textString, Size, definite, indefinite, Item, int, string, chunked, array, map, tag, simple}
+use Rattle.cbor.specs.Items.{unsigned, negative, Kind, byteString, textString, Size, definite, indefinite, Item, string, chunked, array, map, tag}
 use Rattle.cbor.specs.Heads.{Major, integers, strings, arrays, maps, tags, simples, majorNumber, majorOf, Head, nextHead, isIndefinite}
 use Rattle.cbor.specs.TypedArrays.{chunksLength, elementSize, divides, isTypedArray, mayTag}
-use Rattle.cbor.specs.Decode.{Until, counted, broken, ended, Step, over, another, stepAt, severalBy, several, content, chunk, entry, extent, tagged, elements, entries, chunks, itemBy, itemWith, item, decode}
+use Rattle.cbor.specs.Decode.{Until, broken, ended, content, extent, tagged, elements, entries, chunks, itemBy, itemWith, item, decode}
 use Rattle.cbor.specs.Answers.{kindNumber}
-use Rattle.cbor.specs.HeadAnswers.{headTold, sizeInformation, headAt}
-use Rattle.cbor.specs.WalkAnswers.{WalkTold, made, refused, walkTold, contents, contentsAll, contentsAll₂, sized, toldOf, walkOf, walkAllOf, below, kindOf, entryContents, chunkContents, oneOf, allOf, tagOf, untilOf, turnOf, Inner, Turned, afterTold, Headed, Within, mayTagBy}
+use Rattle.cbor.specs.HeadAnswers.{headTold, headAt}
+use Rattle.cbor.specs.WalkAnswers.{WalkTold, made, refused, walkTold, contents, contentsAll, contentsAll₂, sized, toldOf, walkOf, walkAllOf, below, kindOf, oneOf, allOf, tagOf, untilOf, afterTold, Headed, Within, mayTagBy}
 use Rattle.cbor.specs.declared.refusal.Refusal.{Refusal}
 use Rattle.cbor.specs.declared.refusal.RefusalKind.the-variants.{TooLong, TooDeep, BadTypedArray, NotWellFormed}
 use Rattle.cbor.specs.declared.head.HeadAt.{HeadAt}
 use Rattle.cbor.specs.declared.head.HeadRead.{HeadRead}
-use Rattle.cbor.specs.declared.head.HeadRead.the-variants.{Head as HeadV, Refused as HeadRefusedV}
+use Rattle.cbor.specs.declared.head.HeadRead.the-variants.{Refused as HeadRefusedV}
 use Rattle.cbor.specs.declared.walk.Made.{Made}
 use Rattle.cbor.specs.declared.walk.Walked.{Walked}
 use Rattle.cbor.specs.declared.walk.Walked.the-variants.{Made as MadeV, Refused as RefusedV}
-use Rattle.cbor.specs.declared.walk.Extent.{Extent}
 use Rattle.cbor.specs.declared.walk.Extent.the-variants.{Counted, Broken, Ended}
-use Rattle.cbor.specs.declared.walk.Turn.{Turn}
-use Rattle.cbor.specs.declared.walk.Turn.the-variants.{Over, Another}
 use Rattle.cbor.proofs.DecodeEncode.{enterAt, by-head}
 use Rattle.cbor.proofs.Heads.{major-back}
-use Rattle.cbor.proofs.Leaves.{Left, Leaves, same, leaves-sized, bind-sized}
-use Rattle.cbor.proofs.ItemLeaves.{LowSize, HeadLeft, head-left, chunks-sized, elements-sized, entries-sized, below-leaves}
-use Rattle.cbor.proofs.WalkParts.{Got, got, got-both, headed, head-lost, sized-made, size-definite, size-indefinite}
+use Rattle.cbor.proofs.Leaves.{Leaves, same, leaves-sized}
+use Rattle.cbor.proofs.ItemLeaves.{LowSize, head-left, chunks-sized, elements-sized, entries-sized, below-leaves}
+use Rattle.cbor.proofs.WalkParts.{Got, got, got-both, head-lost, sized-made, size-definite, size-indefinite}
 use Rattle.cbor.proofs.WalkCycle.{at-front, Reached, reached, lost, tail-is, after-told}
 
 -- BYTE STRINGS BY THEIR FIRST BYTE

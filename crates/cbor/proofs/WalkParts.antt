@@ -1,25 +1,24 @@
 -- The walk over bytes: its parts outside the cycle.
 -- Assumes nothing.
-use Prim.Native.Nat.{ℕ, zero, suc, _+_, _-_, _*_, _/_, _%_, _^_, _≤_, _<_, min}
+use Prim.Native.Nat.{ℕ, zero, suc, _+_, _-_, _/_, _%_, _^_, _≤_, _<_}
 use native.Mathlib.Omega.{arith}
 use native.Mathlib.Numerals.{add-one}
 use mathlib.Core.Path.{_≡_, refl, sym, ap, _∙_}
-use mathlib.Core.Bool.{Bool, true, false, _&&_}
+use mathlib.Core.Bool.{Bool, true, false}
 use mathlib.Core.List.{List, [], _∷_}
-use lib.Dec.{leb, eqb}
+use lib.Dec.{eqb}
 use lib.ListN.{length, take, drop, getD, length-drop, length-take, drop-of-length-le}
 use lib.Seq.{drop-cons}
 use borrow.Author.Tests.{le-leb, lt-leb, eq-eqb, ne-eqb}
 use Rattle.cbor.specs.Refusals.{Result, ok, refuse, bind, notUtf8, endsInside, notWellFormed}
-use Rattle.cbor.specs.Widths.{information}
-use Rattle.cbor.specs.Items.{Kind, byteString, textString, Size, definite, indefinite, Chunk}
-use Rattle.cbor.specs.Heads.{Major, strings, majorNumber, majorOf, Head, nextHead, taking, break}
+use Rattle.cbor.specs.Items.{Kind, Size, definite, indefinite, Chunk}
+use Rattle.cbor.specs.Heads.{Major, strings, majorNumber, majorOf, Head, nextHead, taking}
 use Rattle.cbor.specs.Utf8.{firstBad, isUtf8}
 use Rattle.cbor.specs.TypedArrays.{elementSize, isTypedArray}
 use Rattle.cbor.specs.Valid.{isText}
-use Rattle.cbor.specs.Decode.{Until, counted, broken, ended, Step, over, another, stepAt, content, chunkBy, chunk}
+use Rattle.cbor.specs.Decode.{counted, another, stepAt, content, chunkBy, chunk}
 use Rattle.cbor.specs.Answers.{kindNumber}
-use Rattle.cbor.specs.HeadAnswers.{HeadTold, head, refused as headRefused, headTold, sizeInformation, headFrom, headAt}
+use Rattle.cbor.specs.HeadAnswers.{head, headTold, sizeInformation, headFrom, headAt}
 use Rattle.cbor.specs.WalkAnswers.{WalkTold, made, refused, walkTold, sized, toldOf, kindOf, chunkContents, untilOf, turnOf, Inner, Turned, capped, afterTold, Headed, Within, ElementSize, mayTagBy}
 use Rattle.cbor.specs.declared.refusal.Refusal.{Refusal}
 use Rattle.cbor.specs.declared.refusal.RefusalKind.{RefusalKind}
@@ -32,9 +31,7 @@ use Rattle.cbor.specs.declared.walk.Walked.{Walked}
 use Rattle.cbor.specs.declared.walk.Walked.the-variants.{Made as MadeV, Refused as RefusedV}
 use Rattle.cbor.specs.declared.walk.Extent.{Extent}
 use Rattle.cbor.specs.declared.walk.Extent.the-variants.{Counted, Broken, Ended}
-use Rattle.cbor.specs.declared.walk.Turn.{Turn}
 use Rattle.cbor.specs.declared.walk.Turn.the-variants.{Over, Another}
-use Rattle.cbor.proofs.Leaves.{Left}
 use Rattle.cbor.proofs.ItemLeaves.{LowSize, HeadLeft, head-left}
 
 -- ANSWERS

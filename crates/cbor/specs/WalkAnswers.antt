@@ -1,14 +1,14 @@
 -- What the code that walks over bytes answers: where an item ends, and how many bytes of strings are in it.
 use Prim.Native.Nat.{ℕ, zero, suc, _+_, _-_, _%_, _^_, _≤_, _<_, min}
 use mathlib.Core.Path.{_≡_}
-use mathlib.Core.List.{List, [], _∷_}
+use mathlib.Core.List.{List}
 use mathlib.Core.Bool.{Bool, true, false, _&&_}
 use lib.Dec.{eqb}
 use lib.ListN.{length, drop}
 use Rattle.cbor.specs.Refusals.{Result, ok, refuse, bind, tooDeep, badTypedArray}
 use Rattle.cbor.specs.Items.{Kind, byteString, textString, Chunk, Item, int, string, chunked, array, map, tag, simple, Items, none, more, Pairs, none₂, more₂}
 use Rattle.cbor.specs.TypedArrays.{chunksLength, elementSize, isTypedArray, mayTag}
-use Rattle.cbor.specs.Decode.{Until, counted, broken, ended, Step, over, another, stepAt, several, chunk, Entry, entry, item, decode}
+use Rattle.cbor.specs.Decode.{Until, counted, broken, ended, Step, over, another, stepAt, several, chunk, Entry, entry, item}
 use Rattle.cbor.specs.Answers.{kindNumber}
 use Rattle.cbor.specs.HeadAnswers.{headTold, headAt}
 use Rattle.cbor.specs.declared.head.HeadAt.{HeadAt}

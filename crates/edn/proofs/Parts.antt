@@ -1,6 +1,6 @@
 -- The part at a path, as the code finds it.
 -- Assumes nothing.
-use Prim.Native.Nat.{ℕ, zero, suc, _+_, _-_, _*_, _^_, _≤_, _<_}
+use Prim.Native.Nat.{ℕ, suc, _+_, _-_, _*_, _^_, _≤_, _<_}
 use native.Mathlib.Omega.{arith}
 use mathlib.Core.Path.{_≡_, refl, sym, ap, _∙_}
 use mathlib.Core.List.{List, [], _∷_, _++_, append-nil}
@@ -10,7 +10,6 @@ use Rattle.cbor.specs.Items.{Item, Items}
 use Rattle.cbor.specs.Encode.{encode, encodeAll}
 use Rattle.cbor.specs.Valid.{Bytes}
 use Rattle.cbor.specs.Decode.{item as itemAt, decode}
-use Rattle.cbor.specs.Theorems.{Decoded, Parted}
 use Rattle.cbor.specs.Paths.{Spot, Found, found, nowhere, locate, start, end}
 use Rattle.cbor.specs.Answers.{kindNumber}
 use Rattle.cbor.specs.WalkAnswers.{walkTold, contents, contentsAll, sized, toldOf, walkOf, walkAllOf, afterTold}
@@ -27,14 +26,14 @@ use Rattle.cbor.proofs.Paths.{part-at-path}
 use Rattle.cbor.proofs.WalkItems.{part-told}
 use Rattle.edn.specs.Operations.{itemsOf, onward, spotOf, lookUp, partOf}
 use Rattle.edn.specs.Following.{trace}
-use Rattle.edn.specs.Answers.{Checks, LocateTold, part, refused as refusedL, locateTold, locateOf, Ordered, Parts, tracedTo, Still, Traced}
+use Rattle.edn.specs.Answers.{Checks, part, refused as refusedL, locateTold, locateOf, Ordered, Parts, tracedTo, Still, Traced}
 use Rattle.edn.specs.declared.look.Cursor.{Cursor}
 use Rattle.edn.specs.declared.look.Part.{Part}
 use Rattle.edn.specs.declared.look.Located.{Located}
 use Rattle.edn.specs.declared.look.Located.the-variants.{Part as PartV, Refused as PartRefused}
 use Rattle.edn.specs.declared.look.Trace.{Trace}
 use Rattle.edn.specs.declared.look.Trace.the-variants.{At, Lost}
-use Rattle.edn.proofs.Traces.{Sound, SoundAll, spotted, locate-place, locate-sound}
+use Rattle.edn.proofs.Traces.{SoundAll, spotted, locate-place, locate-sound}
 use mir.Syntax.{w8}
 use mir.Val.{Fits}
 

@@ -9,11 +9,10 @@ use lib.Dec.{eqb}
 use lib.ListN.{length, take, drop, getD, length-drop, drop-of-length-le}
 use lib.Seq.{drop-cons}
 use borrow.Author.Tests.{eq-eqb, ne-eqb, eqb-true, eqb-false}
-use Rattle.cbor.specs.Refusals.{Result, ok, refuse, bind, Verdict, accepted, refused as refusedV, verdictOf}
-use Rattle.cbor.specs.Items.{Size, definite, indefinite, Item, Items}
-use Rattle.cbor.specs.Heads.{Major, majorNumber, majorOf, Head, nextHead}
-use Rattle.cbor.specs.Decode.{Until, counted, broken, ended, Step, over, another, stepAt, extent, item as itemAt, decode}
-use Rattle.cbor.specs.Paths.{Found, found, nowhere}
+use Rattle.cbor.specs.Refusals.{Result, ok, refuse, bind, verdictOf}
+use Rattle.cbor.specs.Items.{Size, Item, Items}
+use Rattle.cbor.specs.Heads.{Major, majorNumber, Head, nextHead}
+use Rattle.cbor.specs.Decode.{Until, counted, broken, over, another, stepAt, extent, item as itemAt, decode}
 use Rattle.cbor.specs.Answers.{kindNumber}
 use Rattle.cbor.specs.HeadAnswers.{headTold, sizeInformation, headFrom, headAt}
 use Rattle.cbor.specs.WalkAnswers.{walkTold, sized, toldOf, walkOf, walkAllOf, contents, contentsAll, oneOf, untilOf, turnOf, Turned, afterTold}
@@ -35,7 +34,7 @@ use Rattle.cbor.proofs.WalkCycle.{Reached, reached, one-leaves}
 use Rattle.cbor.proofs.WalkItems.{part-told}
 use Rattle.edn.specs.Operations.{itemsOf}
 use Rattle.edn.specs.Following.{Place, at, astray, onto, behindOne, past, stepTo, nthFrom, childBy, childAt, childIn, numbered, follow, trace}
-use Rattle.edn.specs.Answers.{CheckTold, fine, refused, checkTold, checkOf, placeOf, Inner, Moved, Within, extentBy, tracedTo, Still, Traced, ScanTold, item as itemS, refused as refusedS, scanTold, HeadOf, scanFrom, scanned}
+use Rattle.edn.specs.Answers.{refused, checkTold, checkOf, placeOf, Inner, Moved, Within, extentBy, tracedTo, Still, Traced, item as itemS, refused as refusedS, scanTold, HeadOf, scanFrom, scanned}
 use Rattle.edn.specs.declared.look.Checked.the-variants.{Accepted, Refused as CheckRefused}
 use Rattle.edn.specs.declared.look.Scanned.the-variants.{Item as ItemV, Refused as ScanRefused}
 use Rattle.edn.specs.declared.look.Cursor.{Cursor}

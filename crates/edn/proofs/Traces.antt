@@ -1,27 +1,26 @@
 -- A path followed through the bytes of items leads where the path leads in the items.
 -- Assumes nothing.
-use Prim.Native.Nat.{ℕ, zero, suc, _+_, _-_, _≤_, _<_, max}
+use Prim.Native.Nat.{ℕ, zero, suc, _-_, _≤_}
 use native.Mathlib.Omega.{arith}
 use mathlib.Core.Path.{_≡_, refl, sym, ap, _∙_}
 use mathlib.Core.Bool.{Bool, true, false}
 use mathlib.Core.List.{List, [], _∷_, _++_, append-assoc, append-nil}
-use lib.Dec.{eqb}
 use lib.ListN.{length}
 use borrow.Author.Tests.{ne-eqb}
 use Rattle.cbor.specs.Refusals.{Result, ok, refuse, bind, badTypedArray}
-use Rattle.cbor.specs.Items.{Kind, Size, definite, indefinite, Sign, unsigned, negative, byteString, textString, Item, int, string, chunked, array, map, tag, simple, Items, none, more, Pairs, none₂, more₂, count, count₂, levels, levelsAll, levelsAll₂}
+use Rattle.cbor.specs.Items.{Kind, Size, definite, indefinite, unsigned, negative, byteString, textString, Item, int, string, chunked, array, map, tag, simple, Items, none, more, Pairs, none₂, more₂, count, count₂, levels, levelsAll, levelsAll₂}
 use Rattle.cbor.specs.Heads.{Major, integers, strings, arrays, maps, tags, simples, majorNumber, Head, nextHead, isIndefinite}
 use Rattle.cbor.specs.Encode.{opening, closing, enclosed, encode, encodeAll, encodeAll₂}
 use Rattle.cbor.specs.TypedArrays.{mayTag}
 use Rattle.cbor.specs.Valid.{Fits, Valid, ValidAll, ValidAll₂}
-use Rattle.cbor.specs.Decode.{Until, counted, broken, ended, another, stepAt, content, chunks, elements, entries, entry, extent, tagged, itemBy, item as itemAt}
+use Rattle.cbor.specs.Decode.{Until, ended, content, chunks, elements, entries, entry, extent, tagged, itemBy, item as itemAt}
 use Rattle.cbor.specs.Paths.{Spot, Found, found, nowhere, within, nth, nth₂, child, onward, descend, locate}
 use Rattle.cbor.specs.WalkAnswers.{sized, below, oneOf, entryContents, contents}
 use Rattle.cbor.proofs.Results.{refuse-not-ok}
 use Rattle.cbor.proofs.Several.{tailOf, Meets, Begins, begins-more, step-over, Goes, goes}
 use Rattle.cbor.proofs.DecodeEncode.{enterAt, shown, plain-arrays, plain-maps, Plain, begins, opening-shown, closing-tail, shown-meets, item-of-encode}
 use Rattle.cbor.proofs.WalkItems.{item-eq}
-use Rattle.edn.specs.Following.{Place, at, astray, onto, behindOne, past, stepTo, nthFrom, childBy, childAt, childIn, numbered, follow, trace}
+use Rattle.edn.specs.Following.{Place, at, astray, onto, behindOne, past, nthFrom, childBy, childAt, childIn, numbered, follow, trace}
 use Rattle.edn.proofs.Steps.{nth-none, nth-zero, nth-more}
 
 -- an item that can be read with 16 levels left

@@ -1,7 +1,7 @@
 -- What the code of the byte side answers: check, locate, look up, scan.
-use Prim.Native.Nat.{ℕ, zero, suc, _+_, _-_, _≤_, _<_}
+use Prim.Native.Nat.{ℕ, _-_, _≤_}
 use mathlib.Core.Path.{_≡_}
-use mathlib.Core.List.{List, [], _∷_}
+use mathlib.Core.List.{List}
 use mathlib.Core.Bool.{true, false}
 use lib.Dec.{eqb}
 use lib.ListN.{length, drop}
@@ -15,8 +15,8 @@ use Rattle.cbor.specs.Answers.{kindNumber}
 use Rattle.cbor.specs.HeadAnswers.{sizeInformation}
 use Rattle.cbor.specs.WalkAnswers.{walkTold, walkAllOf}
 use Rattle.cbor.specs.declared.walk.Walked.{Walked}
-use Rattle.edn.specs.Operations.{itemsOf, lookUp}
-use Rattle.edn.specs.Following.{Place, at, astray, follow, trace, numbered}
+use Rattle.edn.specs.Operations.{lookUp}
+use Rattle.edn.specs.Following.{Place, at, astray, trace}
 use Rattle.edn.specs.declared.look.Checked.{Checked}
 use Rattle.edn.specs.declared.look.Checked.the-variants.{Accepted, Refused as CheckRefused}
 use Rattle.edn.specs.declared.look.Located.{Located}

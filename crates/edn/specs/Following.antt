@@ -5,7 +5,7 @@ use mathlib.Core.Bool.{true, false}
 use lib.Dec.{eqb}
 use Rattle.cbor.specs.Refusals.{Result, ok, refuse}
 use Rattle.cbor.specs.Heads.{Head, majorNumber, nextHead}
-use Rattle.cbor.specs.Decode.{Until, counted, broken, ended, Step, over, another, stepAt, extent}
+use Rattle.cbor.specs.Decode.{Until, ended, Step, over, another, stepAt, extent}
 use Rattle.cbor.specs.Paths.{Found, found, nowhere}
 use Rattle.cbor.specs.WalkAnswers.{oneOf}
 

@@ -14,9 +14,9 @@ look-up-spec =
     (λ c. search needs)  -- part-result-start
     (λ c. search needs)  -- part-result-end
     (λ c. search needs)  -- enum-known-found-2
-    (λ c. search look-order)  -- sub-result-2
-    (λ c. search look-order)  -- part-result-start-2
-    (λ c. search look-inside)  -- part-result-end-2
+    (λ c. search (needs, look-order))  -- sub-result-2
+    (λ c. search (needs, look-order))  -- part-result-start-2
+    (λ c. search (needs, look-inside))  -- part-result-end-2
     (λ c. search look-ways)  -- returns
     (λ c. search look-ways)  -- returns-2
     )
