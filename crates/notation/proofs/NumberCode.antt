@@ -25,7 +25,8 @@ use Rattle.notation.specs.declared.amount.Amount.{Amount}
 use Rattle.notation.specs.declared.amount.Digits.{Digits}
 use Rattle.notation.specs.declared.indicator.Mark.{Mark}
 use Rattle.notation.specs.declared.token.Token.{Token as Cut}
-use Rattle.notation.proofs.ScanningElements.{clash, is-in}
+use Rattle.cbor.proofs.Utf8Laws.{is-in}
+use Rattle.notation.proofs.ScanningElements.{clash}
 use Rattle.notation.proofs.Marked.{length-marked, at-byte, at-end, past-end, here}
 use Rattle.notation.proofs.ScanCode.{whether-yes, whether-no}
 use Rattle.notation.proofs.IndicatorCode.{choose-is, chosen-none, chosen-some}
