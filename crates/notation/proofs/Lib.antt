@@ -39,3 +39,5 @@ pub mod LiteralViews
 pub mod StringCode
 pub mod CutCode
 pub mod Taken
+pub mod PrintLeaves
+pub mod PrintHeads

@@ -11,6 +11,7 @@ pub mod Form
 pub mod Reading
 pub mod Places
 pub mod Printing
+pub mod PrintAnswers
 pub mod Theorems
 pub mod Examples
 pub mod Stands

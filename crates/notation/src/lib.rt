@@ -11,3 +11,5 @@ pub mod scan;
 pub mod string;
 pub mod token;
 pub mod word;
+mod put;
+mod tokens;

@@ -1,0 +1,13 @@
+use borrow.Author.Needs.{needs}
+use Rattle.notation.proofs.PrintLeaves.{two}
+use Rattle.notation.proofs.put.backslashed.Statement.{statement}
+use Rattle.notation.proofs.put.backslashed.Tie as tie
+
+pub backslashed-spec : {M : Type 1} → statement M
+backslashed-spec =
+    tie.close (tie.spec
+    (λ c κs. search needs)  -- put-requires
+    (λ c κs. search needs)  -- put-requires-2
+    (λ c. search needs)  -- same-length
+    (λ c. search two)  -- returns
+    )

@@ -1,0 +1,16 @@
+use borrow.Author.Needs.{needs}
+use Rattle.notation.proofs.PrintHeads.{mark-none, mark-some}
+use Rattle.notation.proofs.tokens.indicator.Statement.{statement}
+use Rattle.notation.proofs.tokens.indicator.Tie as tie
+
+pub indicator-spec : {M : Type 1} → statement M
+indicator-spec =
+    tie.close (tie.spec
+    (λ c κs. search needs)  -- is-shortest-requires
+    (λ c. search mark-none)  -- returns
+    (λ c κs. search needs)  -- put-requires
+    (λ c κs. search needs)  -- width-name-requires
+    (λ c κs. search needs)  -- put-requires-2
+    (λ c. search needs)  -- same-length
+    (λ c. search mark-some)  -- returns-2
+    )

@@ -1,0 +1,11 @@
+use Rattle.notation.proofs.tokens.quote.Statement.{statement}
+use Rattle.notation.proofs.tokens.quote.Tie as tie
+use borrow.Author.Needs.{needs}
+use Rattle.notation.proofs.PrintHeads.{quote-ways}
+
+pub quote-spec : {M : Type 1} → statement M
+quote-spec =
+    tie.close (tie.spec
+    (λ c. search quote-ways)  -- returns
+    (λ c. search quote-ways)  -- returns-2
+    )

@@ -1,0 +1,14 @@
+use Rattle.notation.proofs.tokens.width_name.Statement.{statement}
+use Rattle.notation.proofs.tokens.width_name.Tie as tie
+use borrow.Author.Needs.{needs}
+use Rattle.notation.proofs.PrintHeads.{name-ways}
+
+pub width-name-spec : {M : Type 1} → statement M
+width-name-spec =
+    tie.close (tie.spec
+    (λ c. search name-ways)  -- returns
+    (λ c. search name-ways)  -- returns-2
+    (λ c. search name-ways)  -- returns-3
+    (λ c. search name-ways)  -- returns-4
+    (λ c. search name-ways)  -- returns-5
+    )
