@@ -41,3 +41,8 @@ pub mod CutCode
 pub mod Taken
 pub mod PrintLeaves
 pub mod PrintHeads
+pub mod PrintSeveral
+pub mod PrintCycle
+pub mod PrintWays
+pub mod PrintBounds
+pub mod PrintText

@@ -11,5 +11,6 @@ pub mod scan;
 pub mod string;
 pub mod token;
 pub mod word;
+pub mod print;
 mod put;
 mod tokens;

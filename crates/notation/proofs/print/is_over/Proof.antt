@@ -1,0 +1,14 @@
+use borrow.Author.Needs.{needs}
+use Rattle.notation.proofs.PrintSeveral.{over-ways}
+use Rattle.notation.proofs.print.is_over.Statement.{statement}
+use Rattle.notation.proofs.print.is_over.Tie as tie
+
+pub is-over-spec : {M : Type 1} → statement M
+is-over-spec =
+    tie.close (tie.spec
+    (λ c. search over-ways)  -- returns
+    (λ c. search over-ways)  -- returns-2
+    (λ c. search needs)  -- shared-slice-read-result
+    (λ c. search over-ways)  -- returns-3
+    (λ c. search over-ways)  -- returns-4
+    )

@@ -1,0 +1,11 @@
+use Rattle.notation.proofs.print.opening.Statement.{statement}
+use Rattle.notation.proofs.print.opening.Tie as tie
+use borrow.Author.Needs.{needs}
+use Rattle.notation.proofs.PrintSeveral.{opening-ways}
+
+pub opening-spec : {M : Type 1} → statement M
+opening-spec =
+    tie.close (tie.spec
+    (λ c. search opening-ways)  -- returns
+    (λ c. search opening-ways)  -- returns-2
+    )
