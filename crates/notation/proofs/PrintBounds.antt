@@ -1,9 +1,9 @@
 -- The text of an item is at most 40 times as long as its bytes, with what separates it from others.
 -- Assumes nothing.
-use mathlib.Core.Path.{_≡_, refl, sym, ap, _∙_}
+use mathlib.Core.Path.{_≡_, refl}
 use mathlib.Core.Bool.{Bool, true, false, _||_}
 use mathlib.Core.List.{List, [], _∷_, _++_}
-use Prim.Native.Nat.{ℕ, zero, suc, _+_, _-_, _*_, _/_, _%_, _^_, _≤_, _<_}
+use Prim.Native.Nat.{ℕ, zero, suc, _+_, _-_, _*_, _/_, _^_, _≤_, _<_}
 use native.Mathlib.Nat.{pow-suc}
 use native.Mathlib.Omega.{arith}
 use lib.Dec.{eqb, ltb, leb}
@@ -12,9 +12,9 @@ use borrow.Author.Tests.{leb-true, leb-false}
 use Rattle.cbor.specs.Ascii.{ascii}
 use Rattle.cbor.specs.Widths.{Width, w0, w1, w2, w4, w8, argumentBytes, limit, shortest}
 use Rattle.cbor.specs.Items.{Sign, unsigned, negative, Kind, byteString, textString, Size, definite, indefinite, Chunk, Item, int, string, chunked, array, map, tag, simple, Items, none, more, Pairs, none₂, more₂, count, count₂}
-use Rattle.cbor.specs.Heads.{Major, initial, head, break, integers, strings, arrays, maps, tags, simples}
-use Rattle.cbor.specs.Encode.{encodeString, opening, closing, enclosed, encodeChunks, encode, encodeAll, encodeAll₂}
-use Rattle.cbor.specs.Valid.{Valid, ValidAll, ValidAll₂, Fits}
+use Rattle.cbor.specs.Heads.{Major, head, integers, strings, arrays, maps, tags, simples}
+use Rattle.cbor.specs.Encode.{encodeString, opening, enclosed, encodeChunks, encode, encodeAll, encodeAll₂}
+use Rattle.cbor.specs.Valid.{Valid, ValidAll, ValidAll₂}
 use Rattle.cbor.proofs.DecodeEncode.{shortest-simple}
 use Rattle.notation.specs.Words.{falseWord, trueWord, nullWord, undefinedWord, simpleWord}
 use Rattle.notation.specs.Printing.{decimalOf, hexByteOf, hexOf, escapeOf, escapedOf, widthName, indicatorOf, printString, printChunks, printChunked, blankBehind, sizeOf, printSimple, printInt, print, printAll, printRest, printAll₂, printRest₂}

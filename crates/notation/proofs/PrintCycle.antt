@@ -1,25 +1,23 @@
 -- Printing an item: what its head says, and what stands behind it.
 -- Assumes nothing.
 use mathlib.Core.Path.{_≡_, refl, sym, ap, _∙_}
-use mathlib.Core.Bool.{Bool, true, false, not, _||_, false≢true}
-use mathlib.Core.List.{List, [], _∷_, _++_, append-assoc, append-nil}
-use Prim.Native.Nat.{ℕ, zero, suc, _+_, _-_, _*_, _/_, _%_, _^_, _≤_, _<_}
+use mathlib.Core.Bool.{Bool, true, false, not, _||_}
+use mathlib.Core.List.{List, [], _∷_, _++_, append-assoc}
+use Prim.Native.Nat.{ℕ, zero, suc, _+_, _-_, _/_, _%_, _≤_, _<_}
 use native.Mathlib.Omega.{arith}
 use lib.Dec.{T, leb, eqb}
-use lib.ListN.{length, take, drop, getD, length-drop, drop-of-length-le}
+use lib.ListN.{length, take, drop, length-drop}
 use lib.Seq.{drop-drop}
-use mir.Syntax.{w64 as bits64}
-use mir.Val.{Fits}
-use borrow.Author.Tests.{eq-eqb, ne-eqb, eqb-true, eqb-false, le-leb, leb-true, leb-false}
+use borrow.Author.Tests.{ne-eqb, eqb-true, eqb-false, leb-true}
 use Rattle.cbor.specs.Ascii.{ascii}
 use Rattle.cbor.specs.Refusals.{Result, ok, refuse, bind, float}
 use Rattle.cbor.specs.Widths.{Width, w0, w1, w2, w4, w8, argumentBytes, information, valueFrom}
-use Rattle.cbor.specs.Items.{Sign, unsigned, negative, Kind, byteString, textString, Size, definite, indefinite, Chunk, Item, int, string, chunked, array, map, tag, simple, Items, none, more, Pairs, none₂, more₂, count, count₂}
+use Rattle.cbor.specs.Items.{Sign, Kind, byteString, textString, Size, definite, indefinite, Chunk, Item, int, string, chunked, array, map, tag, simple, Items, none, more, Pairs, none₂, more₂, count, count₂}
 use Rattle.cbor.specs.Heads.{Major, integers, strings, arrays, maps, tags, simples, majorNumber, majorOf, Head, Information, argument, reserved, indefinitely, informationOf, isFloat, isAllowed, isIndefinite, taking, started, argued, headBy, nextHead}
-use Rattle.cbor.specs.Decode.{Until, counted, broken, ended, several, content, chunkBy, chunk, Entry, entry, extent, tagged, elements, pair, entries, chunks, itemBy, item}
+use Rattle.cbor.specs.Decode.{content, extent, tagged, elements, entries, chunks, itemBy, item}
 use Rattle.cbor.specs.TypedArrays.{mayTag}
 use Rattle.cbor.specs.Valid.{isText}
-use Rattle.cbor.specs.HeadAnswers.{HeadTold, head as toldHead, refused, headTold, sizeInformation, headFrom, headAt}
+use Rattle.cbor.specs.HeadAnswers.{head as toldHead, headTold, sizeInformation, headFrom, headAt}
 use Rattle.cbor.specs.declared.refusal.Refusal.{Refusal}
 use Rattle.cbor.specs.declared.head.HeadAt.{HeadAt}
 use Rattle.cbor.specs.declared.head.HeadRead.{HeadRead}
@@ -27,13 +25,11 @@ use Rattle.cbor.specs.declared.head.HeadRead.the-variants.{Head as HeadV, Refus
 use Rattle.cbor.proofs.Results.{refuse-not-ok}
 use Rattle.cbor.proofs.Table.{between}
 use Rattle.cbor.proofs.Heads.{major-back, major-most, taking-yes}
-use Rattle.cbor.proofs.DecodeEncode.{enterAt, by-head}
-use Rattle.notation.specs.Printing.{indicatorOf, sizeOf, printInt, printString, printChunks, printChunked, print, printAll, printRest, printAll₂, printRest₂, printSimple}
-use Rattle.notation.specs.PrintAnswers.{capped, Prints, widthBy, sizeBy, signOf, kindOf, mapped, below, entryText, chunkText, oneOf, allOf, untilBy, modeBy, Turned, stepBy, separatorOf, joined, openingBy, closingBy, containerText, chunkedText, tagText, Done, Told, Headed, Within}
-use Rattle.notation.specs.declared.print.Printed.{Printed}
-use Rattle.notation.proofs.PrintLeaves.{prints-more, prints-as, prints-none}
+use Rattle.cbor.proofs.DecodeEncode.{enterAt}
+use Rattle.notation.specs.Printing.{printString, printChunks, printChunked, print, printAll, printRest, printAll₂, printRest₂}
+use Rattle.notation.specs.PrintAnswers.{widthBy, sizeBy, below, entryText, chunkText, separatorOf, joined, chunkedText, Headed, Within}
 use Rattle.notation.proofs.PrintHeads.{width-low}
-use Rattle.notation.proofs.PrintSeveral.{Both, bind-ok, From, mapped-ok, mapped-is, several-as, counted-all, told-via, told-none}
+use Rattle.notation.proofs.PrintSeveral.{bind-ok}
 
 -- THE HEAD
 

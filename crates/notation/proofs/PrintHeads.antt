@@ -2,20 +2,19 @@
 -- Assumes nothing.
 use mathlib.Core.Path.{_≡_, refl, sym, ap, _∙_}
 use mathlib.Core.Bool.{Bool, true, false}
-use mathlib.Core.List.{List, [], _∷_, _++_, append-assoc, append-nil}
-use Prim.Native.Nat.{ℕ, zero, suc, _+_, _-_, _*_, _^_, _≤_, _<_}
+use mathlib.Core.List.{List, [], _∷_, _++_}
+use Prim.Native.Nat.{ℕ, suc, _+_, _-_, _*_, _^_, _≤_, _<_}
 use native.Mathlib.Omega.{arith}
 use lib.Dec.{leb, eqb}
 use lib.ListN.{length}
 use mir.Syntax.{w64 as bits64}
 use mir.Val.{Fits}
-use borrow.Author.Tests.{eq-eqb, ne-eqb, leb-true}
+use borrow.Author.Tests.{ne-eqb, leb-true}
 use Rattle.cbor.specs.Ascii.{ascii}
 use Rattle.cbor.specs.Widths.{Width, w0, w1, w2, w4, w8, argumentBytes, limit, fits, shortest, information}
-use Rattle.cbor.specs.Items.{Sign, unsigned, negative, Kind, byteString, textString, Size, definite, indefinite}
+use Rattle.cbor.specs.Items.{Size, definite}
 use Rattle.cbor.specs.HeadAnswers.{argumentSize}
-use Rattle.notation.specs.Words.{falseWord, trueWord, nullWord, undefinedWord, simpleWord}
-use Rattle.notation.specs.Printing.{decimalOf, hexOf, escapedOf, widthName, indicatorOf, blankBehind, sizeOf, printSimple, printInt, printString, printChunked}
+use Rattle.notation.specs.Printing.{decimalOf, widthName, indicatorOf, blankBehind, sizeOf, printSimple, printInt, printString, printChunked}
 use Rattle.notation.specs.PrintAnswers.{Prints, contentOf, widthBy, sizeBy, signOf, kindOf, quoteOf, openQuote, otherSimple}
 use Rattle.notation.proofs.PrintLeaves.{prints-more, prints-as, prints-none}
 

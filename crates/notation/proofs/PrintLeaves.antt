@@ -1,20 +1,20 @@
 -- Printing into a buffer: one part behind the other, and the parts that the code writes.
 -- Assumes nothing.
 use mathlib.Core.Path.{_≡_, refl, sym, ap, _∙_}
-use mathlib.Core.Bool.{Bool, true, false, _||_}
+use mathlib.Core.Bool.{Bool, true, false}
 use mathlib.Core.List.{List, [], _∷_, _++_, append-assoc, append-nil}
-use Prim.Native.Nat.{ℕ, zero, suc, _+_, _-_, _*_, _/_, _%_, _^_, _≤_, _<_, min}
+use Prim.Native.Nat.{ℕ, zero, suc, _+_, _-_, _*_, _/_, _%_, _^_, _≤_, _<_}
 use native.Mathlib.Numerals.{add-one}
 use native.Mathlib.Omega.{arith}
-use lib.Dec.{ltb, eqb}
-use lib.ListN.{length, take, drop, set, getD, length-append, length-set}
+use lib.Dec.{ltb}
+use lib.ListN.{length, take, set, getD, length-append, length-set}
 use lib.Seq.{take-suc}
 use mir.Syntax.{w64 as bits64}
 use mir.Val.{Fits}
-use borrow.Author.Tests.{ltb-true, ltb-false, lt-ltb, le-ltb, eq-eqb, ne-eqb}
+use borrow.Author.Tests.{ltb-false, lt-ltb, le-ltb, eq-eqb, ne-eqb}
 use Rattle.cbor.specs.Ascii.{ascii}
 use Rattle.cbor.specs.Buffer.{over}
-use Rattle.cbor.proofs.Buffer.{over-nil, over-one, over-more, length-over}
+use Rattle.cbor.proofs.Buffer.{over-nil, over-one, over-more}
 use Rattle.notation.specs.Printing.{decimalWithin, decimalOf, hexDigitOf, hexByteOf, hexOf, escapeOf, escapedOf}
 use Rattle.notation.specs.PrintAnswers.{capped, Prints, contentOf}
 

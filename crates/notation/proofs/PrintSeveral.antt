@@ -7,12 +7,11 @@ use Prim.Native.Nat.{ℕ, zero, suc, _+_, _-_, _*_, _^_, _≤_, _<_}
 use native.Mathlib.Nat.{add-zero}
 use native.Mathlib.Omega.{arith}
 use lib.Dec.{leb, eqb}
-use lib.ListN.{length, drop, getD, length-drop, drop-of-length-le}
+use lib.ListN.{length, drop, getD, drop-of-length-le}
 use mir.Syntax.{w64 as bits64}
 use mir.Val.{Fits}
-use borrow.Author.Tests.{eq-eqb, ne-eqb, eqb-true, eqb-false, leb-true, leb-false, not-true, not-false}
+use borrow.Author.Tests.{eq-eqb, ne-eqb, leb-true, leb-false, not-true, not-false}
 use Rattle.cbor.specs.Refusals.{Result, ok, refuse, bind}
-use Rattle.cbor.specs.Heads.{break}
 use Rattle.cbor.specs.Decode.{Until, counted, broken, ended, Step, over, another, stepAt, severalBy, severalWithin, several}
 use Rattle.cbor.proofs.Results.{refuse-not-ok}
 use Rattle.cbor.proofs.Lists.{front}
@@ -50,6 +49,9 @@ pub mapped-is : {A B : Type 0} (f : A → B) {res : Result A} {x : A} {y : B} {r
 unfolding mapped
 mapped-is f {res} {x} {y} {r} e q = ap (mapped f) e ∙ ap (λ z. ok z r) (sym q)
 
+pub ok-rest : {A : Type 0} {res : Result A} {x : A} {t r : List ℕ} → res ≡ ok x t → t ≡ r → res ≡ ok x r
+ok-rest {x = x} e p = e ∙ ap (ok x) p
+
 -- SEVERAL, AS TEXTS
 
 module _ {A L : Type 0} (nil : L) (cons : A → L → L) (rd : List ℕ → Result A) (f : A → List ℕ) (g : L → List (List ℕ)) (rd′ : List ℕ → Result (List ℕ)) (gn : g nil ≡ [])
@@ -70,7 +72,7 @@ module _ {A L : Type 0} (nil : L) (cons : A → L → L) (rd : List ℕ → Resu
           let p = bind-ok (rd s) _ e in
           let q = bind-ok (severalWithin nil cons rd n v (p .rest)) _ (p .second) in
           let w : q .rest ≡ r = cc (q .second) in
-          let i = ih v (p .rest) (q .value) (q .first ∙ ap (ok (q .value)) w) in
+          let i = ih v (p .rest) (q .value) (ok-rest (q .first) w) in
           let a : rd′ s ≡ ok (f (p .value)) (p .rest) = er s ∙ mapped-is f (p .first) refl in
           let c : cons (p .value) (q .value) ≡ xs = cc (q .second) in
           let z : f (p .value) ∷ g (q .value) ≡ g xs = sym (gc (p .value) (q .value)) ∙ ap g c in
@@ -118,11 +120,11 @@ module _ (rd : List ℕ → Result (List ℕ)) where
   unfolding severalWithin severalBy
   next zero u v s e h = absurd (refuse-not-ok e)
   next (suc f) u v s {ts} {r} e h =
-      let k = ap (λ (st : Step). severalBy [] _∷_ rd (severalWithin [] _∷_ rd f) st s) (sym h) ∙ e in
+      let k : severalBy [] _∷_ rd (severalWithin [] _∷_ rd f) (another v) s ≡ ok ts r = ap (λ (st : Step). severalBy [] _∷_ rd (severalWithin [] _∷_ rd f) st s) (sym h) ∙ e in
       let p = bind-ok (rd s) _ k in
       let q = bind-ok (severalWithin [] _∷_ rd f v (p .rest)) _ (p .second) in
       let w : q .rest ≡ r = cc (q .second) in
-      record { fuel = f; text = p .value; rest = p .rest; more = q .value; one = p .first; on = q .first ∙ ap (ok (q .value)) w; is = cc (q .second) }
+      record { fuel = f; text = p .value; rest = p .rest; more = q .value; one = p .first; on = ok-rest (q .first) w; is = cc (q .second) }
 
 -- WHETHER IT IS OVER
 

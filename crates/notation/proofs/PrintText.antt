@@ -3,14 +3,14 @@
 use mathlib.Core.Path.{_≡_, refl, sym, ap, _∙_}
 use mathlib.Core.Bool.{Bool, true, false}
 use mathlib.Core.List.{List, [], _∷_, _++_}
-use Prim.Native.Nat.{ℕ, zero, suc, _+_, _-_, _*_, _^_, _≤_, _<_}
+use Prim.Native.Nat.{ℕ, suc, _+_, _-_, _^_, _<_}
 use native.Mathlib.Omega.{arith}
 use lib.Dec.{leb}
 use lib.ListN.{length, drop, getD, length-append}
 use mir.Syntax.{w8 as bits8}
 use mir.Val.{Fits}
 use Rattle.cbor.specs.Ascii.{ascii}
-use Rattle.cbor.specs.Refusals.{Result, ok, refuse}
+use Rattle.cbor.specs.Refusals.{ok, refuse}
 use Rattle.cbor.specs.Buffer.{over}
 use Rattle.cbor.specs.Items.{Items, none, more}
 use Rattle.cbor.specs.Encode.{encodeAll}
@@ -20,7 +20,7 @@ use Rattle.cbor.specs.Theorems.{Decoded}
 use Rattle.cbor.proofs.Buffer.{over-nil}
 use Rattle.cbor.proofs.Results.{refuse-not-ok}
 use Rattle.cbor.proofs.EncodeDecode.{encode-of-decode}
-use Rattle.notation.specs.Printing.{print, printAll, printText}
+use Rattle.notation.specs.Printing.{print, printText}
 use Rattle.notation.specs.PrintAnswers.{Prints, mapped, below, oneOf, allOf, untilBy, joined, Told, PrintedAll}
 use Rattle.notation.specs.declared.print.Printed.{Printed}
 use Rattle.notation.proofs.PrintLeaves.{prints-more, prints-as}
@@ -54,10 +54,11 @@ nil-of (b ∷ s) h = absurd (omega arith)
 pub text-none : {s b : List ℕ} → length s ≡ 0 → PrintedAll s b b 0
 unfolding printText
 text-none {s} {b} h =
+    let k : (xs : Items) → decode s ≡ ok xs [] → none ≡ xs = λ xs e. none-of xs (ap decode (nil-of s h) ∙ e) in
     record {
-      done = λ xs e.
-          let k = none-of xs (ap decode (nil-of s h) ∙ e) in
-          (ap (λ (y : Items). length (printText y)) k, λ l. sym (over-nil b 0) ∙ ap (λ (y : Items). over b 0 (printText y)) k);
+      same = refl;
+      size = λ xs e. ap (λ (y : Items). length (printText y)) (k xs e);
+      is = λ xs e l. sym (over-nil b 0) ∙ ap (λ (y : Items). over b 0 (printText y)) (k xs e);
     }
 
 module _ (s : List ℕ) (g : (i : ℕ) → Fits bits8 (getD s i 0)) (n : length s ≡ 0 → ⊥) where
@@ -84,13 +85,14 @@ module _ (s : List ℕ) (g : (i : ℕ) → Fits bits8 (getD s i 0)) (n : length 
             read = mapped-is (joined 0x0a true) a refl;
           }
 
-  pub text-all : {b b₁ b₂ : List ℕ} {r : ℕ} {part : Printed} → Told s 0 b b₁ 0 part (mapped (joined 0x0a true) (allOf 4 17 (untilBy 2 0) (drop 0 s)))
-      → Prints b₁ b₂ (part .pos) (0x0a ∷ []) r → PrintedAll s b b₂ r
-  text-all t p =
-      record {
-        done = λ xs e.
-            let k = text-of xs e in
-            let d = t .done (joined 0x0a true (itemTexts xs)) [] (k .read) in
-            let f = prints-as (k .is) (prints-more (d .prints) p) in
-            (omega (arith, f .next, k .short), λ h. f .is (omega arith));
-      }
+  module _ {b b₁ b₂ : List ℕ} {r : ℕ} {part : Printed} (t : Told s 0 b b₁ 0 part (mapped (joined 0x0a true) (allOf 4 17 (untilBy 2 0) (drop 0 s)))) (p : Prints b₁ b₂ (part .pos) (0x0a ∷ []) r) where
+    whole : (xs : Items) → decode s ≡ ok xs [] → Prints b b₂ 0 (printText xs) r
+    whole xs e = let k = text-of xs e in prints-as (k .is) (prints-more (t .done (joined 0x0a true (itemTexts xs)) [] (k .read) .prints) p)
+
+    pub text-all : PrintedAll s b b₂ r
+    text-all =
+        record {
+          same = p .same ∙ t .same;
+          size = λ xs e. omega (arith, whole xs e .next, text-of xs e .short);
+          is = λ xs e h. whole xs e .is (omega arith);
+        }

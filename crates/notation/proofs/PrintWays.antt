@@ -1,36 +1,32 @@
 -- Printing an item: each way to a return.
 -- Assumes nothing.
 use mathlib.Core.Path.{_≡_, refl, sym, ap, _∙_}
-use mathlib.Core.Bool.{Bool, true, false, not}
-use mathlib.Core.List.{List, [], _∷_, _++_, append-assoc, append-nil}
+use mathlib.Core.Bool.{Bool, true, false}
+use mathlib.Core.List.{List, [], _∷_, _++_, append-assoc}
 use Prim.Native.Nat.{ℕ, zero, suc, _+_, _-_, _*_, _/_, _^_, _≤_, _<_}
-use native.Mathlib.Nat.{add-zero}
 use native.Mathlib.Omega.{arith}
 use lib.Dec.{eqb}
 use lib.ListN.{length, take, drop, length-drop}
 use lib.Seq.{drop-drop}
-use mir.Syntax.{w64 as bits64}
-use mir.Val.{Fits}
-use borrow.Author.Tests.{ne-eqb, eqb-true}
+use borrow.Author.Tests.{ne-eqb}
 use Rattle.cbor.specs.Ascii.{ascii}
 use Rattle.cbor.specs.Refusals.{Result, ok, refuse, bind}
-use Rattle.cbor.specs.Items.{Sign, unsigned, negative, Kind, byteString, textString, Size, definite, indefinite, Chunk, Item, int, string, chunked, array, map, tag, simple, Items, none, more, Pairs, none₂, more₂, count, count₂}
+use Rattle.cbor.specs.Items.{unsigned, Kind, Size, definite, indefinite, Chunk, Item, array, map, Items, none, more, Pairs, none₂, count, count₂}
 use Rattle.cbor.specs.Heads.{Major, integers, strings, arrays, maps, tags, simples, majorNumber, majorOf, Head, taking, nextHead}
-use Rattle.cbor.specs.Decode.{Until, counted, broken, ended, several, content, chunkBy, chunk, Entry, entry, extent, elements, pair, entries, chunks, itemBy, itemWith, item}
+use Rattle.cbor.specs.Decode.{Until, broken, several, content, chunkBy, chunk, entry, extent, elements, pair, entries, chunks, itemBy, itemWith, item}
 use Rattle.cbor.specs.HeadAnswers.{headTold, headAt}
 use Rattle.cbor.specs.declared.refusal.Refusal.{Refusal}
 use Rattle.cbor.specs.declared.head.HeadAt.{HeadAt}
 use Rattle.cbor.specs.declared.head.HeadRead.{HeadRead}
 use Rattle.cbor.specs.declared.head.HeadRead.the-variants.{Head as HeadV, Refused as RefusedV}
 use Rattle.cbor.proofs.Results.{refuse-not-ok}
-use Rattle.cbor.proofs.Heads.{taking-yes}
 use Rattle.cbor.proofs.DecodeEncode.{enterAt, by-head}
-use Rattle.notation.specs.Printing.{sizeOf, printInt, printString, printChunked, print, printAll, printAll₂, printSimple}
-use Rattle.notation.specs.PrintAnswers.{capped, Prints, widthBy, sizeBy, signOf, kindOf, mapped, below, entryText, chunkText, oneOf, allOf, untilBy, modeBy, behindBy, stepBy, Turned, joined, openingBy, closingBy, containerText, chunkedText, tagText, Done, Told, Headed, Within}
+use Rattle.notation.specs.Printing.{sizeOf, printInt, printString, printChunked, print, printSimple}
+use Rattle.notation.specs.PrintAnswers.{capped, Prints, widthBy, sizeBy, signOf, kindOf, mapped, below, entryText, chunkText, oneOf, allOf, untilBy, modeBy, behindBy, stepBy, Turned, joined, openingBy, closingBy, containerText, chunkedText, tagText, Told, Headed, Within}
 use Rattle.notation.specs.declared.print.Printed.{Printed}
 use Rattle.notation.proofs.PrintLeaves.{prints-more, prints-as}
-use Rattle.notation.proofs.PrintSeveral.{bind-ok, mapped-ok, mapped-is, several-as, counted-all, last, next, told-via, told-none}
-use Rattle.notation.proofs.PrintCycle.{Taken, taking-ok, lost, headed, by-size, Inner, made, content-ok, int-of, simple-of, string-of, chunked-of, array-of, map-of, tag-of, itemTexts, pairTexts, chunkTexts, all-joined, all-joined₂, chunked-joined, count-texts, count-texts₂}
+use Rattle.notation.proofs.PrintSeveral.{bind-ok, ok-rest, mapped-ok, mapped-is, several-as, counted-all, last, next, told-via, told-none}
+use Rattle.notation.proofs.PrintCycle.{taking-ok, lost, headed, by-size, content-ok, int-of, simple-of, string-of, chunked-of, array-of, map-of, tag-of, itemTexts, pairTexts, chunkTexts, all-joined, all-joined₂, chunked-joined, count-texts, count-texts₂}
 
 -- STRINGS
 
@@ -72,7 +68,7 @@ chunk-by t i n left r₀ {c} {r} =
     let m = bind-ok (content (kindOf t) n left r₀) _ e in
     let q : m .rest ≡ r = cc (m .second) in
     let y : record { width = widthBy i; content = m .value } ≡ c = cc (m .second) in
-    mapped-is (printString (kindOf t) (widthBy i)) (content-ok (kindOf t) n left r₀ (m .first) ∙ ap (ok (m .value)) q) (ap (chunkText (kindOf t)) (sym y)))
+    mapped-is (printString (kindOf t) (widthBy i)) (ok-rest (content-ok (kindOf t) n left r₀ (m .first)) q) (ap (chunkText (kindOf t)) (sym y)))
 
 record ChunkOf (k : Kind) (s : List ℕ) (c : Chunk) (r : List ℕ) : Type 0 where
   head : Head
@@ -328,7 +324,7 @@ module _ (s : List ℕ) (at d : ℕ) {b b₁ : List ℕ} {pos : ℕ} where
             let u : v .rest ≡ r = cc (v .second) in
             let w : record { key = k .value; value = v .value } ≡ m .value = cc (v .second) in
             let i = x .done (print (k .value)) (k .rest) (mapped-is print (k .first) refl) in
-            let j = z .done (print (v .value)) r (mapped-is print (ap (below d) (i .drops) ∙ v .first ∙ ap (ok (v .value)) u) refl) in
+            let j = z .done (print (v .value)) r (mapped-is print (ap (below d) (i .drops) ∙ ok-rest (v .first) u) refl) in
             record {
               ahead = omega (arith, i .ahead, j .ahead);
               inside = j .inside;

@@ -160,4 +160,9 @@ pub record Within (s : List ℕ) (from : ℕ) : Type 0 where
 
 -- a whole text: its length, and it stands at the front of the buffer if it fits
 pub record PrintedAll (s b b′ : List ℕ) (r : ℕ) : Type 0 where
-  pub done : (xs : Items) → decode s ≡ ok xs [] → (r ≡ length (printText xs)) × (length (printText xs) ≤ length b → b′ ≡ overBuffer b 0 (printText xs))
+  pub same : length b′ ≡ length b
+  pub size : (xs : Items) → decode s ≡ ok xs [] → r ≡ length (printText xs)
+  pub is : (xs : Items) → decode s ≡ ok xs [] → length (printText xs) ≤ length b → b′ ≡ overBuffer b 0 (printText xs)
+
+pub record TextSize (s : List ℕ) (r : ℕ) : Type 0 where
+  pub size : (xs : Items) → decode s ≡ ok xs [] → r ≡ length (printText xs)

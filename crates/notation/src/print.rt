@@ -13,7 +13,7 @@ ghost use lib.Dec.{eqb};
 ghost use Rattle.cbor.specs.Heads.{taking};
 ghost use Rattle.cbor.specs.Decode.{chunk, entry, item};
 ghost use Rattle.notation.specs.Printing.{print, printString};
-ghost use Rattle.notation.specs.PrintAnswers.{Prints, capped, kindOf, widthBy, mapped, below, entryText, chunkText, oneOf, allOf, untilBy, modeBy, behindBy, Turned, separatorOf, joined, openingBy, closingBy, containerText, chunkedText, tagText, Told, Headed, Within, PrintedAll};
+ghost use Rattle.notation.specs.PrintAnswers.{Prints, capped, kindOf, widthBy, mapped, below, entryText, chunkText, oneOf, allOf, untilBy, modeBy, behindBy, Turned, separatorOf, joined, openingBy, closingBy, containerText, chunkedText, tagText, Told, Headed, Within, PrintedAll, TextSize};
 
 pub struct Printed {
     pub end: usize,
@@ -326,4 +326,12 @@ pub fn print_items(bytes: &[u8], out: &mut [u8]) -> usize
     }
     let part = several(bytes, 0, 2, 0, 4, 17, 0x0a, out, 0);
     put::put(out, part.pos, 0x0a)
+}
+
+// The length of that text.
+pub fn text_size(bytes: &[u8]) -> usize
+    ensures { λ r. ⌜ TextSize (now (bytes .entry)) r ⌝ }
+{
+    let mut none = [0u8; 1];
+    print_items(bytes, &mut none)
 }

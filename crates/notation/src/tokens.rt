@@ -2,7 +2,7 @@
 use crate::put;
 use cbor::head;
 ghost use mathlib.Core.Path.{_≡_};
-ghost use mathlib.Core.List.{[], _∷_};
+ghost use mathlib.Core.List.{[]};
 ghost use lib.Dec.{eqb};
 ghost use Rattle.cbor.specs.Widths.{argumentBytes, shortest};
 ghost use Rattle.notation.specs.Printing.{widthName, indicatorOf, sizeOf, printSimple, printInt, printString, printChunked};

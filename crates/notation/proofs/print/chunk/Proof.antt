@@ -1,3 +1,5 @@
+-- `notation::print::chunk` meets its contract.
+-- Assumes nothing.
 use borrow.Author.Needs.{needs}
 use Rattle.notation.proofs.PrintWays.{chunk-ways}
 use Rattle.notation.proofs.PrintCycle.{headed-within}

@@ -1,3 +1,5 @@
+-- `notation::print::closing` meets its contract.
+-- Assumes nothing.
 use Rattle.notation.proofs.print.closing.Statement.{statement}
 use Rattle.notation.proofs.print.closing.Tie as tie
 use borrow.Author.Needs.{needs}

@@ -1,3 +1,5 @@
+-- `notation::print::is_over` meets its contract.
+-- Assumes nothing.
 use borrow.Author.Needs.{needs}
 use Rattle.notation.proofs.PrintSeveral.{over-ways}
 use Rattle.notation.proofs.print.is_over.Statement.{statement}

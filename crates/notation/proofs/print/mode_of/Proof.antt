@@ -1,3 +1,5 @@
+-- `notation::print::mode_of` meets its contract.
+-- Assumes nothing.
 use Rattle.notation.proofs.print.mode_of.Statement.{statement}
 use Rattle.notation.proofs.print.mode_of.Tie as tie
 use borrow.Author.Needs.{needs}

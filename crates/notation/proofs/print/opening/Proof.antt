@@ -1,3 +1,5 @@
+-- `notation::print::opening` meets its contract.
+-- Assumes nothing.
 use Rattle.notation.proofs.print.opening.Statement.{statement}
 use Rattle.notation.proofs.print.opening.Tie as tie
 use borrow.Author.Needs.{needs}

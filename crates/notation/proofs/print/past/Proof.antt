@@ -1,3 +1,5 @@
+-- `notation::print::past` meets its contract.
+-- Assumes nothing.
 use borrow.Author.Needs.{needs}
 use Rattle.notation.proofs.PrintSeveral.{past-ways}
 use Rattle.notation.proofs.print.past.Statement.{statement}

@@ -1,3 +1,5 @@
+-- `notation::print::print_items` meets its contract.
+-- Assumes nothing.
 use borrow.Author.Needs.{needs}
 use Rattle.notation.proofs.PrintText.{text-none, text-all}
 use Rattle.notation.proofs.print.print_items.Statement.{statement}

@@ -1,3 +1,5 @@
+-- `notation::print::separator` meets its contract.
+-- Assumes nothing.
 use borrow.Author.Needs.{needs}
 use Rattle.notation.proofs.PrintSeveral.{separator-ways}
 use Rattle.notation.proofs.print.separator.Statement.{statement}

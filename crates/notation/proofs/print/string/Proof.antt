@@ -1,3 +1,5 @@
+-- `notation::print::string` meets its contract.
+-- Assumes nothing.
 use borrow.Author.Needs.{needs}
 use Rattle.notation.proofs.PrintWays.{string-ways}
 use Rattle.notation.proofs.print.string.Statement.{statement}

@@ -1,3 +1,5 @@
+-- `notation::put::decimal` meets its contract.
+-- Assumes nothing.
 use Prim.Native.Nat.{ℕ, _<_}
 use borrow.Fn.Kinds.{In}
 use borrow.Fn.PlainCycle.{Measures, is, falls, and}

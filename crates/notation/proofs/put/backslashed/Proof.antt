@@ -1,3 +1,5 @@
+-- `notation::put::backslashed` meets its contract.
+-- Assumes nothing.
 use borrow.Author.Needs.{needs}
 use Rattle.notation.proofs.PrintLeaves.{two}
 use Rattle.notation.proofs.put.backslashed.Statement.{statement}

@@ -1,3 +1,5 @@
+-- `notation::put::content` meets its contract.
+-- Assumes nothing.
 use Rattle.notation.proofs.put.content.Statement.{statement}
 use Rattle.notation.proofs.put.content.Tie as tie
 use borrow.Author.Needs.{needs}

@@ -1,3 +1,5 @@
+-- `notation::put::content_byte` meets its contract.
+-- Assumes nothing.
 use borrow.Author.Needs.{needs}
 use Rattle.notation.proofs.PrintLeaves.{content-ways}
 use Rattle.notation.proofs.put.content_byte.Statement.{statement}

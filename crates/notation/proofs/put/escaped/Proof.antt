@@ -1,3 +1,5 @@
+-- `notation::put::escaped` meets its contract.
+-- Assumes nothing.
 use borrow.Author.Needs.{needs}
 use Rattle.notation.proofs.PrintLeaves.{escape-ways}
 use Rattle.notation.proofs.put.escaped.Statement.{statement}

@@ -1,3 +1,5 @@
+-- `notation::put::hex_byte` meets its contract.
+-- Assumes nothing.
 use borrow.Author.Needs.{needs}
 use Rattle.notation.proofs.PrintLeaves.{hex-two}
 use Rattle.notation.proofs.put.hex_byte.Statement.{statement}

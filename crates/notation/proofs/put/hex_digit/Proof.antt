@@ -1,3 +1,5 @@
+-- `notation::put::hex_digit` meets its contract.
+-- Assumes nothing.
 use borrow.Author.Needs.{needs}
 use Rattle.notation.proofs.PrintLeaves.{hex-ways}
 use Rattle.notation.proofs.put.hex_digit.Statement.{statement}

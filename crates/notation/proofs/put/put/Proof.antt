@@ -1,3 +1,5 @@
+-- `notation::put::put` meets its contract.
+-- Assumes nothing.
 use borrow.Author.Needs.{needs}
 use Rattle.notation.proofs.PrintLeaves.{put-in, put-past}
 use Rattle.notation.proofs.put.put.Statement.{statement}

@@ -1,3 +1,5 @@
+-- `notation::put::put_all` meets its contract.
+-- Assumes nothing.
 use Rattle.notation.proofs.put.put_all.Statement.{statement}
 use Rattle.notation.proofs.put.put_all.Tie as tie
 use borrow.Author.Needs.{needs}

@@ -1,3 +1,5 @@
+-- `notation::put::successor` meets its contract.
+-- Assumes nothing.
 use borrow.Author.Needs.{needs}
 use Rattle.notation.proofs.PrintLeaves.{next-ways}
 use Rattle.notation.proofs.put.successor.Statement.{statement}

@@ -1,3 +1,5 @@
+-- `notation::tokens::indicator` meets its contract.
+-- Assumes nothing.
 use borrow.Author.Needs.{needs}
 use Rattle.notation.proofs.PrintHeads.{mark-none, mark-some}
 use Rattle.notation.proofs.tokens.indicator.Statement.{statement}

@@ -1,3 +1,5 @@
+-- `notation::tokens::integer` meets its contract.
+-- Assumes nothing.
 use borrow.Author.Needs.{needs}
 use Rattle.notation.proofs.PrintHeads.{int-ways}
 use Rattle.notation.proofs.tokens.integer.Statement.{statement}

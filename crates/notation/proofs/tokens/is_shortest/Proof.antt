@@ -1,3 +1,5 @@
+-- `notation::tokens::is_shortest` meets its contract.
+-- Assumes nothing.
 use borrow.Author.Needs.{needs}
 use Rattle.notation.proofs.PrintHeads.{shortest-test}
 use Rattle.notation.proofs.tokens.is_shortest.Statement.{statement}

@@ -1,3 +1,5 @@
+-- `notation::tokens::no_chunks` meets its contract.
+-- Assumes nothing.
 use borrow.Author.Needs.{needs}
 use Rattle.notation.proofs.PrintHeads.{empty-ways}
 use Rattle.notation.proofs.tokens.no_chunks.Statement.{statement}

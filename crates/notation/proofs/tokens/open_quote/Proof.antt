@@ -1,3 +1,5 @@
+-- `notation::tokens::open_quote` meets its contract.
+-- Assumes nothing.
 use borrow.Author.Needs.{needs}
 use Rattle.notation.proofs.PrintHeads.{open-ways}
 use Rattle.notation.proofs.tokens.open_quote.Statement.{statement}

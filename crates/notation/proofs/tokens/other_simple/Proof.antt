@@ -1,3 +1,5 @@
+-- `notation::tokens::other_simple` meets its contract.
+-- Assumes nothing.
 use borrow.Author.Needs.{needs}
 use Rattle.notation.proofs.PrintHeads.{simple-other}
 use Rattle.notation.proofs.tokens.other_simple.Statement.{statement}

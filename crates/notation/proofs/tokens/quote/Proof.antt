@@ -1,3 +1,5 @@
+-- `notation::tokens::quote` meets its contract.
+-- Assumes nothing.
 use Rattle.notation.proofs.tokens.quote.Statement.{statement}
 use Rattle.notation.proofs.tokens.quote.Tie as tie
 use borrow.Author.Needs.{needs}

@@ -1,3 +1,5 @@
+-- `notation::tokens::simple` meets its contract.
+-- Assumes nothing.
 use borrow.Author.Needs.{needs}
 use Rattle.notation.proofs.PrintHeads.{simple-ways}
 use Rattle.notation.proofs.tokens.simple.Statement.{statement}

@@ -1,3 +1,5 @@
+-- `notation::tokens::size_mark` meets its contract.
+-- Assumes nothing.
 use borrow.Author.Needs.{needs}
 use Rattle.notation.proofs.PrintHeads.{size-ways}
 use Rattle.notation.proofs.tokens.size_mark.Statement.{statement}

@@ -1,3 +1,5 @@
+-- `notation::tokens::string` meets its contract.
+-- Assumes nothing.
 use borrow.Author.Needs.{needs}
 use Rattle.notation.proofs.PrintHeads.{string-whole}
 use Rattle.notation.proofs.tokens.string.Statement.{statement}

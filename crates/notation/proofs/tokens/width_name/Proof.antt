@@ -1,3 +1,5 @@
+-- `notation::tokens::width_name` meets its contract.
+-- Assumes nothing.
 use Rattle.notation.proofs.tokens.width_name.Statement.{statement}
 use Rattle.notation.proofs.tokens.width_name.Tie as tie
 use borrow.Author.Needs.{needs}
