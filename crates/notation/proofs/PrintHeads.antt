@@ -127,12 +127,11 @@ module _ (i n : ℕ) {b : List ℕ} {pos : ℕ} where
     unfolding blankBehind
     size-none h u f = prints-as (sym (size-shut i n m ∙ ap blankBehind (indicator-by (widthBy i) n true (sym f ∙ e)))) (prints-none h u)
 
-    pub size-some : {b₁ b₂ b₃ : List ℕ} {v p q r : ℕ} → t ≡ false → v ≡ widthName (widthBy i) → Prints b b₁ pos (0x5f ∷ []) p → Prints b₁ b₂ p (v ∷ []) q
-        → Prints b₂ b₃ q (0x20 ∷ []) r → Prints b b₃ pos (sizeOf (sizeBy i) n) r
+    pub size-some : {b₁ b₂ : List ℕ} {p q : ℕ} → t ≡ false → Prints b b₁ pos (indicatorOf (widthBy i) n) p → Prints b₁ b₂ p (0x20 ∷ []) q → Prints b b₂ pos (sizeOf (sizeBy i) n) q
     unfolding blankBehind
-    size-some f g x y z =
-        prints-as (ap (λ (k : ℕ). 0x5f ∷ k ∷ 0x20 ∷ []) g ∙ sym (size-shut i n m ∙ ap blankBehind (indicator-by (widthBy i) n false (sym f ∙ e))))
-        (prints-more (prints-more x y) z)
+    size-some f x y =
+        let k = indicator-by (widthBy i) n false (sym f ∙ e) in
+        prints-as (ap (λ (v : List ℕ). v ++ 0x20 ∷ []) k ∙ sym (size-shut i n m ∙ ap blankBehind k)) (prints-more x y)
 
 pub ruleset size-ways = (size-indefinite, size-none, size-some)
 

@@ -48,9 +48,8 @@ pub fn size_mark(info: u8, n: u64, out: &mut [u8], pos: usize) -> usize
     if is_shortest(info, n) {
         return pos;
     }
-    let p = put::put(out, pos, 0x5f);
-    let q = put::put(out, p, width_name(info));
-    put::put(out, q, 0x20)
+    let p = indicator(info, n, out, pos);
+    put::put(out, p, 0x20)
 }
 
 pub fn integer(negative: bool, info: u8, n: u64, out: &mut [u8], pos: usize) -> usize

@@ -1,9 +1,9 @@
 -- `notation::tokens::size_mark` meets its contract.
 -- Assumes nothing.
 use borrow.Author.Needs.{needs}
-use Rattle.notation.proofs.PrintHeads.{size-ways}
 use Rattle.notation.proofs.tokens.size_mark.Statement.{statement}
 use Rattle.notation.proofs.tokens.size_mark.Tie as tie
+use Rattle.notation.proofs.PrintHeads.{size-ways}
 
 pub size-mark-spec : {M : Type 1} → statement M
 size-mark-spec =
@@ -14,10 +14,8 @@ size-mark-spec =
     (λ c. search size-ways)  -- returns
     (λ c κs. search needs)  -- is-shortest-requires
     (λ c. search size-ways)  -- returns-2
+    (λ c κs. search needs)  -- indicator-requires
     (λ c κs. search needs)  -- put-requires
-    (λ c κs. search needs)  -- width-name-requires
-    (λ c κs. search needs)  -- put-requires-2
-    (λ c κs. search needs)  -- put-requires-3
     (λ c. search needs)  -- same-length-2
     (λ c. search size-ways)  -- returns-3
     )
