@@ -15,7 +15,7 @@ use Rattle.cbor.specs.Refusals.{Result, ok, refuse, bind}
 use Rattle.cbor.specs.Decode.{Until, counted, broken, ended, Step, over, another, stepAt, severalBy, severalWithin, several}
 use Rattle.cbor.proofs.Results.{refuse-not-ok}
 use Rattle.cbor.proofs.Lists.{front}
-use Rattle.notation.specs.PrintAnswers.{capped, Prints, mapped, oneOf, allOf, untilBy, modeBy, behindBy, stepBy, Turned, separatorOf, joined, openingBy, closingBy, Done, Told, Within}
+use Rattle.notation.specs.PrintAnswers.{capped, Prints, mapped, oneOf, allOf, untilBy, modeBy, behindBy, stepBy, Turned, Moves, separatorOf, joined, openingBy, closingBy, Done, Told, Within}
 use Rattle.notation.specs.declared.print.Printed.{Printed}
 use Rattle.notation.proofs.PrintLeaves.{prints-more, prints-as, prints-none}
 
@@ -206,6 +206,15 @@ past-none at mode u a = omega (arith, behind-none [] at mode 0 a)
 
 pub ruleset past-ways = (past-break, past-none)
 
+module _ {at end size : ℕ} where
+  pub moves-back : end ≤ at → Moves at end size false
+  moves-back h = record { yes = λ e. absurd (false≢true e); no = λ e a b. omega arith }
+
+  pub moves-to : at < end → Moves at end size (leb end size)
+  moves-to h = record { yes = λ e. (h, leb-true end size e); no = λ e a b. omega (arith, leb-false end size e) }
+
+pub ruleset moves-ways = (moves-back, moves-to)
+
 module _ (i : ℕ) where
   pub mode-open : i ≡ 31 → 1 ≡ modeBy i
   unfolding modeBy
@@ -263,6 +272,9 @@ told-none h f = record { same = h; done = λ ws r e. absurd (f ws r e) }
 
 -- THE LOOP
 
+pub turn-less : {at end size : ℕ} {v : Bool} → Moves at end size v → not v ≡ false → size - end < size - at
+turn-less {at} {end} {size} {v} g h = omega (arith, g .yes (not-false v h) .0, g .yes (not-false v h) .1)
+
 -- ws is the whole text, and r is left behind the bytes of it: `before` is printed, and `texts` are left to print
 pub record Left (major d c mode n : ℕ) (s : List ℕ) (at : ℕ) (first : Bool) (b₀ b : List ℕ) (pos p : ℕ) (ws r : List ℕ) : Type 0 where
   pub fuel : ℕ
@@ -309,18 +321,15 @@ module _ {s b₀ : List ℕ} {from mode count major d c pos at n p : ℕ} {first
       dn : Done s (at + 1) b₁ b₂ q part (nx .text) (nx .rest)
       dn = one .done (nx .text) (nx .rest) (nx .one)
 
-    pub turn-stuck : part .end ≤ at → Told s from b₀ b₂ pos (record { end = length s; pos = p }) (mapped (joined c true) (allOf major d (untilBy mode count) (drop from s)))
-    turn-stuck h = told-none length-on (λ ws r e. omega (arith, dn ws r e .ahead))
+    pub turn-stuck : {v : Bool} {e : ℕ} → Moves at (part .end) (length s) v → not v ≡ true → Told s from b₀ b₂ pos (record { end = e; pos = p }) (mapped (joined c true) (allOf major d (untilBy mode count) (drop from s)))
+    turn-stuck {v} h k = told-none length-on (λ ws r e. let i = dn ws r e in h .no (not-true v k) (omega (arith, i .ahead)) (i .inside))
 
-    pub turn-far : length s < part .end → Told s from b₀ b₂ pos (record { end = length s; pos = p }) (mapped (joined c true) (allOf major d (untilBy mode count) (drop from s)))
-    turn-far h = told-none length-on (λ ws r e. omega (arith, dn ws r e .inside))
-
-    pub turn-on : {m : ℕ} → at < part .end → part .end ≤ length s → m ≡ n - 1 → Turns s b₀ from mode count major d c pos (part .end) m (part .pos) false b₂
+    pub turn-on : {v : Bool} {m : ℕ} → Moves at (part .end) (length s) v → not v ≡ false → m ≡ n - 1 → Turns s b₀ from mode count major d c pos (part .end) m (part .pos) false b₂
     unfolding joined
-    turn-on {m} g h k =
+    turn-on {v} {m} g h k =
         record {
-          ahead = omega (arith, inv .ahead);
-          inside = h;
+          ahead = omega (arith, inv .ahead, g .yes (not-false v h) .0);
+          inside = g .yes (not-false v h) .1;
           same = length-on;
           left = λ ws r e.
               let x = l ws r e in

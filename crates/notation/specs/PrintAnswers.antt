@@ -109,6 +109,11 @@ pub record Turned (s : List ℕ) (at mode n : ℕ) (r : Bool) : Type 0 where
   pub is : stepAt (untilBy mode n) (drop at s) ≡ stepBy r mode n s at
   pub inside : r ≡ true → at ≤ length s → at + behindBy mode ≤ length s
 
+-- a part that starts at a place ends behind it, and within the bytes, of which there are `size`
+pub record Moves (at end size : ℕ) (r : Bool) : Type 0 where
+  pub yes : r ≡ true → (at < end) × (end ≤ size)
+  pub no : r ≡ false → at < end → end ≤ size → ⊥
+
 -- a comma and a byte c stand before each but the first
 unfoldable pub separatorOf : Bool → ℕ → List ℕ
 separatorOf true c = []

@@ -13,7 +13,7 @@ ghost use lib.Dec.{eqb};
 ghost use Rattle.cbor.specs.Heads.{taking};
 ghost use Rattle.cbor.specs.Decode.{chunk, entry, item};
 ghost use Rattle.notation.specs.Printing.{print, printString};
-ghost use Rattle.notation.specs.PrintAnswers.{Prints, capped, kindOf, widthBy, mapped, below, entryText, chunkText, oneOf, allOf, untilBy, modeBy, behindBy, Turned, separatorOf, joined, openingBy, closingBy, containerText, chunkedText, tagText, Told, Headed, Within, PrintedAll, TextSize};
+ghost use Rattle.notation.specs.PrintAnswers.{Prints, capped, kindOf, widthBy, mapped, below, entryText, chunkText, oneOf, allOf, untilBy, modeBy, behindBy, Turned, Moves, separatorOf, joined, openingBy, closingBy, containerText, chunkedText, tagText, Told, Headed, Within, PrintedAll, TextSize};
 
 pub struct Printed {
     pub end: usize,
@@ -50,6 +50,16 @@ fn less(n: u64) -> u64
     ensures { λ r. ⌜ r ≡ n - 1 ⌝ }
 {
     if n == 0 { 0 } else { n - 1 }
+}
+
+// Whether a part that starts at a place ends behind it, and within the bytes.
+fn moves(at: usize, end: usize, size: usize) -> bool
+    ensures { λ r. ⌜ Moves at end size r ⌝ }
+{
+    if end <= at {
+        return false;
+    }
+    end <= size
 }
 
 fn mode_of(info: u8) -> u8
@@ -294,17 +304,8 @@ fn several(
         let q = separator(first, blank, out, p);
         let part = one(bytes, at, major, levels, out, q);
         let end = part.end;
-        if end <= at {
-            return Printed {
-                end: bytes.len(),
-                pos: p,
-            };
-        }
-        if bytes.len() < end {
-            return Printed {
-                end: bytes.len(),
-                pos: p,
-            };
+        if !moves(at, end, bytes.len()) {
+            return Printed { end, pos: p };
         }
         at = end;
         p = part.pos;

@@ -36,6 +36,7 @@ use Rattle.notation.proofs.print.closing.Reads as closing-reads
 use Rattle.notation.proofs.print.is_over.Reads as is-over-reads
 use Rattle.notation.proofs.print.less.Reads as less-reads
 use Rattle.notation.proofs.print.mode_of.Reads as mode-of-reads
+use Rattle.notation.proofs.print.moves.Reads as moves-reads
 use Rattle.notation.proofs.print.opening.Reads as opening-reads
 use Rattle.notation.proofs.print.past.Reads as past-reads
 use Rattle.notation.proofs.print.separator.Reads as separator-reads
@@ -53,7 +54,7 @@ use borrow.Author.Needs.{needs}
 use native.Mathlib.Omega.{arith}
 use Prim.Native.Nat.{_+_, _-_, _*_}
 use lib.ListN.{length}
-use Rattle.notation.proofs.PrintSeveral.{Turns, turn-start, turn-stuck, turn-far, turn-on, turn-end}
+use Rattle.notation.proofs.PrintSeveral.{Turns, turn-start, turn-less, turn-stuck, turn-on, turn-end}
 use Rattle.notation.proofs.PrintCycle.{headed}
 use Rattle.notation.proofs.PrintWays.{item-lost, item-within, item-ways, below-ways, one-ways, entry-whole, tag-whole, container-whole, chunked-empty, chunked-full}
 
@@ -170,7 +171,7 @@ abbrev print-item-calls : ℕ → print-item-lts.Claims
 print-item-calls t = (read-head-reads.Asked, read-head-reads.Learnt, behind-below t, behind.Post)
 
 abbrev several-calls : ℕ → several-lts.Claims
-several-calls t = (is-over-reads.Asked, is-over-reads.Learnt, separator-reads.Asked, separator-reads.Learnt, one-below t, one.Post, less-reads.Asked, less-reads.Learnt, past-reads.Asked, past-reads.Learnt)
+several-calls t = (is-over-reads.Asked, is-over-reads.Learnt, separator-reads.Asked, separator-reads.Learnt, one-below t, one.Post, moves-reads.Asked, moves-reads.Learnt, less-reads.Asked, less-reads.Learnt, past-reads.Asked, past-reads.Learnt)
 
 abbrev tag-calls : ℕ → tag-lts.Claims
 tag-calls t = (integer-reads.Asked, integer-reads.Learnt, put-reads.Asked, put-reads.Learnt, below-below t, below.Post)
@@ -262,16 +263,15 @@ pub +behind+below+chunked+container+entry+one+print-item+several+tag-spec : {M :
     (λ c κs. search needs)  -- is-over-requires
     (λ c κs. search needs)  -- separator-requires
     (λ c κs. search needs)  -- one-requires
+    (λ c κs. search needs)  -- moves-requires
     (λ c. search needs)  -- same-length
     (λ c. search turn-stuck)  -- returns
-    (λ c. search needs)  -- same-length-2
-    (λ c. search turn-far)  -- returns-2
     (λ c κs. search needs)  -- less-requires
-    (λ c. search needs)  -- loop-less
+    (λ c. search turn-less)  -- loop-less
     (λ c. search turn-on)  -- loop-again
     (λ c κs. search needs)  -- past-requires
-    (λ c. search needs)  -- same-length-3
-    (λ c. search turn-end)  -- returns-3
+    (λ c. search needs)  -- same-length-2
+    (λ c. search turn-end)  -- returns-2
     )
     (λ t. tag-lts.spec (tag-calls t) (tag-at t) tag.Post
     (λ c κs. search needs)  -- integer-requires

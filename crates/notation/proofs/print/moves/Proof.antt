@@ -1,0 +1,12 @@
+-- `notation::print::moves` meets its contract.
+-- Assumes nothing.
+use Rattle.notation.proofs.PrintSeveral.{moves-ways}
+use Rattle.notation.proofs.print.moves.Statement.{statement}
+use Rattle.notation.proofs.print.moves.Tie as tie
+
+pub moves-spec : {M : Type 1} → statement M
+moves-spec =
+    tie.close (tie.spec
+    (λ c. search moves-ways)  -- returns
+    (λ c. search moves-ways)  -- returns-2
+    )
