@@ -2,4 +2,5 @@ pub mod Steps
 pub mod Traces
 pub mod Parts
 pub mod Verdicts
+pub mod Laid
 pub mod Demands

@@ -1,5 +1,6 @@
 pub mod Operations
 pub mod Following
 pub mod Answers
+pub mod Outcomes
 pub mod Demands
 pub mod Examples

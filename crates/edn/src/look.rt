@@ -185,7 +185,7 @@ fn between(start: usize, end: usize) -> Located
     Located::Part(Part { start, end })
 }
 
-fn checked_all(bytes: &[u8]) -> Walked
+pub fn checked_all(bytes: &[u8]) -> Walked
     ensures { λ r. ⌜ Checks (now (bytes .entry)) r ⌝ }
 {
     walk::walk_all(bytes)

@@ -1,0 +1,17 @@
+-- `edn::print::lay` meets its contract.
+-- Assumes nothing.
+use borrow.Author.Needs.{needs}
+use Rattle.edn.proofs.print.lay.Statement.{statement}
+use Rattle.edn.proofs.print.lay.Tie as tie
+use Rattle.edn.proofs.Laid.{lay-ways}
+
+pub lay-spec : {M : Type 1} → statement M
+lay-spec =
+    tie.close (tie.spec
+    (λ c κs. search needs)  -- text-size-requires
+    (λ c κs. search needs)  -- print-items-requires
+    (λ c. search needs)  -- same-length
+    (λ c. search lay-ways)  -- returns
+    (λ c. search lay-ways)  -- returns-2
+    (λ c. search lay-ways)  -- returns-3
+    )
