@@ -1,5 +1,6 @@
 -- The code's kinds of refusal, by the numbers of document 01.
-use Prim.Native.Nat.{ℕ}
+use Prim.Native.Nat.{ℕ, _≤_}
+use mathlib.Core.Path.{_≡_}
 use Rattle.cbor.specs.Refusals.{tooLong, notUtf8, noToken, unknownWord, dots, float, outOfRange, badContent, badIndicator, tooDeep, notAllowed, mixedChunks, badTypedArray, noRoom, endsInside, notWellFormed, noSuchPath}
 use Rattle.cbor.specs.declared.refusal.RefusalKind.{RefusalKind}
 use Rattle.cbor.specs.declared.refusal.RefusalKind.the-variants.{TooLong, NotUtf8, NoToken, UnknownWord, Dots, Float, OutOfRange, BadContent, BadIndicator, TooDeep, NotAllowed, MixedChunks, BadTypedArray, NoRoom, EndsInside, NotWellFormed, NoSuchPath}
@@ -22,3 +23,7 @@ kindNumber NoRoom = noRoom
 kindNumber EndsInside = endsInside
 kindNumber NotWellFormed = notWellFormed
 kindNumber NoSuchPath = noSuchPath
+
+-- a kind by its number
+pub record Kinded (n : ℕ) (k : RefusalKind) : Type 0 where
+  pub is : 1 ≤ n → n ≤ 17 → kindNumber k ≡ n

@@ -1,6 +1,6 @@
 // Why bytes, a text, a path or a buffer are refused, and where.
 ghost use mathlib.Core.Path.{_≡_};
-ghost use Rattle.cbor.specs.Answers.{kindNumber};
+ghost use Rattle.cbor.specs.Answers.{kindNumber, Kinded};
 
 // The kinds of refusal, in the order of their numbers, 1 to 17.
 pub enum RefusalKind {
@@ -50,5 +50,30 @@ pub fn number(kind: RefusalKind) -> u8
         RefusalKind::EndsInside => 15,
         RefusalKind::NotWellFormed => 16,
         RefusalKind::NoSuchPath => 17,
+    }
+}
+
+// The kind of a number.
+pub fn kind_of(number: u8) -> RefusalKind
+    ensures { λ r. ⌜ Kinded number r ⌝ }
+{
+    match number {
+        1 => RefusalKind::TooLong,
+        2 => RefusalKind::NotUtf8,
+        3 => RefusalKind::NoToken,
+        4 => RefusalKind::UnknownWord,
+        5 => RefusalKind::Dots,
+        6 => RefusalKind::Float,
+        7 => RefusalKind::OutOfRange,
+        8 => RefusalKind::BadContent,
+        9 => RefusalKind::BadIndicator,
+        10 => RefusalKind::TooDeep,
+        11 => RefusalKind::NotAllowed,
+        12 => RefusalKind::MixedChunks,
+        13 => RefusalKind::BadTypedArray,
+        14 => RefusalKind::NoRoom,
+        15 => RefusalKind::EndsInside,
+        16 => RefusalKind::NotWellFormed,
+        _ => RefusalKind::NoSuchPath,
     }
 }

@@ -46,3 +46,13 @@ pub mod PrintCycle
 pub mod PrintWays
 pub mod PrintBounds
 pub mod PrintText
+pub mod ReadSmall
+pub mod ReadWriting
+pub mod ReadTokens
+pub mod Telling
+pub mod ReadRules
+pub mod ReadLoops
+pub mod ReadLists
+pub mod ReadStrings
+pub mod ReadItems
+pub mod ReadContainers

@@ -23,3 +23,4 @@ pub mod LiteralAnswers
 pub mod QuotedAnswers
 pub mod Base64Answers
 pub mod CutAnswers
+pub mod ReadAnswers

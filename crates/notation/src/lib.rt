@@ -9,6 +9,7 @@ pub mod number;
 pub mod print;
 mod put;
 pub mod quoted;
+pub mod read;
 pub mod scan;
 pub mod string;
 pub mod token;
