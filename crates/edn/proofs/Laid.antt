@@ -1,4 +1,4 @@
--- A text laid into a buffer.
+-- Results laid into a buffer, and printing.
 -- Assumes nothing.
 use Prim.Native.Nat.{ℕ, _-_, _≤_, _<_, min}
 use native.Mathlib.Omega.{arith}
@@ -7,7 +7,7 @@ use mathlib.Core.Bool.{Bool, true, false}
 use mathlib.Core.List.{List, []}
 use lib.Dec.{leb}
 use lib.ListN.{length}
-use borrow.Author.Tests.{le-leb, lt-leb}
+use borrow.Author.Tests.{le-leb, lt-leb, leb-true, leb-false}
 use Rattle.cbor.specs.Refusals.{Result, ok, refuse, accepted, refused, verdictOf, noRoom}
 use Rattle.cbor.specs.Items.{Items}
 use Rattle.cbor.specs.Decode.{decode, mostBytes}
@@ -25,53 +25,59 @@ use Rattle.edn.specs.Operations.{Outcome, room, fitting, written, itemsO
 use Rattle.cbor.specs.Valid.{Bytes}
 use Rattle.cbor.proofs.EncodeDecode.{encode-of-decode}
 use Rattle.edn.specs.Answers.{Checks}
-use Rattle.edn.specs.Outcomes.{outcomeOf, Lays}
-use Rattle.edn.specs.declared.print.Answer.{Answer}
-use Rattle.edn.specs.declared.print.Answer.the-variants.{Written, Refused}
+use Rattle.edn.specs.Outcomes.{outcomeOf, laid, Refuses, Lays}
+use Rattle.edn.proofs.Verdicts.{fitting-yes, fitting-no}
+use Rattle.edn.specs.declared.answer.Answer.{Answer}
+use Rattle.edn.specs.declared.answer.Answer.the-variants.{Written, Refused}
 
--- THE BUFFER
+-- ROOM
 
-fits : (b w : List ℕ) → length w ≤ 65535 → length w ≤ length b → fitting b w ≡ accepted w
-unfolding fitting room
-fits b w l m =
-    let i : length w ≤ min (length b) 65535 = omega arith in
-    rw (le-leb (length w) (room b) i, fitting)
+pub fits-no : (n m : ℕ) → 65535 < n → false ≡ leb n (min m 65535)
+fits-no n m h = sym (lt-leb n (min m 65535) (omega arith))
 
-fits-not : (b w : List ℕ) → room b < length w → fitting b w ≡ refused noRoom 0
-unfolding fitting
-fits-not b w l = rw (lt-leb (length w) (room b) l, fitting)
+pub fits-yes : (n m : ℕ) → n ≤ 65535 → leb n m ≡ leb n (min m 65535)
+fits-yes n m h = go (leb n m) refl
+  where
+    go : (v : Bool) → leb n m ≡ v → v ≡ leb n (min m 65535)
+    go true e = sym (le-leb n (min m 65535) (omega (arith, leb-true n m e)))
+    go false e = sym (lt-leb n (min m 65535) (omega (arith, leb-false n m e)))
 
-module _ {s b : List ℕ} {n : ℕ} (t : TextSize s n) where
-  pub lay-done : {b′ : List ℕ} {k : ℕ} → n ≤ 65535 → n ≤ length b → PrintedAll s b b′ k → Lays s b b′ (Written n)
-  unfolding outcomeOf written
-  lay-done {b′} l m p = record {
-    is = λ xs h.
-        let z : n ≡ length (printText xs) = t .size xs h in
-        let f : fitting b (printText xs) ≡ accepted (printText xs) = fits b (printText xs) (omega arith) (omega arith) in
-        let v : b′ ≡ over b 0 (printText xs) = p .is xs h (omega arith) in
-        rw (f, z, v, written);
+pub ruleset fits-ways = (fits-no, fits-yes)
+
+-- THE BUFFER: v says whether w, of n bytes, has room in b
+module _ (b : List ℕ) {n : ℕ} {v : Bool} (f : v ≡ leb n (min (length b) 65535)) where
+  pub laid-room : v ≡ true → n ≤ min (length b) 65535
+  laid-room t = leb-true n (min (length b) 65535) (sym f ∙ t)
+
+  pub laid-yes : (w : List ℕ) → n ≡ length w → v ≡ true → outcomeOf (Written n) (over b 0 w) ≡ laid b w
+  unfolding laid room outcomeOf written
+  laid-yes w e t =
+      let m : length w ≤ min (length b) 65535 = rw e at (laid-room t) in
+      let i : fitting b w ≡ accepted w = fitting-yes b w m in
+      rw (i, e)
+
+  pub laid-no : (w : List ℕ) → n ≡ length w → v ≡ false → {r : Answer} → Refuses NoRoom 0 r → outcomeOf r b ≡ laid b w
+  unfolding laid room outcomeOf written kindNumber
+  laid-no w e t x =
+      let m : min (length b) 65535 < length w = rw e at (leb-false n (min (length b) 65535) (sym f ∙ t)) in
+      let i : fitting b w ≡ refused noRoom 0 = fitting-no b w m in
+      rw (x .is, i)
+
+-- PRINTING
+module _ {s : List ℕ} (b : List ℕ) {n : ℕ} (t : TextSize s n) {v : Bool} (f : v ≡ leb n (min (length b) 65535)) where
+  pub lay-done : {b′ : List ℕ} {k : ℕ} → v ≡ true → PrintedAll s b b′ k → Lays s b b′ (Written n)
+  lay-done {b′} h p = record {
+    is = λ xs d.
+        let z : n ≡ length (printText xs) = t .size xs d in
+        let m = laid-room b f h in
+        let w : b′ ≡ over b 0 (printText xs) = p .is xs d (omega arith) in
+        rw w (laid-yes b f (printText xs) z h);
   }
 
-  no-room : room b < n → Lays s b b (Refused (record { kind = NoRoom; place = 0 }))
-  unfolding outcomeOf written kindNumber
-  no-room l = record {
-    is = λ xs h.
-        let z : n ≡ length (printText xs) = t .size xs h in
-        let f : fitting b (printText xs) ≡ refused noRoom 0 = fits-not b (printText xs) (omega arith) in
-        rw (f, written);
-  }
+  pub lay-refused : {r : Answer} → v ≡ false → Refuses NoRoom 0 r → Lays s b b r
+  lay-refused h x = record { is = λ xs d. laid-no b f (printText xs) (t .size xs d) h x }
 
-  pub lay-long : 65535 < n → Lays s b b (Refused (record { kind = NoRoom; place = 0 }))
-  unfolding room
-  lay-long l = no-room (omega arith)
-
-  pub lay-short : length b < n → Lays s b b (Refused (record { kind = NoRoom; place = 0 }))
-  unfolding room
-  lay-short l = no-room (omega arith)
-
-pub ruleset lay-ways = (lay-done, lay-long, lay-short)
-
--- THE OPERATION
+pub ruleset lay-ways = (lay-done, lay-refused)
 
 print-no : (s b : List ℕ) (e : Refusal) (res : Result Items) → decode s ≡ res → walkTold (RefusedV e) ≡ toldOf (length s) (sized contentsAll res) → outcomeOf (Refused e) b ≡ print s b
 unfolding walkTold toldOf sized itemsOf verdictOf textOf onward print written outcomeOf
@@ -82,7 +88,7 @@ print-no s b e (refuse k l) d h =
     rw (d, i, j, print)
 
 print-yes : (s b b′ : List ℕ) (r : Answer) (m : Made) (res : Result Items) → Bytes s → decode s ≡ res → walkTold (MadeV m) ≡ toldOf (length s) (sized contentsAll res) → Lays s b b′ r → outcomeOf r b′ ≡ print s b
-unfolding walkTold toldOf sized itemsOf verdictOf textOf onward print
+unfolding walkTold toldOf sized itemsOf verdictOf textOf onward print laid
 print-yes s b b′ r m (ok xs q) u d h l =
     let e = encode-of-decode s xs q u d in
     let w = l .is xs (d ∙ ap (ok xs) (e .done)) in

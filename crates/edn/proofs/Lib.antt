@@ -3,4 +3,5 @@ pub mod Traces
 pub mod Parts
 pub mod Verdicts
 pub mod Laid
+pub mod Encoding
 pub mod Demands

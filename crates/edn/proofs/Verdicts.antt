@@ -7,7 +7,7 @@ use mathlib.Core.List.{List, [], _∷_, _++_, append-assoc}
 use lib.Dec.{leb}
 use lib.ListN.{length, take, drop, replicate}
 use lib.Seq.{take-at}
-use borrow.Author.Tests.{le-leb, leb-true}
+use borrow.Author.Tests.{le-leb, lt-leb, leb-true}
 use Rattle.cbor.specs.Refusals.{Verdict, accepted, refused, noRoom}
 use Rattle.cbor.specs.Decode.{mostBytes}
 use Rattle.cbor.specs.Buffer.{over}
@@ -31,6 +31,10 @@ onward-refused k e = rw e
 pub fitting-yes : (buffer w : List ℕ) → length w ≤ room buffer → fitting buffer w ≡ accepted w
 unfolding fitting
 fitting-yes buffer w h = rw (le-leb (length w) (room buffer) h, fitting)
+
+pub fitting-no : (buffer w : List ℕ) → room buffer < length w → fitting buffer w ≡ refused noRoom 0
+unfolding fitting
+fitting-no buffer w h = rw (lt-leb (length w) (room buffer) h, fitting)
 
 pub fitting-ok : (buffer w : List ℕ) {v : List ℕ} → fitting buffer w ≡ accepted v → (w ≡ v) × (length w ≤ room buffer)
 unfolding fitting

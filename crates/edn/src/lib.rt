@@ -1,3 +1,6 @@
 // The notation and its bytes: read, print, look up, correct.
+pub mod answer;
 pub mod look;
 pub mod print;
+pub mod read;
+mod text;

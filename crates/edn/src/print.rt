@@ -1,6 +1,8 @@
 // Bytes as a text in diagnostic notation, in a lent buffer.
+use crate::answer::Answer;
+use crate::answer::fits;
+use crate::answer::refuse;
 use crate::look;
-use cbor::refusal::Refusal;
 use cbor::refusal::RefusalKind;
 use cbor::walk::Walked;
 use notation::print;
@@ -8,27 +10,16 @@ ghost use mathlib.Core.Path.{_≡_};
 ghost use Rattle.edn.specs.Operations.{print};
 ghost use Rattle.edn.specs.Outcomes.{outcomeOf, Lays};
 
-// The result stands at the front of the buffer and has this many bytes; or the buffer is as it was.
-pub enum Answer {
-    Written(usize),
-    Refused(Refusal),
-}
-
 // The text of bytes that were checked. Its size is known before its first byte is written.
 fn lay(bytes: &[u8], out: &mut [u8]) -> Answer
     ensures { λ r. ⌜ Lays (now (bytes .entry)) (now (out .entry)) (now (out .exit)) r ⌝ }
 {
     let size = print::text_size(bytes);
-    if size <= 65535 {
-        if size <= out.len() {
-            print::print_items(bytes, out);
-            return Answer::Written(size);
-        }
+    if fits(size, out.len()) {
+        print::print_items(bytes, out);
+        return Answer::Written(size);
     }
-    Answer::Refused(Refusal {
-        kind: RefusalKind::NoRoom,
-        place: 0,
-    })
+    refuse(RefusalKind::NoRoom, 0)
 }
 
 pub fn print(bytes: &[u8], out: &mut [u8]) -> Answer

@@ -9,9 +9,10 @@ pub lay-spec : {M : Type 1} → statement M
 lay-spec =
     tie.close (tie.spec
     (λ c κs. search needs)  -- text-size-requires
+    (λ c κs. search needs)  -- fits-requires
     (λ c κs. search needs)  -- print-items-requires
     (λ c. search needs)  -- same-length
     (λ c. search lay-ways)  -- returns
+    (λ c κs. search needs)  -- refuse-requires
     (λ c. search lay-ways)  -- returns-2
-    (λ c. search lay-ways)  -- returns-3
     )
