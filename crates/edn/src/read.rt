@@ -6,7 +6,7 @@ use crate::text::Text;
 use crate::text::check_text;
 use cbor::emit;
 use cbor::refusal::RefusalKind;
-use notation::read;
+use reader::read;
 ghost use mathlib.Core.Path.{_≡_};
 ghost use Rattle.edn.specs.Operations.{read};
 ghost use Rattle.edn.specs.Outcomes.{outcomeOf, Ready, Delivered, Encodes};
