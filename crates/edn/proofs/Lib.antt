@@ -4,4 +4,5 @@ pub mod Parts
 pub mod Verdicts
 pub mod Laid
 pub mod Encoding
+pub mod Reporting
 pub mod Demands

@@ -2,5 +2,6 @@ pub mod Operations
 pub mod Following
 pub mod Answers
 pub mod Outcomes
+pub mod Programs
 pub mod Demands
 pub mod Examples

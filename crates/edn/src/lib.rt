@@ -3,4 +3,5 @@ pub mod answer;
 pub mod look;
 pub mod print;
 pub mod read;
+pub mod report;
 mod text;

@@ -1,0 +1,89 @@
+// What the programs write on standard output.
+use crate::answer::Answer;
+use crate::print::print;
+use crate::read::read;
+use cbor::refusal;
+use cbor::refusal::Refusal;
+use printer::put;
+ghost use mathlib.Core.Path.{_≡_};
+ghost use lib.ListN.{length};
+ghost use Rattle.cbor.specs.Decode.{mostBytes};
+ghost use Rattle.cbor.specs.Answers.{kindNumber};
+ghost use Rattle.printer.specs.PrintAnswers.{Prints};
+ghost use Rattle.edn.specs.Programs.{acceptedLine, acceptedLines, atPlace, refusedLine, readProgram, printProgram};
+
+// `accepted N`.
+fn accepted_line(n: u64, out: &mut [u8]) -> usize
+    ensures { λ r. ⌜ Prints (now (out .entry)) (now (out .exit)) 0 (acceptedLine n) r ⌝ }
+{
+    let p = put::put_all(b"accepted ", out, 0);
+    let q = put::decimal(n, out, p);
+    put::put(out, q, 0x0a)
+}
+
+// The same, and the bytes in hexadecimal.
+fn accepted(bytes: &[u8], out: &mut [u8]) -> usize
+    ensures { λ r. ⌜ Prints (now (out .entry)) (now (out .exit)) 0 (acceptedLines (now (bytes .entry))) r ⌝ }
+{
+    let p = accepted_line(bytes.len() as u64, out);
+    let q = put::content(bytes, false, out, p);
+    put::put(out, q, 0x0a)
+}
+
+// ` at P`.
+fn at_place(place: usize, out: &mut [u8], pos: usize) -> usize
+    ensures { λ r. ⌜ Prints (now (out .entry)) (now (out .exit)) pos (atPlace place) r ⌝ }
+{
+    let p = put::put_all(b" at ", out, pos);
+    let q = put::decimal(place as u64, out, p);
+    put::put(out, q, 0x0a)
+}
+
+// `refused C at P`.
+fn refused(e: Refusal, out: &mut [u8]) -> usize
+    ensures { λ r. ⌜ Prints (now (out .entry)) (now (out .exit)) 0 (refusedLine (kindNumber (e .kind)) (e .place)) r ⌝ }
+{
+    let kind = e.kind;
+    let n = refusal::number(kind) as u64;
+    let p = put::put_all(b"refused ", out, 0);
+    let q = put::decimal(n, out, p);
+    at_place(e.place, out, q)
+}
+
+fn said_of_read(text: &[u8], bytes: &mut [u8], out: &mut [u8]) -> usize
+    requires { ⌜ length (now bytes) ≡ mostBytes ⌝ }
+    ensures { λ r. ⌜ Prints (now (out .entry)) (now (out .exit)) 0 (readProgram (now (text .entry))) r ⌝ }
+{
+    let a = read(text, bytes);
+    match a {
+        Answer::Written(n) => accepted(&bytes[..n], out),
+        Answer::Refused(e) => refused(e, out),
+    }
+}
+
+fn said_of_print(bytes: &[u8], text: &mut [u8], out: &mut [u8]) -> usize
+    requires { ⌜ length (now text) ≡ mostBytes ⌝ }
+    ensures { λ r. ⌜ Prints (now (out .entry)) (now (out .exit)) 0 (printProgram (now (bytes .entry))) r ⌝ }
+{
+    let a = print(bytes, text);
+    match a {
+        Answer::Written(n) => put::put_all(&text[..n], out, 0),
+        Answer::Refused(e) => refused(e, out),
+    }
+}
+
+// What the program that reads a text writes: as many bytes of the buffer as it answers, if there is room for them.
+pub fn report_read(text: &[u8], out: &mut [u8]) -> usize
+    ensures { λ r. ⌜ Prints (now (out .entry)) (now (out .exit)) 0 (readProgram (now (text .entry))) r ⌝ }
+{
+    let mut bytes = [0; 65535];
+    said_of_read(text, &mut bytes, out)
+}
+
+// What the program that prints bytes writes.
+pub fn report_print(bytes: &[u8], out: &mut [u8]) -> usize
+    ensures { λ r. ⌜ Prints (now (out .entry)) (now (out .exit)) 0 (printProgram (now (bytes .entry))) r ⌝ }
+{
+    let mut text = [0; 65535];
+    said_of_print(bytes, &mut text, out)
+}
