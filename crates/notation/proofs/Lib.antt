@@ -7,6 +7,8 @@ pub mod CuttingTokens
 pub mod Locality
 pub mod ByName
 pub mod Equations
+pub mod MarkedTokens
+pub mod MarkedText
 pub mod PrintNumbers
 pub mod PrintStrings
 pub mod PrintTokens
