@@ -9,6 +9,7 @@ pub mod ByName
 pub mod Equations
 pub mod MarkedTokens
 pub mod MarkedText
+pub mod MarkedRules
 pub mod PrintNumbers
 pub mod PrintStrings
 pub mod PrintTokens
