@@ -10,6 +10,7 @@ pub mod Equations
 pub mod MarkedTokens
 pub mod MarkedText
 pub mod MarkedRules
+pub mod MarkedItem
 pub mod PrintNumbers
 pub mod PrintStrings
 pub mod PrintTokens
