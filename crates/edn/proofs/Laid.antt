@@ -20,7 +20,7 @@ use Rattle.cbor.specs.declared.walk.Made.{Made}
 use Rattle.cbor.specs.declared.walk.Walked.{Walked}
 use Rattle.cbor.specs.declared.walk.Walked.the-variants.{Made as MadeV, Refused as RefusedV}
 use Rattle.notation.specs.Printing.{printText}
-use Rattle.notation.specs.PrintAnswers.{PrintedAll, TextSize}
+use Rattle.printer.specs.PrintAnswers.{PrintedAll, TextSize}
 use Rattle.edn.specs.Operations.{Outcome, room, fitting, written, itemsOf, textOf, onward, print}
 use Rattle.cbor.specs.Valid.{Bytes}
 use Rattle.cbor.proofs.EncodeDecode.{encode-of-decode}

@@ -3,7 +3,7 @@ use crate::look;
 use cbor::refusal::Refusal;
 use cbor::refusal::RefusalKind;
 use cbor::walk::Walked;
-use notation::print;
+use printer::print;
 ghost use mathlib.Core.Path.{_≡_};
 ghost use Rattle.edn.specs.Operations.{print};
 ghost use Rattle.edn.specs.Outcomes.{outcomeOf, Lays};

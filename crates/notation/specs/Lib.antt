@@ -12,16 +12,5 @@ pub mod Reading
 pub mod Alone
 pub mod Places
 pub mod Printing
-pub mod PrintAnswers
 pub mod Theorems
 pub mod Examples
-pub mod Stands
-pub mod ScanAnswers
-pub mod TokenAnswers
-pub mod NumberAnswers
-pub mod WordAnswers
-pub mod LiteralAnswers
-pub mod QuotedAnswers
-pub mod Base64Answers
-pub mod CutAnswers
-pub mod ReadAnswers

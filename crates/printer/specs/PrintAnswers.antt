@@ -1,0 +1,173 @@
+-- What the code that prints answers.
+use Prim.Native.Nat.{ℕ, zero, suc, _+_, _-_, _^_, _≤_, _<_, min}
+use mathlib.Core.Path.{_≡_}
+use mathlib.Core.Bool.{Bool, true, false}
+use mathlib.Core.List.{List, [], _∷_, _++_}
+use lib.Dec.{eqb}
+use lib.ListN.{length, drop}
+use Rattle.cbor.specs.Ascii.{ascii}
+use Rattle.cbor.specs.Buffer.{over as overBuffer}
+use Rattle.cbor.specs.Refusals.{Result, ok, refuse, tooDeep}
+use Rattle.cbor.specs.Widths.{Width, w0, w1, w2, w4, w8}
+use Rattle.cbor.specs.Items.{Sign, unsigned, negative, Kind, byteString, textString, Size, definite, indefinite, Chunk, Item, tag, Items}
+use Rattle.cbor.specs.Heads.{majorOf, nextHead}
+use Rattle.cbor.specs.Decode.{Until, counted, broken, ended, Step, over, another, stepAt, several, chunk, Entry, entry, item, decode}
+use Rattle.cbor.specs.declared.head.HeadAt.{HeadAt}
+use Rattle.notation.specs.Words.{simpleWord}
+use Rattle.notation.specs.Printing.{decimalOf, hexOf, escapedOf, printString, printChunked, sizeOf, print, printText}
+use Rattle.printer.specs.declared.print.Printed.{Printed}
+
+-- a sum that stops at the largest number
+abbrev pub capped : ℕ → ℕ → ℕ
+capped a b = min (a + b) (2 ^ 64 - 1)
+
+-- from b to b′: ws was written at pos, if it fits; if not, nothing is said but that the buffer is as long. r is the place behind it
+pub record Prints (b b′ : List ℕ) (pos : ℕ) (ws : List ℕ) (r : ℕ) : Type 0 where
+  pub same : length b′ ≡ length b
+  pub short : length b < 2 ^ 64
+  pub next : r ≡ capped pos (length ws)
+  pub is : pos + length ws ≤ length b → b′ ≡ overBuffer b pos ws
+
+-- the bytes of a string, as they stand between its quotes
+unfoldable pub contentOf : Bool → List ℕ → List ℕ
+contentOf true b = escapedOf b
+contentOf false b = hexOf b
+
+-- BY NUMBERS: what the code has for a width, a size, a sign, a kind
+
+-- the width that additional information stands for
+unfoldable pub widthBy : ℕ → Width
+widthBy i = elim (eqb i 24) [ true ↦ w1 | false ↦ elim (eqb i 25) [ true ↦ w2 | false ↦ elim (eqb i 26) [ true ↦ w4 | false ↦ elim (eqb i 27) [ true ↦ w8 | false ↦ w0 ] ] ] ]
+
+unfoldable pub sizeBy : ℕ → Size
+sizeBy i = elim (eqb i 31) [ true ↦ indefinite | false ↦ definite (widthBy i) ]
+
+unfoldable pub signOf : Bool → Sign
+signOf true = negative
+signOf false = unsigned
+
+unfoldable pub kindOf : Bool → Kind
+kindOf true = textString
+kindOf false = byteString
+
+unfoldable pub quoteOf : Bool → ℕ
+quoteOf true = 0x22
+quoteOf false = 0x27
+
+unfoldable pub openQuote : Bool → List ℕ
+openQuote true = 0x22 ∷ []
+openQuote false = ascii "h'"
+
+unfoldable pub otherSimple : ℕ → List ℕ
+otherSimple n = simpleWord ++ (0x28 ∷ (decimalOf n ++ 0x29 ∷ []))
+
+-- WHAT IS READ, AS TEXT
+
+unfoldable pub mapped : {A B : Type 0} → (A → B) → Result A → Result B
+mapped f (ok x r) = ok (f x) r
+mapped f (refuse n left) = refuse n left
+
+-- an item one level down
+unfoldable pub below : ℕ → List ℕ → Result Item
+below zero = λ s. refuse tooDeep (length s)
+below (suc d) = item d
+
+unfoldable pub entryText : Entry → List ℕ
+entryText e = print (e .key) ++ (ascii ": " ++ print (e .value))
+
+unfoldable pub chunkText : Kind → Chunk → List ℕ
+chunkText k c = printString k (c .width) (c .content)
+
+-- one of several inside an item of a major type: an element of an array, an entry of a map, a chunk of a string
+unfoldable pub oneOf : ℕ → ℕ → List ℕ → Result (List ℕ)
+oneOf major d s =
+    elim (eqb major 4) [
+      | true ↦ mapped print (below d s)
+      | false ↦ elim (eqb major 5) [ true ↦ mapped entryText (entry (below d) s) | false ↦ mapped (chunkText (kindOf (eqb major 3))) (chunk (kindOf (eqb major 3)) s) ]
+    ]
+
+-- all of them
+unfoldable pub allOf : ℕ → ℕ → Until → List ℕ → Result (List (List ℕ))
+allOf major d u s = several [] _∷_ (oneOf major d) u s
+
+-- how far they go: 0 a number of them, 1 to a break, else to the end of the bytes
+unfoldable pub untilBy : ℕ → ℕ → Until
+untilBy mode n = elim (eqb mode 0) [ true ↦ counted n | false ↦ elim (eqb mode 1) [ true ↦ broken | false ↦ ended ] ]
+
+unfoldable pub modeBy : ℕ → ℕ
+modeBy i = elim (eqb i 31) [ true ↦ 1 | false ↦ 0 ]
+
+-- a break is passed
+unfoldable pub behindBy : ℕ → ℕ
+behindBy mode = elim (eqb mode 1) [ true ↦ 1 | false ↦ 0 ]
+
+unfoldable pub stepBy : Bool → ℕ → ℕ → List ℕ → ℕ → Step
+stepBy true mode n s at = over (drop (at + behindBy mode) s)
+stepBy false mode n s at = another (untilBy mode (n - 1))
+
+pub record Turned (s : List ℕ) (at mode n : ℕ) (r : Bool) : Type 0 where
+  pub is : stepAt (untilBy mode n) (drop at s) ≡ stepBy r mode n s at
+  pub inside : r ≡ true → at ≤ length s → at + behindBy mode ≤ length s
+
+-- a part that starts at a place ends behind it, and within the bytes, of which there are `size`
+pub record Moves (at end size : ℕ) (r : Bool) : Type 0 where
+  pub yes : r ≡ true → (at < end) × (end ≤ size)
+  pub no : r ≡ false → at < end → end ≤ size → ⊥
+
+-- a comma and a byte c stand before each but the first
+unfoldable pub separatorOf : Bool → ℕ → List ℕ
+separatorOf true c = []
+separatorOf false c = 0x2c ∷ c ∷ []
+
+unfoldable pub joined : ℕ → Bool → List (List ℕ) → List ℕ
+joined c first [] = []
+joined c first (t ∷ ts) = separatorOf first c ++ (t ++ joined c false ts)
+
+unfoldable pub openingBy : ℕ → ℕ
+openingBy major = elim (eqb major 4) [ true ↦ 0x5b | false ↦ 0x7b ]
+
+unfoldable pub closingBy : ℕ → ℕ
+closingBy major = elim (eqb major 4) [ true ↦ 0x5d | false ↦ 0x7d ]
+
+unfoldable pub containerText : ℕ → ℕ → ℕ → List (List ℕ) → List ℕ
+containerText major i n ts = openingBy major ∷ (sizeOf (sizeBy i) n ++ (joined 0x20 true ts ++ closingBy major ∷ []))
+
+unfoldable pub chunkedText : Kind → List (List ℕ) → List ℕ
+chunkedText k [] = printChunked k []
+chunkedText k (t ∷ ts) = ascii "(_ " ++ (joined 0x20 true (t ∷ ts) ++ ascii ")")
+
+unfoldable pub tagText : ℕ → ℕ → Item → List ℕ
+tagText i n x = print (tag (widthBy i) n x)
+
+-- THE ANSWER
+
+-- ws is printed, r is left of the bytes s, and this is at `least` or behind it
+pub record Done (s : List ℕ) (least : ℕ) (b b′ : List ℕ) (pos : ℕ) (p : Printed) (ws r : List ℕ) : Type 0 where
+  pub ahead : least ≤ p .end
+  pub inside : p .end ≤ length s
+  pub drops : drop (p .end) s ≡ r
+  pub prints : Prints b b′ pos ws (p .pos)
+
+-- if reading gives a text, it is printed; of other bytes nothing is said
+pub record Told (s : List ℕ) (least : ℕ) (b b′ : List ℕ) (pos : ℕ) (p : Printed) (res : Result (List ℕ)) : Type 0 where
+  pub same : length b′ ≡ length b
+  pub done : (ws r : List ℕ) → res ≡ ok ws r → Done s least b b′ pos p ws r
+
+-- the head at a place
+pub record Headed (s : List ℕ) (at : ℕ) (h : HeadAt) : Type 0 where
+  pub is : nextHead (drop at s) ≡ ok (record { major = majorOf (h .major); size = sizeBy (h .info); argument = h .argument }) (drop (h .end) s)
+  pub ahead : at < h .end
+  pub inside : h .end ≤ length s
+  pub most : h .major ≤ 7
+
+pub record Within (s : List ℕ) (from : ℕ) : Type 0 where
+  pub inside : from ≤ length s
+
+-- a whole text: its length, and it stands at the front of the buffer if it fits
+pub record PrintedAll (s b b′ : List ℕ) (r : ℕ) : Type 0 where
+  pub same : length b′ ≡ length b
+  pub size : (xs : Items) → decode s ≡ ok xs [] → r ≡ length (printText xs)
+  pub is : (xs : Items) → decode s ≡ ok xs [] → length (printText xs) ≤ length b → b′ ≡ overBuffer b 0 (printText xs)
+
+pub record TextSize (s : List ℕ) (r : ℕ) : Type 0 where
+  pub size : (xs : Items) → decode s ≡ ok xs [] → r ≡ length (printText xs)

@@ -1,0 +1,4 @@
+// From the bytes of items to their text in diagnostic notation.
+mod parts;
+pub mod print;
+mod put;

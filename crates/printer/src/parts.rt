@@ -1,0 +1,120 @@
+// What is printed of a head: numbers, indicators, quotes, simple values. `info` is the head's additional information.
+use crate::put;
+use cbor::head;
+ghost use mathlib.Core.Path.{_≡_};
+ghost use mathlib.Core.List.{[]};
+ghost use lib.Dec.{eqb};
+ghost use Rattle.cbor.specs.Widths.{argumentBytes, shortest};
+ghost use Rattle.notation.specs.Printing.{widthName, indicatorOf, sizeOf, printSimple, printInt, printString, printChunked};
+ghost use Rattle.printer.specs.PrintAnswers.{Prints, widthBy, sizeBy, signOf, kindOf, quoteOf, openQuote, otherSimple};
+
+// Whether the head with this argument is the shortest.
+fn is_shortest(info: u8, n: u64) -> bool
+    ensures { λ r. ⌜ r ≡ eqb (argumentBytes (widthBy info)) (argumentBytes (shortest n)) ⌝ }
+{
+    head::argument_size(info) == head::argument_size(head::shortest_info(n))
+}
+
+fn width_name(info: u8) -> u8
+    ensures { λ r. ⌜ r ≡ widthName (widthBy info) ⌝ }
+{
+    match info {
+        24 => 0x30,
+        25 => 0x31,
+        26 => 0x32,
+        27 => 0x33,
+        _ => 0x69,
+    }
+}
+
+// The indicator of a head that is not the shortest.
+fn indicator(info: u8, n: u64, out: &mut [u8], pos: usize) -> usize
+    ensures { λ r. ⌜ Prints (now (out .entry)) (now (out .exit)) pos (indicatorOf (widthBy info) n) r ⌝ }
+{
+    if is_shortest(info, n) {
+        return pos;
+    }
+    let p = put::put(out, pos, 0x5f);
+    put::put(out, p, width_name(info))
+}
+
+// What stands behind an opening bracket: an indicator, and a blank behind it.
+pub fn size_mark(info: u8, n: u64, out: &mut [u8], pos: usize) -> usize
+    ensures { λ r. ⌜ Prints (now (out .entry)) (now (out .exit)) pos (sizeOf (sizeBy info) n) r ⌝ }
+{
+    if info == 31 {
+        return put::put_all(b"_ ", out, pos);
+    }
+    if is_shortest(info, n) {
+        return pos;
+    }
+    let p = indicator(info, n, out, pos);
+    put::put(out, p, 0x20)
+}
+
+pub fn integer(negative: bool, info: u8, n: u64, out: &mut [u8], pos: usize) -> usize
+    ensures { λ r. ⌜ Prints (now (out .entry)) (now (out .exit)) pos (printInt (signOf negative) (widthBy info) n) r ⌝ }
+{
+    if negative {
+        let p = put::put(out, pos, 0x2d);
+        let q = put::successor(n, out, p);
+        return indicator(info, n, out, q);
+    }
+    let p = put::decimal(n, out, pos);
+    indicator(info, n, out, p)
+}
+
+fn other_simple(n: u64, out: &mut [u8], pos: usize) -> usize
+    ensures { λ r. ⌜ Prints (now (out .entry)) (now (out .exit)) pos (otherSimple n) r ⌝ }
+{
+    let p = put::put_all(b"simple(", out, pos);
+    let q = put::decimal(n, out, p);
+    put::put(out, q, 0x29)
+}
+
+pub fn simple(n: u64, out: &mut [u8], pos: usize) -> usize
+    ensures { λ r. ⌜ Prints (now (out .entry)) (now (out .exit)) pos (printSimple n) r ⌝ }
+{
+    match n {
+        20 => put::put_all(b"false", out, pos),
+        21 => put::put_all(b"true", out, pos),
+        22 => put::put_all(b"null", out, pos),
+        23 => put::put_all(b"undefined", out, pos),
+        _ => other_simple(n, out, pos),
+    }
+}
+
+fn quote(text: bool) -> u8
+    ensures { λ r. ⌜ r ≡ quoteOf text ⌝ }
+{
+    if text { 0x22 } else { 0x27 }
+}
+
+fn open_quote(text: bool, out: &mut [u8], pos: usize) -> usize
+    ensures { λ r. ⌜ Prints (now (out .entry)) (now (out .exit)) pos (openQuote text) r ⌝ }
+{
+    if text {
+        return put::put(out, pos, 0x22);
+    }
+    put::put_all(b"h'", out, pos)
+}
+
+// A string with this content.
+pub fn string(bytes: &[u8], info: u8, text: bool, out: &mut [u8], pos: usize) -> usize
+    ensures { λ r. ⌜ Prints (now (out .entry)) (now (out .exit)) pos (printString (kindOf text) (widthBy info) (now (bytes .entry))) r ⌝ }
+{
+    let p = open_quote(text, out, pos);
+    let q = put::content(bytes, text, out, p);
+    let e = put::put(out, q, quote(text));
+    indicator(info, bytes.len() as u64, out, e)
+}
+
+// A chunked string without a chunk.
+pub fn no_chunks(text: bool, out: &mut [u8], pos: usize) -> usize
+    ensures { λ r. ⌜ Prints (now (out .entry)) (now (out .exit)) pos (printChunked (kindOf text) []) r ⌝ }
+{
+    if text {
+        return put::put_all(b"\"\"_", out, pos);
+    }
+    put::put_all(b"''_", out, pos)
+}

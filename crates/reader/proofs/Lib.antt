@@ -1,0 +1,10 @@
+pub mod ReadSmall
+pub mod ReadWriting
+pub mod ReadTokens
+pub mod Telling
+pub mod ReadRules
+pub mod ReadLoops
+pub mod ReadLists
+pub mod ReadStrings
+pub mod ReadItems
+pub mod ReadContainers

@@ -1,0 +1,17 @@
+-- `reader::read::element_size` meets its contract.
+-- Assumes nothing.
+use borrow.Author.Needs.{needs}
+use Rattle.reader.proofs.read.element_size.Statement.{statement}
+use Rattle.reader.proofs.read.element_size.Tie as tie
+use Rattle.reader.proofs.ReadSmall.{element-ways}
+
+pub element-size-spec : {M : Type 1} → statement M
+element-size-spec =
+    tie.close (tie.spec
+    (λ c. search needs)  -- add-power
+    (λ c. search element-ways)  -- returns
+    (λ c. search element-ways)  -- returns-2
+    (λ c. search element-ways)  -- returns-3
+    (λ c. search element-ways)  -- returns-4
+    (λ c. search element-ways)  -- returns-5
+    )

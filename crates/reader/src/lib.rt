@@ -1,0 +1,2 @@
+// From a text in diagnostic notation to the bytes of its items.
+pub mod read;

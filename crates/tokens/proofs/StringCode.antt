@@ -1,0 +1,286 @@
+-- String literals as tokens: what the code knows at each return, and that this is what the definitions say.
+-- Assumes nothing.
+use mathlib.Core.Path.{_≡_, refl, sym, ap, _∙_}
+use mathlib.Core.List.{List, [], _∷_, _++_}
+use mathlib.Core.Bool.{Bool, true, false}
+use Prim.Native.Nat.{ℕ, zero, suc, _+_, _-_, _≤_, _<_}
+use native.Mathlib.Omega.{arith}
+use lib.Dec.{leb, eqb}
+use lib.ListN.{length, take, drop, getD}
+use borrow.Author.Tests.{le-leb, lt-leb, ne-eqb}
+use Rattle.cbor.specs.Refusals.{Result, ok, refuse, bind, noToken, unknownWord, float, badContent, badIndicator}
+use Rattle.cbor.specs.Items.{Kind, byteString, textString, definite, indefinite}
+use Rattle.notation.specs.Classes.{isWord}
+use Rattle.notation.specs.Scanning.{fault, run, whether}
+use Rattle.notation.specs.Indicators.{Indicator, absent, indefinitely, unknown, wide, indicator, Chosen, chosen, misfit, choose}
+use Rattle.notation.specs.Quoted.{character, unquote}
+use Rattle.notation.specs.Literals.{literalToken, quotedToken, quoted, body, Content, content, bad, hexContent, base64Content, contained, encodedLiteral}
+use Rattle.notation.specs.Tokens.{Token, begins, literal}
+use Rattle.notation.specs.Words.{same, hexPrefix, base64Prefix, isFloatWord, worded, prefixed, word}
+use Rattle.notation.specs.Reading.{marked}
+use Rattle.tokens.specs.Stands.{span}
+use Rattle.tokens.specs.ScanAnswers.{Ran, Peeked}
+use Rattle.tokens.specs.LiteralAnswers.{Found, scannedBy, Scans, Raw, decodedBy, Decodes}
+use Rattle.tokens.specs.TokenAnswers.{widthNumber, indicatorNumber, sizeNumber, kindCode, beginCode, codeOf, beginMark, markOf, beginNumber, numberOf, Quotes, Encodes, Spelled, BeginsAs, Written, Shown, Says, Refused}
+use Rattle.tokens.specs.NumberAnswers.{Indicated, chooseBy, chosenNumber}
+use Rattle.tokens.specs.WordAnswers.{Part, Enclosed, otherWord, prefixWord}
+use Rattle.tokens.specs.CutAnswers.{kindOf, quoteOf, contentOf, QuotedAt, EncodedAt, Spells, Literally, Quotedly}
+use Rattle.tokens.specs.declared.literal.Scanned.{Scanned}
+use Rattle.tokens.specs.declared.indicator.Mark.{Mark}
+use Rattle.tokens.specs.declared.token.Token.{Token as Cut}
+use Rattle.notation.proofs.ScanningElements.{clash}
+use Rattle.tokens.proofs.Marked.{here}
+use Rattle.tokens.proofs.ScanCode.{whether-yes, whether-no}
+use Rattle.tokens.proofs.LiteralViews.{scan-good, raw-good, quoted-bad, raw-bad, decodes-bad}
+use Rattle.tokens.proofs.IndicatorCode.{choose-is, width-some, chosen-none, chosen-some}
+use Rattle.tokens.proofs.NumberCode.{says-as, says-refuse}
+use Rattle.tokens.proofs.WordCode.{part-cons}
+
+-- FORMS
+module _ (form : ℕ) where
+  pub code-text : form ≡ 0 → 4 ≡ kindCode (kindOf form)
+  unfolding kindCode kindOf
+  code-text e = rw e
+
+  pub code-bytes : (form ≡ 0 → ⊥) → 5 ≡ kindCode (kindOf form)
+  unfolding kindCode kindOf
+  code-bytes n = rw (ne-eqb form 0 n, kindOf)
+
+  pub quote-text : form ≡ 0 → 0x22 ≡ quoteOf form
+  unfolding quoteOf
+  quote-text e = rw e
+
+  pub quote-bytes : (form ≡ 0 → ⊥) → 0x27 ≡ quoteOf form
+  unfolding quoteOf
+  quote-bytes n = rw (ne-eqb form 0 n, quoteOf)
+
+  pub content-hex : {r : Scanned} (l : List ℕ) → form ≡ 2 → Decodes r (hexContent l) → Decodes r (contentOf form l)
+  unfolding contentOf
+  content-hex l e d = rw e d
+
+  pub content-base64 : {r : Scanned} (l : List ℕ) → (form ≡ 2 → ⊥) → Decodes r (base64Content l) → Decodes r (contentOf form l)
+  unfolding contentOf
+  content-base64 l n d = rw (ne-eqb form 2 n, contentOf) d
+
+-- LITERALS OF A SIZE
+literal-ok : (k : Kind) (b : List ℕ) (i : Indicator) (r : List ℕ) {c : Chosen} → choose i (length b) ≡ c
+    → literalToken k b i r ≡ elim c [ chosen w ↦ ok (begins (literal k (definite w) b)) r | misfit ↦ fault badIndicator ]
+unfolding literalToken
+literal-ok k b i r e = rw (e, literalToken)
+
+module _ {form mark size start stop place next : ℕ} (w : ℕ) (f : w ≡ chooseBy mark size) where
+  pub lit-misfit : {t : Cut} → w ≡ 0 → Refused 9 place t → Literally form mark size start stop place next t
+  lit-misfit z r =
+      record {
+        is =
+            λ s b i es em sp.
+            let c : chosenNumber (choose i (length b)) ≡ 0 = choose-is i (length b) ∙ (sym (f ∙ (ap (λ (k : ℕ). chooseBy k size) em ∙ ap (chooseBy (indicatorNumber i)) es)) ∙ z) in
+            says-as (literal-ok (kindOf form) b i (drop next (marked s)) (chosen-none (choose i (length b)) c)) (says-refuse 0 r);
+      }
+
+  pub lit-made : (c : ℕ) → (w ≡ 0 → ⊥) → c ≡ kindCode (kindOf form)
+      → Literally form mark size start stop place next (record { code = c; indicator = w; number = size; form = form; start = start; stop = stop; place = place; next = next })
+  unfolding Shown codeOf beginCode markOf beginMark sizeNumber numberOf beginNumber Written BeginsAs
+  lit-made c z g =
+      record {
+        is =
+            λ s b i es em sp.
+            let q : w ≡ chosenNumber (choose i (length b)) = f ∙ (ap (λ (k : ℕ). chooseBy k size) em ∙ (ap (chooseBy (indicatorNumber i)) es ∙ sym (choose-is i (length b)))) in
+            let x = chosen-some (choose i (length b)) (λ k. z (q ∙ k)) in
+            says-as (literal-ok (kindOf form) b i (drop next (marked s)) (x .1 .0))
+            (record { shown = record { code = g; indicator = q ∙ x .1 .1; number = es; written = sp .is; next = here s (sp .inside) }; place = refl });
+      }
+
+-- QUOTED ONES
+indicator-one : (i : Indicator) → indicatorNumber i ≡ 1 → i ≡ indefinitely
+unfolding indicatorNumber
+indicator-one absent e = absurd (omega arith)
+indicator-one indefinitely e = refl
+indicator-one unknown e = absurd (omega arith)
+indicator-one (wide w) e = absurd (omega (arith, width-some w))
+
+quoted-plain : (k : Kind) (b : List ℕ) (i : Indicator) (r : List ℕ) → (indicatorNumber i ≡ 1 → ⊥) → quotedToken k b i r ≡ literalToken k b i r
+unfolding quotedToken indicatorNumber
+quoted-plain k b absent r n = refl
+quoted-plain k b indefinitely r n = absurd (n refl)
+quoted-plain k b unknown r n = refl
+quoted-plain k b (wide w) r n = refl
+
+quoted-open : (k : Kind) (b : List ℕ) (r : List ℕ) → (length b ≡ 0 → ⊥) → quotedToken k b indefinitely r ≡ fault badIndicator
+unfolding quotedToken literalToken choose
+quoted-open k [] r n = absurd (n refl)
+quoted-open k (c ∷ b) r n = refl
+
+empty : (b : List ℕ) → 0 ≡ length b → b ≡ []
+empty [] e = refl
+empty (c ∷ b) e = absurd (omega arith)
+
+module _ {form size start place : ℕ} {m : Mark} where
+  pub quoted-empty : (c : ℕ) → m .mark ≡ 1 → size ≡ 0 → c ≡ kindCode (kindOf form)
+      → Quotedly form size start place m (record { code = c; indicator = 1; number = 0; form = form; start = start; stop = 0; place = place; next = m .next })
+  unfolding Shown codeOf beginCode markOf beginMark sizeNumber numberOf beginNumber Written BeginsAs quotedToken
+  quoted-empty c e z g =
+      record {
+        is =
+            λ s b at es x sp.
+            let i : x .ind ≡ indefinitely = indicator-one (x .ind) (sym (x .mark) ∙ e) in
+            let n : b ≡ [] = empty b (sym z ∙ es) in
+            let sp′ : Spelled s form start 0 [] = rw n at (sp .is) in
+            let q : quotedToken (kindOf form) b (x .ind) (drop (m .next) (marked s)) ≡ ok (begins (literal (kindOf form) indefinite [])) (drop (m .next) (marked s)) =
+            ap (λ (j : Indicator). quotedToken (kindOf form) b j (drop (m .next) (marked s))) i ∙ ap (λ (l : List ℕ). quotedToken (kindOf form) l indefinitely (drop (m .next) (marked s))) n in
+            says-as q (record { shown = record { code = g; indicator = refl; number = refl; written = sp′; next = here s (sp .inside) }; place = refl });
+      }
+
+  module _ {t : Cut} where
+    pub quoted-misfit : m .mark ≡ 1 → (size ≡ 0 → ⊥) → Refused 9 place t → Quotedly form size start place m t
+    quoted-misfit e z r =
+        record {
+          is =
+              λ s b at es x sp.
+              let i : x .ind ≡ indefinitely = indicator-one (x .ind) (sym (x .mark) ∙ e) in
+              says-as (ap (λ (j : Indicator). quotedToken (kindOf form) b j (drop (m .next) (marked s))) i ∙ quoted-open (kindOf form) b (drop (m .next) (marked s)) (λ k. z (es ∙ k))) (says-refuse 0 r);
+        }
+
+    pub quoted-literal : (m .mark ≡ 1 → ⊥) → Literally form (m .mark) size start 0 place (m .next) t → Quotedly form size start place m t
+    quoted-literal n l =
+        record {
+          is =
+              λ s b at es x sp.
+              says-as (quoted-plain (kindOf form) b (x .ind) (drop (m .next) (marked s)) (λ k. n (x .mark ∙ k))) (l .is s b (x .ind) es (x .mark) sp);
+        }
+
+pub ruleset quoted-tokens = (quoted-empty, quoted-misfit, quoted-literal)
+
+-- QUOTED STRINGS
+pub scan-inside : {s : List ℕ} {at : ℕ} {r : Scanned} (res : Result (List ℕ)) → Scans s at r res → r .good ≡ true → r .next ≤ length s
+scan-inside res h e = scan-good res h e .found .inside
+
+spelled-quote : (s : List ℕ) (form start stop : ℕ) (b : List ℕ) → form ≤ 1 → Quotes s (quoteOf form) start b → Spelled s form start stop b
+unfolding Spelled quoteOf
+spelled-quote s zero start stop b h q = q
+spelled-quote s (suc zero) start stop b h q = q
+spelled-quote s (suc (suc form)) start stop b h q = absurd (omega arith)
+
+module _ {s : List ℕ} {place form : ℕ} {t : Cut} {r : Scanned} (p : QuotedAt s place form) {q : ℕ} (e : q ≡ quoteOf form) (h : Scans s (place + 1) r (unquote q character (drop (place + 1) (marked s)))) where
+  pub quoted-good : {m : Mark} → r .good ≡ true → Indicated s (r .next) m → Quotedly form (r .size) (place + 1) place m t
+      → Says s place t (quoted (kindOf form) (quoteOf form) (drop (place + 1) (marked s)))
+  unfolding quoted bind
+  quoted-good {m} g x j =
+      let a = scan-good (unquote q character (drop (place + 1) (marked s))) h g in
+      let i : unquote (quoteOf form) character (drop (place + 1) (marked s)) ≡ ok (a .all) (drop (r .next) (marked s)) =
+      ap (λ (k : ℕ). unquote k character (drop (place + 1) (marked s))) (sym e) ∙ (a .is ∙ ap (λ (l : List ℕ). ok (a .all) l) (sym (a .found .left))) in
+      let sp : Spells s form (place + 1) 0 (m .next) (a .all) =
+      record { is = spelled-quote s form (place + 1) 0 (a .all) (p .quoted) (record { rest = drop (r .next) (marked s); is = i }); inside = x .inside } in
+      says-as (rw i (rw (x .is))) (j .is s (a .all) (r .next) (a .found .size) x sp)
+
+  pub quoted-wrong : r .good ≡ false → Refused 3 place t → Says s place t (quoted (kindOf form) (quoteOf form) (drop (place + 1) (marked s)))
+  unfolding quoted bind
+  quoted-wrong g f =
+      let i : unquote (quoteOf form) character (drop (place + 1) (marked s)) ≡ fault noToken = ap (λ (k : ℕ). unquote k character (drop (place + 1) (marked s))) (sym e) ∙ quoted-bad q h g in
+      says-as (rw i) (says-refuse 0 f)
+
+-- ENCODED ONES
+decoded : {r : Scanned} (res : Content) → Decodes r res → r .good ≡ true → (c : List ℕ) × ((res ≡ content c) × (r .size ≡ length c))
+unfolding decodedBy
+decoded (content c) d e = (c, (refl, d .by .1))
+decoded bad d e = absurd (clash (sym e ∙ d .by))
+
+spelled-encoded : (s : List ℕ) (form start stop : ℕ) (b : List ℕ) → 2 ≤ form → contentOf form (take (stop - start) (drop start s)) ≡ content b → Spelled s form start stop b
+unfolding Spelled contentOf
+spelled-encoded s zero start stop b h e = absurd (omega arith)
+spelled-encoded s (suc zero) start stop b h e = absurd (omega arith)
+spelled-encoded s (suc (suc zero)) start stop b h e = record { is = e }
+spelled-encoded s (suc (suc (suc form))) start stop b h e =
+    record { is = sym (rw (ne-eqb (suc (suc (suc form))) 2 (λ k. omega arith), contentOf)) ∙ e }
+
+kind-encoded : (form : ℕ) → 2 ≤ form → kindOf form ≡ byteString
+unfolding kindOf
+kind-encoded form h = rw (ne-eqb form 0 (λ e. omega arith), kindOf)
+
+pub raw-inside : {s : List ℕ} {at : ℕ} {r : Scanned} (res : Result (List ℕ)) → Raw s at r res → r .good ≡ true → r .next ≤ length s
+raw-inside res h e = scan-inside res (h .scans) e
+
+pub raw-some : {s : List ℕ} {at : ℕ} {r : Scanned} (res : Result (List ℕ)) → Raw s at r res → r .good ≡ true → 1 ≤ r .next
+raw-some res h e = omega (arith, h .next e)
+
+encoded-is : {s : List ℕ} {at form : ℕ} {r : Scanned} {m : Mark} → EncodedAt s at form → Raw s at r (body (drop at (marked s))) → r .good ≡ true → (x : Indicated s (r .next) m)
+    → encodedLiteral (contentOf form) (drop at (marked s)) ≡ contained (contentOf form (take (r .next - 1 - at) (drop at s))) (x .ind) (drop (m .next) (marked s))
+unfolding encodedLiteral bind
+encoded-is p h g x = rw (raw-good h g) (rw (x .is))
+
+module _ {s : List ℕ} {place at form : ℕ} {t : Cut} {r : Scanned} (p : EncodedAt s at form) (h : Raw s at r (body (drop at (marked s)))) where
+  pub encoded-bad : r .good ≡ false → Refused 3 place t → Says s place t (encodedLiteral (contentOf form) (drop at (marked s)))
+  unfolding encodedLiteral bind
+  encoded-bad g f = says-as (rw (raw-bad h g)) (says-refuse 0 f)
+
+  module _ (g : r .good ≡ true) {m : Mark} (x : Indicated s (r .next) m) {c : Scanned} (d : Decodes c (contentOf form (take (r .next - 1 - at) (drop at s)))) where
+    pub encoded-wrong : c .good ≡ false → Refused 8 place t → Says s place t (encodedLiteral (contentOf form) (drop at (marked s)))
+    unfolding contained
+    encoded-wrong k f = says-as (encoded-is p h g x ∙ ap (λ (j : Content). contained j (x .ind) (drop (m .next) (marked s))) (decodes-bad _ d k)) (says-refuse 0 f)
+
+    pub encoded-good : c .good ≡ true → Literally form (m .mark) (c .size) at (r .next - 1) place (m .next) t → Says s place t (encodedLiteral (contentOf form) (drop at (marked s)))
+    unfolding contained
+    encoded-good k l =
+        let v = decoded (contentOf form (take (r .next - 1 - at) (drop at s))) d k in
+        let sp : Spells s form at (r .next - 1) (m .next) (v .0) = record { is = spelled-encoded s form at (r .next - 1) (v .0) (p .encoded) (v .1 .0); inside = x .inside } in
+        says-as (encoded-is p h g x ∙ (ap (λ (j : Content). contained j (x .ind) (drop (m .next) (marked s))) (v .1 .0) ∙ ap (λ (k : Kind). literalToken k (v .0) (x .ind) (drop (m .next) (marked s))) (sym (kind-encoded form (p .encoded)))))
+        (l .is s (v .0) (x .ind) (v .1 .1) (x .mark) sp)
+
+pub ruleset encoded-ways = (encoded-bad, encoded-wrong, encoded-good)
+
+-- WORDS
+abbrev prefixedBy : ℕ → List ℕ → Result Token
+prefixedBy k r = elim (leb 4 k) [ true ↦ fault k | false ↦ encodedLiteral (contentOf k) r ]
+
+prefixed-is : (w r : List ℕ) → prefixed w r ≡ prefixedBy (prefixWord w) r
+unfolding prefixed prefixWord otherWord contentOf
+prefixed-is w r = go (same w hexPrefix) (same w base64Prefix) (isFloatWord w)
+  where
+    go : (a b c : Bool) → _≡_ {A = Result Token} (elim a [ true ↦ encodedLiteral hexContent r | false ↦ elim b [ true ↦ encodedLiteral base64Content r | false ↦ elim c [ true ↦ fault float | false ↦ fault unknownWord ] ] ])
+        (prefixedBy (elim a [ true ↦ 2 | false ↦ elim b [ true ↦ 3 | false ↦ elim c [ true ↦ 6 | false ↦ 4 ] ] ]) r)
+    go true b c = refl
+    go false true c = refl
+    go false false true = refl
+    go false false false = refl
+
+prefix-least : (w : List ℕ) → 2 ≤ prefixWord w
+unfolding prefixWord otherWord
+prefix-least w = go (same w hexPrefix) (same w base64Prefix) (isFloatWord w)
+  where
+    go : (a b c : Bool) → 2 ≤ elim a [ true ↦ 2 | false ↦ elim b [ true ↦ 3 | false ↦ elim c [ true ↦ 6 | false ↦ 4 ] ] ]
+    go true b c = omega arith
+    go false true c = omega arith
+    go false false true = omega arith
+    go false false false = omega arith
+
+pub prefix-encoded : {s : List ℕ} {place end : ℕ} → Enclosed s place end → (k : ℕ) → k ≡ prefixWord (span place end (marked s)) → EncodedAt s (end + 1) k
+prefix-encoded {s} {place} {end} p k e = record { inside = p .inside; encoded = rw e (prefix-least (span place end (marked s))) }
+
+module _ {s : List ℕ} {place end : ℕ} {t : Cut} (p : Enclosed s place end) (k : ℕ) (e : k ≡ prefixWord (span place end (marked s))) where
+  pub prefixed-refused : 4 ≤ k → Refused k place t → Says s place t (prefixed (span place end (marked s)) (drop (end + 1) (marked s)))
+  prefixed-refused h r =
+      says-as (prefixed-is (span place end (marked s)) (drop (end + 1) (marked s)) ∙ (ap (λ (j : ℕ). prefixedBy j (drop (end + 1) (marked s))) (sym e) ∙ rw (le-leb 4 k h, prefixedBy))) (says-refuse 0 r)
+
+  pub prefixed-encoded : k < 4 → Says s place t (encodedLiteral (contentOf k) (drop (end + 1) (marked s))) → Says s place t (prefixed (span place end (marked s)) (drop (end + 1) (marked s)))
+  prefixed-encoded h r =
+      says-as (prefixed-is (span place end (marked s)) (drop (end + 1) (marked s)) ∙ (ap (λ (j : ℕ). prefixedBy j (drop (end + 1) (marked s))) (sym e) ∙ rw (lt-leb 4 k h, prefixedBy))) r
+
+module _ {s : List ℕ} (place : ℕ) {end : ℕ} (r : Ran s isWord (place + 1) end) where
+  pub word-part : Part s place end
+  word-part = record { ahead = omega (arith, r .ahead); inside = r .inside }
+
+  pub word-enclosed : {b : Bool} → Peeked s end 0x27 b → b ≡ true → Enclosed s place end
+  word-enclosed p e = record { ahead = omega (arith, r .ahead); inside = p .inside e }
+
+  word-is : span place end (marked s) ≡ getD s place 0 ∷ span (place + 1) end (marked s)
+  word-is = part-cons word-part (λ z. omega (arith, r .ahead))
+
+  pub word-prefixed : {t : Cut} {b : Bool} → Peeked s end 0x27 b → b ≡ true → Says s place t (prefixed (span place end (marked s)) (drop (end + 1) (marked s)))
+      → Says s place t (word (getD s place 0) (drop (place + 1) (marked s)))
+  unfolding word bind
+  word-prefixed p e h = says-as (rw (r .is) (rw (whether-yes p e) (ap (λ (w : List ℕ). prefixed w (drop (end + 1) (marked s))) (sym word-is)))) h
+
+  pub word-worded : {t : Cut} {b : Bool} → Peeked s end 0x27 b → b ≡ false → Says s place t (worded (span place end (marked s)) (drop end (marked s)))
+      → Says s place t (word (getD s place 0) (drop (place + 1) (marked s)))
+  unfolding word bind
+  word-worded p e h = says-as (rw (r .is) (rw (whether-no p e) (ap (λ (w : List ℕ). worded w (drop end (marked s))) (sym word-is)))) h

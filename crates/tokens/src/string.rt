@@ -1,0 +1,164 @@
+// String literals as tokens. Their forms: 0 "..", 1 '..', 2 h'..', 3 b64'..'.
+use crate::base64::scan_base64;
+use crate::hex::scan_hex;
+use crate::indicator::Mark;
+use crate::indicator::choose;
+use crate::indicator::indicator_at;
+use crate::literal::Scanned;
+use crate::literal::scan_body;
+use crate::quoted::scan_quoted;
+use crate::scan::Cursor;
+use crate::scan::next_is;
+use crate::token::Token;
+use crate::token::refuse;
+use crate::word::prefix_word;
+use crate::word::worded;
+ghost use mathlib.Core.Path.{_≡_};
+ghost use Prim.Native.Nat.{_+_, _-_, _≤_, _<_};
+ghost use lib.ListN.{length, take, drop, getD};
+ghost use Rattle.notation.specs.Literals.{quoted, encodedLiteral};
+ghost use Rattle.notation.specs.Words.{prefixed, word};
+ghost use Rattle.notation.specs.Reading.{marked};
+ghost use Rattle.tokens.specs.Stands.{span};
+ghost use Rattle.tokens.specs.LiteralAnswers.{Decodes};
+ghost use Rattle.tokens.specs.TokenAnswers.{Says, kindCode};
+ghost use Rattle.tokens.specs.WordAnswers.{Enclosed};
+ghost use Rattle.tokens.specs.CutAnswers.{kindOf, quoteOf, contentOf, QuotedAt, EncodedAt, Literally, Quotedly};
+
+fn code_of(form: u8) -> u8
+    ensures { λ r. ⌜ r ≡ kindCode (kindOf form) ⌝ }
+{
+    if form == 0 {
+        return 4;
+    }
+    5
+}
+
+fn quote_of(form: u8) -> u8
+    ensures { λ r. ⌜ r ≡ quoteOf form ⌝ }
+{
+    if form == 0 {
+        return 0x22;
+    }
+    0x27
+}
+
+// A literal of `size` bytes: 9, or the token.
+fn literal(
+    form: u8,
+    mark: u8,
+    size: usize,
+    start: usize,
+    stop: usize,
+    place: usize,
+    next: usize,
+) -> Token
+    ensures { λ r. ⌜ Literally form mark size start stop place next r ⌝ }
+{
+    let width = choose(mark, size as u64);
+    if width == 0 {
+        return refuse(9, place);
+    }
+    Token {
+        code: code_of(form),
+        indicator: width,
+        number: size as u64,
+        form,
+        start,
+        stop,
+        place,
+        next,
+    }
+}
+
+// A quoted one: `_` alone may stand behind an empty one.
+fn quoted_token(form: u8, size: usize, start: usize, place: usize, m: Mark) -> Token
+    ensures { λ r. ⌜ Quotedly form size start place m r ⌝ }
+{
+    let mark = m.mark;
+    let next = m.next;
+    if mark == 1 {
+        if size == 0 {
+            return Token {
+                code: code_of(form),
+                indicator: 1,
+                number: 0,
+                form,
+                start,
+                stop: 0,
+                place,
+                next,
+            };
+        }
+        return refuse(9, place);
+    }
+    literal(form, mark, size, start, 0, place, next)
+}
+
+pub fn quoted(text: &[u8], place: usize, form: u8) -> Token
+    requires { ⌜ QuotedAt (now text) place form ⌝ }
+    ensures { λ r. ⌜ Says (now (text .entry)) place r (quoted (kindOf form) (quoteOf form) (drop (place + 1) (marked (now (text .entry))))) ⌝ }
+{
+    let at = place + 1;
+    let q = scan_quoted(text, at, quote_of(form));
+    let good = q.good;
+    if good {
+        let m = indicator_at(text, q.next);
+        return quoted_token(form, q.size, at, place, m);
+    }
+    refuse(3, place)
+}
+
+fn scan_encoded(text: &[u8], at: usize, end: usize, form: u8) -> Scanned
+    ensures { λ r. ⌜ Decodes r (contentOf form (take (end - at) (drop at (now (text .entry))))) ⌝ }
+{
+    if form == 2 {
+        return scan_hex(text, at, end);
+    }
+    scan_base64(text, at, end)
+}
+
+// Behind `h'` or `b64'`: 3, then 8, then 9.
+fn encoded(text: &[u8], place: usize, at: usize, form: u8) -> Token
+    requires { ⌜ EncodedAt (now text) at form ⌝ }
+    ensures { λ r. ⌜ Says (now (text .entry)) place r (encodedLiteral (contentOf form) (drop at (marked (now (text .entry))))) ⌝ }
+{
+    let raw = scan_body(text, at);
+    let good = raw.good;
+    if good {
+        let m = indicator_at(text, raw.next);
+        let stop = raw.next - 1;
+        let c = scan_encoded(text, at, stop, form);
+        let right = c.good;
+        if right {
+            return literal(form, m.mark, c.size, at, stop, place, m.next);
+        }
+        return refuse(8, place);
+    }
+    refuse(3, place)
+}
+
+// A word with `'` behind it.
+fn prefixed(text: &[u8], place: usize, end: usize) -> Token
+    requires { ⌜ Enclosed (now text) place end ⌝ }
+    ensures { λ r. ⌜ Says (now (text .entry)) place r (prefixed (span place end (marked (now (text .entry)))) (drop (end + 1) (marked (now (text .entry))))) ⌝ }
+{
+    let k = prefix_word(text, place, end);
+    if 4 <= k {
+        return refuse(k, place);
+    }
+    encoded(text, place, end + 1, k)
+}
+
+// A word: a simple value, or the prefix of a literal.
+pub fn word(text: &[u8], place: usize) -> Token
+    requires { ⌜ place < length (now text) ⌝ }
+    ensures { λ r. ⌜ Says (now (text .entry)) place r (word (getD (now (text .entry)) place 0) (drop (place + 1) (marked (now (text .entry))))) ⌝ }
+{
+    let end = Cursor { at: place + 1 }.word(text);
+    let next = end.at;
+    if next_is(text, next, 0x27) {
+        return prefixed(text, place, next);
+    }
+    worded(text, place, next)
+}
