@@ -7,7 +7,7 @@ use mathlib.Core.List.{List, [], _∷_}
 use lib.Dec.{eqb, eqb·suc-suc}
 use lib.ListN.{length}
 use borrow.Author.Tests.{eqb-true, ne-eqb}
-use Rattle.cbor.specs.Refusals.{Result, ok, refuse, bind, notAllowed}
+use Rattle.cbor.specs.Refusals.{Result, ok, refuse, bind, notAllowed, refused, verdictOf}
 use Rattle.cbor.specs.Items.{Item}
 use Rattle.notation.specs.Scanning.{skip}
 use Rattle.notation.specs.Tokens.{Token}
@@ -65,3 +65,9 @@ single-is d s = rw (first-marked s, singleMarked) (go (eqb (place s) (length s))
         (plus (elim v [ true ↦ bind (reads (one d) s) (alone d) | false ↦ refuse notAllowed (length s) ]))
     go true = rw (reads-marked d s) (at-item (reads (one d) s))
     go false = rw (marked-length s)
+
+-- the mark does not show in what is said in the end
+pub verdict-marked : {A : Type 0} (s : List ℕ) (R : Result A) → verdictOf (length (marked s)) (plus R) ≡ verdictOf (length s) R
+unfolding verdictOf plus
+verdict-marked s (ok x r) = refl
+verdict-marked s (refuse n left) = ap (λ (q : ℕ). refused n q) (omega (arith, marked-length s))
