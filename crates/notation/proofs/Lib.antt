@@ -7,6 +7,10 @@ pub mod CuttingTokens
 pub mod Locality
 pub mod ByName
 pub mod Equations
+pub mod MarkedTokens
+pub mod MarkedText
+pub mod MarkedRules
+pub mod MarkedItem
 pub mod PrintNumbers
 pub mod PrintStrings
 pub mod PrintTokens

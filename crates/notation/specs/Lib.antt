@@ -9,6 +9,7 @@ pub mod Words
 pub mod Cutting
 pub mod Form
 pub mod Reading
+pub mod Alone
 pub mod Places
 pub mod Printing
 pub mod Theorems

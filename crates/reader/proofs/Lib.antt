@@ -8,3 +8,4 @@ pub mod ReadLists
 pub mod ReadStrings
 pub mod ReadItems
 pub mod ReadContainers
+pub mod ReadOne

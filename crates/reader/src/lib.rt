@@ -1,2 +1,3 @@
 // From a text in diagnostic notation to the bytes of its items.
+pub mod one;
 pub mod read;

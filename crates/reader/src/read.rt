@@ -36,7 +36,7 @@ pub enum Answer {
     Refused(Refusal),
 }
 
-fn refuse(kind: RefusalKind, place: usize) -> Answer
+pub fn refuse(kind: RefusalKind, place: usize) -> Answer
     ensures { λ r. ⌜ Denies (kindNumber kind) place r ⌝ }
 {
     Answer::Refused(Refusal { kind, place })
@@ -95,7 +95,7 @@ fn stray_number(levels: usize, code: u8, mark: u8) -> u8
     11
 }
 
-fn strayed(levels: usize, t: Token) -> Answer
+pub fn strayed(levels: usize, t: Token) -> Answer
     ensures { λ r. ⌜ Strayed levels t r ⌝ }
 {
     let kind = kind_of(stray_number(levels, t.code, t.indicator));
@@ -373,7 +373,7 @@ fn joined(size: usize, a: Answer) -> Answer
 }
 
 // One item from a place on, its bytes into the buffer from pos on.
-fn item(text: &[u8], at: usize, levels: usize, buf: &mut [u8], pos: usize) -> Answer
+pub fn item(text: &[u8], at: usize, levels: usize, buf: &mut [u8], pos: usize) -> Answer
     requires { ⌜ Room (now text) at pos ⌝ }
     ensures { λ r. ⌜ Told ofItem (now (text .entry)) (now (buf .entry)) (now (buf .exit)) (length (marked (now (text .entry))) - at) pos r (reads (one levels) (drop at (marked (now (text .entry))))) ⌝ }
 {
