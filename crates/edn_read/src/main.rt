@@ -1,0 +1,12 @@
+// A text in diagnostic notation on standard input; `accepted N` and its bytes in hexadecimal, or `refused C at P`, on standard output.
+use edn::report;
+
+fn main() {
+    let mut text = io::large_buffer();
+    let n = io::read_full(0, &mut text);
+    let mut out = [0u8; 131090];
+    let size = report::report_read(&text[..n], &mut out);
+    if size <= 131090 {
+        io::write_all(1, &out[..size]);
+    }
+}
