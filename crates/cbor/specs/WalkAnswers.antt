@@ -50,8 +50,8 @@ unfoldable mutual
   contentsAll₂ none₂ = 0
   contentsAll₂ (more₂ k x ps) = (contents k + contents x) + contentsAll₂ ps
 
--- a result of which a number is known
-unfoldable pub sized : {A : Type 0} → (A → ℕ) → Result A → Result ℕ
+-- a result of whose value something is known: a number, or a text
+unfoldable pub sized : {A B : Type 0} → (A → B) → Result A → Result B
 sized f (ok x r) = ok (f x) r
 sized f (refuse n left) = refuse n left
 

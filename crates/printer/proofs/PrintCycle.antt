@@ -27,7 +27,8 @@ use Rattle.cbor.proofs.Table.{between}
 use Rattle.cbor.proofs.Heads.{major-back, major-most, taking-yes}
 use Rattle.cbor.proofs.DecodeEncode.{enterAt}
 use Rattle.notation.specs.Printing.{printString, printChunks, printChunked, print, printAll, printRest, printAll₂, printRest₂}
-use Rattle.printer.specs.PrintAnswers.{widthBy, sizeBy, below, entryText, chunkText, separatorOf, joined, chunkedText, Headed, Within}
+use Rattle.cbor.specs.WalkAnswers.{below, Within}
+use Rattle.printer.specs.PrintAnswers.{widthBy, sizeBy, entryText, chunkText, separatorOf, joined, chunkedText, Headed}
 use Rattle.printer.proofs.PrintHeads.{width-low}
 use Rattle.printer.proofs.PrintSeveral.{bind-ok}
 

@@ -15,7 +15,8 @@ use Rattle.cbor.specs.Widths.{Width, w0, w1, w2, w4, w8, argumentBytes, limit, 
 use Rattle.cbor.specs.Items.{Size, definite}
 use Rattle.cbor.specs.HeadAnswers.{argumentSize}
 use Rattle.notation.specs.Printing.{decimalOf, widthName, indicatorOf, blankBehind, sizeOf, printSimple, printInt, printString, printChunked}
-use Rattle.printer.specs.PrintAnswers.{Prints, contentOf, widthBy, sizeBy, signOf, kindOf, quoteOf, openQuote, otherSimple}
+use Rattle.cbor.specs.WalkAnswers.{kindOf}
+use Rattle.printer.specs.PrintAnswers.{Prints, contentOf, widthBy, sizeBy, signOf, quoteOf, openQuote, otherSimple}
 use Rattle.printer.proofs.PrintLeaves.{prints-more, prints-as, prints-none}
 
 -- WIDTHS

@@ -21,7 +21,8 @@ use Rattle.cbor.proofs.Buffer.{over-nil}
 use Rattle.cbor.proofs.Results.{refuse-not-ok}
 use Rattle.cbor.proofs.EncodeDecode.{encode-of-decode}
 use Rattle.notation.specs.Printing.{print, printText}
-use Rattle.printer.specs.PrintAnswers.{Prints, mapped, below, oneOf, allOf, untilBy, joined, Told, PrintedAll}
+use Rattle.cbor.specs.WalkAnswers.{sized as mapped, below}
+use Rattle.printer.specs.PrintAnswers.{Prints, oneOf, allOf, untilBy, joined, Told, PrintedAll}
 use Rattle.printer.specs.declared.print.Printed.{Printed}
 use Rattle.printer.proofs.PrintLeaves.{prints-more, prints-as}
 use Rattle.printer.proofs.PrintSeveral.{mapped-is, several-as}

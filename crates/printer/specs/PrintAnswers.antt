@@ -1,5 +1,5 @@
 -- What the code that prints answers.
-use Prim.Native.Nat.{ℕ, zero, suc, _+_, _-_, _^_, _≤_, _<_, min}
+use Prim.Native.Nat.{ℕ, _+_, _-_, _^_, _≤_, _<_}
 use mathlib.Core.Path.{_≡_}
 use mathlib.Core.Bool.{Bool, true, false}
 use mathlib.Core.List.{List, [], _∷_, _++_}
@@ -7,19 +7,16 @@ use lib.Dec.{eqb}
 use lib.ListN.{length, drop}
 use Rattle.cbor.specs.Ascii.{ascii}
 use Rattle.cbor.specs.Buffer.{over as overBuffer}
-use Rattle.cbor.specs.Refusals.{Result, ok, refuse, tooDeep}
+use Rattle.cbor.specs.Refusals.{Result, ok}
 use Rattle.cbor.specs.Widths.{Width, w0, w1, w2, w4, w8}
-use Rattle.cbor.specs.Items.{Sign, unsigned, negative, Kind, byteString, textString, Size, definite, indefinite, Chunk, Item, tag, Items}
+use Rattle.cbor.specs.Items.{Sign, unsigned, negative, Kind, Size, definite, indefinite, Chunk, Item, tag, Items}
 use Rattle.cbor.specs.Heads.{majorOf, nextHead}
-use Rattle.cbor.specs.Decode.{Until, counted, broken, ended, Step, over, another, stepAt, several, chunk, Entry, entry, item, decode}
+use Rattle.cbor.specs.Decode.{Until, counted, broken, ended, Step, over, another, stepAt, several, chunk, Entry, entry, decode}
+use Rattle.cbor.specs.WalkAnswers.{capped, sized as mapped, below, kindOf}
 use Rattle.cbor.specs.declared.head.HeadAt.{HeadAt}
 use Rattle.notation.specs.Words.{simpleWord}
 use Rattle.notation.specs.Printing.{decimalOf, hexOf, escapedOf, printString, printChunked, sizeOf, print, printText}
 use Rattle.printer.specs.declared.print.Printed.{Printed}
-
--- a sum that stops at the largest number
-abbrev pub capped : ℕ → ℕ → ℕ
-capped a b = min (a + b) (2 ^ 64 - 1)
 
 -- from b to b′: ws was written at pos, if it fits; if not, nothing is said but that the buffer is as long. r is the place behind it
 pub record Prints (b b′ : List ℕ) (pos : ℕ) (ws : List ℕ) (r : ℕ) : Type 0 where
@@ -46,10 +43,6 @@ unfoldable pub signOf : Bool → Sign
 signOf true = negative
 signOf false = unsigned
 
-unfoldable pub kindOf : Bool → Kind
-kindOf true = textString
-kindOf false = byteString
-
 unfoldable pub quoteOf : Bool → ℕ
 quoteOf true = 0x22
 quoteOf false = 0x27
@@ -62,15 +55,6 @@ unfoldable pub otherSimple : ℕ → List ℕ
 otherSimple n = simpleWord ++ (0x28 ∷ (decimalOf n ++ 0x29 ∷ []))
 
 -- WHAT IS READ, AS TEXT
-
-unfoldable pub mapped : {A B : Type 0} → (A → B) → Result A → Result B
-mapped f (ok x r) = ok (f x) r
-mapped f (refuse n left) = refuse n left
-
--- an item one level down
-unfoldable pub below : ℕ → List ℕ → Result Item
-below zero = λ s. refuse tooDeep (length s)
-below (suc d) = item d
 
 unfoldable pub entryText : Entry → List ℕ
 entryText e = print (e .key) ++ (ascii ": " ++ print (e .value))
@@ -159,9 +143,6 @@ pub record Headed (s : List ℕ) (at : ℕ) (h : HeadAt) : Type 0 where
   pub ahead : at < h .end
   pub inside : h .end ≤ length s
   pub most : h .major ≤ 7
-
-pub record Within (s : List ℕ) (from : ℕ) : Type 0 where
-  pub inside : from ≤ length s
 
 -- a whole text: its length, and it stands at the front of the buffer if it fits
 pub record PrintedAll (s b b′ : List ℕ) (r : ℕ) : Type 0 where

@@ -6,7 +6,8 @@ ghost use mathlib.Core.List.{[]};
 ghost use lib.Dec.{eqb};
 ghost use Rattle.cbor.specs.Widths.{argumentBytes, shortest};
 ghost use Rattle.notation.specs.Printing.{widthName, indicatorOf, sizeOf, printSimple, printInt, printString, printChunked};
-ghost use Rattle.printer.specs.PrintAnswers.{Prints, widthBy, sizeBy, signOf, kindOf, quoteOf, openQuote, otherSimple};
+ghost use Rattle.cbor.specs.WalkAnswers.{kindOf};
+ghost use Rattle.printer.specs.PrintAnswers.{Prints, widthBy, sizeBy, signOf, quoteOf, openQuote, otherSimple};
 
 // Whether the head with this argument is the shortest.
 fn is_shortest(info: u8, n: u64) -> bool

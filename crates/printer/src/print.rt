@@ -13,7 +13,8 @@ ghost use lib.Dec.{eqb};
 ghost use Rattle.cbor.specs.Heads.{taking};
 ghost use Rattle.cbor.specs.Decode.{chunk, entry, item};
 ghost use Rattle.notation.specs.Printing.{print, printString};
-ghost use Rattle.printer.specs.PrintAnswers.{Prints, capped, kindOf, widthBy, mapped, below, entryText, chunkText, oneOf, allOf, untilBy, modeBy, behindBy, Turned, Moves, separatorOf, joined, openingBy, closingBy, containerText, chunkedText, tagText, Told, Headed, Within, PrintedAll, TextSize};
+ghost use Rattle.cbor.specs.WalkAnswers.{capped, kindOf, sized as mapped, below, Within};
+ghost use Rattle.printer.specs.PrintAnswers.{Prints, widthBy, entryText, chunkText, oneOf, allOf, untilBy, modeBy, behindBy, Turned, Moves, separatorOf, joined, openingBy, closingBy, containerText, chunkedText, tagText, Told, Headed, PrintedAll, TextSize};
 
 pub struct Printed {
     pub end: usize,

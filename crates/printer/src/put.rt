@@ -2,7 +2,8 @@
 // the largest number.
 ghost use mathlib.Core.Path.{_≡_};
 ghost use mathlib.Core.List.{[], _∷_};
-ghost use Rattle.printer.specs.PrintAnswers.{Prints, capped, contentOf};
+ghost use Rattle.cbor.specs.WalkAnswers.{capped};
+ghost use Rattle.printer.specs.PrintAnswers.{Prints, contentOf};
 ghost use Rattle.notation.specs.Printing.{decimalOf, hexDigitOf, hexByteOf, escapeOf};
 ghost use Prim.Native.Nat.{suc, _<_};
 

@@ -13,4 +13,3 @@ pub mod Base64Code
 pub mod LiteralViews
 pub mod StringCode
 pub mod CutCode
-pub mod Taken
