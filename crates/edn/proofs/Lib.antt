@@ -8,3 +8,4 @@ pub mod Reporting
 pub mod Putting
 pub mod Deciding
 pub mod Demands
+pub mod Promises

@@ -5,4 +5,5 @@ pub mod Outcomes
 pub mod Programs
 pub mod Corrections
 pub mod Demands
+pub mod Promises
 pub mod Examples
