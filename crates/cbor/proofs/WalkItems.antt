@@ -11,11 +11,11 @@ use borrow.Author.Tests.{ne-eqb, le-leb, lt-leb}
 use Rattle.cbor.specs.Refusals.{Result, ok, refuse, bind, tooLong, tooDeep, badTypedArray, notWellFormed}
 use Rattle.cbor.specs.Items.{unsigned, negative, Kind, byteString, textString, Size, definite, indefinite, Item, string, chunked, array, map, tag}
 use Rattle.cbor.specs.Heads.{Major, integers, strings, arrays, maps, tags, simples, majorNumber, majorOf, Head, nextHead, isIndefinite}
-use Rattle.cbor.specs.TypedArrays.{chunksLength, elementSize, divides, isTypedArray, mayTag}
+use Rattle.cbor.specs.TypedArrays.{chunksLength, elementSize, divides, asked, mayTag, mayTagBy}
 use Rattle.cbor.specs.Decode.{Until, broken, ended, content, extent, tagged, elements, entries, chunks, itemBy, itemWith, item, decode}
 use Rattle.cbor.specs.Answers.{kindNumber}
 use Rattle.cbor.specs.HeadAnswers.{headTold, headAt}
-use Rattle.cbor.specs.WalkAnswers.{WalkTold, made, refused, walkTold, contents, contentsAll, contentsAll₂, sized, toldOf, walkOf, walkAllOf, below, kindOf, oneOf, allOf, tagOf, untilOf, afterTold, Headed, Within, mayTagBy}
+use Rattle.cbor.specs.WalkAnswers.{WalkTold, made, refused, walkTold, contents, contentsAll, contentsAll₂, sized, toldOf, walkOf, walkAllOf, below, kindOf, oneOf, allOf, tagOf, untilOf, afterTold, Headed, Within}
 use Rattle.cbor.specs.declared.refusal.Refusal.{Refusal}
 use Rattle.cbor.specs.declared.refusal.RefusalKind.the-variants.{TooLong, TooDeep, BadTypedArray, NotWellFormed}
 use Rattle.cbor.specs.declared.head.HeadAt.{HeadAt}
@@ -126,15 +126,15 @@ below-divides zero s = tt
 below-divides (suc d) s = item-divides d s
 
 -- the rule of typed arrays, of what the code knows
-may-tag : (n m : ℕ) (x : Item) → Divides (majorOf m) x → mayTag n x ≡ mayTagBy n m (contents x)
+may-tag : (n m : ℕ) (x : Item) → Divides (majorOf m) x → mayTag n x ≡ mayTagBy n (eqb m 2) (contents x)
 unfolding mayTag mayTagBy
-may-tag n m x h = ap (λ (b : Bool). elim (isTypedArray n) [ true ↦ elim (eqb n 76) [ true ↦ false | false ↦ b ] | false ↦ true ]) (h (elementSize n) ∙ ap (λ (b : Bool). b && eqb (contents x % elementSize n) 0) (is-bytes m))
+may-tag n m x h = ap (asked n) (h (elementSize n) ∙ ap (λ (b : Bool). b && eqb (contents x % elementSize n) 0) (is-bytes m))
 
 -- TAGS
 
 tag-by : (n m left : ℕ) (res : Result Item) → DividesIn (majorOf m) res
     → bind {B = ℕ} res (λ x r. elim (mayTag n x) [ true ↦ ok (contents x) r | false ↦ refuse badTypedArray left ])
-    ≡ bind {B = ℕ} (sized contents res) (λ k r. elim (mayTagBy n m k) [ true ↦ ok k r | false ↦ refuse badTypedArray left ])
+    ≡ bind {B = ℕ} (sized contents res) (λ k r. elim (mayTagBy n (eqb m 2) k) [ true ↦ ok k r | false ↦ refuse badTypedArray left ])
 unfolding bind sized
 tag-by n m left (ok x r) h = ap (λ (b : Bool). elim b [ true ↦ ok (contents x) r | false ↦ refuse badTypedArray left ]) (may-tag n m x h)
 tag-by n m left (refuse k l) h = refl
@@ -165,20 +165,20 @@ module _ (n d : ℕ) {s : List ℕ} {from : ℕ} (w : Within s from) (inner : Wa
   unfolding walkOf
   inner-told = part-told s from (λ t. sized contents (below d t)) inner part (w .inside) long (λ t. leaves-sized 1 contents t (below d t) (below-leaves d t)) told after
 
-  tag-is : tagOf n d (length s) (drop from s) ≡ bind (sized contents (below d (drop from s))) (λ k r. elim (mayTagBy n (getD s from 0 / 32) k) [ true ↦ ok k r | false ↦ refuse badTypedArray (length s) ])
+  tag-is : tagOf n d (length s) (drop from s) ≡ bind (sized contents (below d (drop from s))) (λ k r. elim (mayTagBy n (eqb (getD s from 0 / 32) 2) k) [ true ↦ ok k r | false ↦ refuse badTypedArray (length s) ])
   unfolding tagOf
   tag-is = rw (← first-of s from) (tag-by n (getD (drop from s) 0 0 / 32) (length s) (below d (drop from s)) (below-divides d (drop from s)))
 
   pub tag-refused : {e : Refusal} → part ≡ RefusedV e → walkTold (RefusedV e) ≡ toldOf (length s) (tagOf n d (length s) (drop from s))
   tag-refused h = lost (length s) (sized contents (below d (drop from s))) _ part inner-told h ∙ ap (toldOf (length s)) (sym tag-is)
 
-  module _ {m : Made} (h : part ≡ MadeV m) {b : ℕ} (i : b ≡ getD s from 0) {v : Bool} (j : v ≡ mayTagBy n (b / 32) (m .size)) where
+  module _ {m : Made} (h : part ≡ MadeV m) {b : ℕ} (i : b ≡ getD s from 0) {v : Bool} (j : v ≡ mayTagBy n (eqb (b / 32) 2) (m .size)) where
     tag-at : (g : Reached (length s) m (sized contents (below d (drop from s))))
         → toldOf (length s) (elim v [ true ↦ ok (m .size) (g .rest) | false ↦ refuse badTypedArray (length s) ]) ≡ toldOf (length s) (tagOf n d (length s) (drop from s))
     unfolding bind
     tag-at g =
-        ap (λ (x : Bool). toldOf (length s) (elim x [ true ↦ ok (m .size) (g .rest) | false ↦ refuse badTypedArray (length s) ])) (j ∙ ap (λ (x : ℕ). mayTagBy n (x / 32) (m .size)) i)
-        ∙ sym (ap (toldOf (length s)) (tag-is ∙ ap (λ (u : Result ℕ). bind u (λ k r. elim (mayTagBy n (getD s from 0 / 32) k) [ true ↦ ok k r | false ↦ refuse badTypedArray (length s) ])) (g .is)))
+        ap (λ (x : Bool). toldOf (length s) (elim x [ true ↦ ok (m .size) (g .rest) | false ↦ refuse badTypedArray (length s) ])) (j ∙ ap (λ (x : ℕ). mayTagBy n (eqb (x / 32) 2) (m .size)) i)
+        ∙ sym (ap (toldOf (length s)) (tag-is ∙ ap (λ (u : Result ℕ). bind u (λ k r. elim (mayTagBy n (eqb (getD s from 0 / 32) 2) k) [ true ↦ ok k r | false ↦ refuse badTypedArray (length s) ])) (g .is)))
 
     pub tag-good : v ≡ true → walkTold (MadeV m) ≡ toldOf (length s) (tagOf n d (length s) (drop from s))
     unfolding walkTold toldOf

@@ -1,6 +1,6 @@
 -- The walk over bytes: its parts outside the cycle.
 -- Assumes nothing.
-use Prim.Native.Nat.{ℕ, zero, suc, _+_, _-_, _/_, _%_, _^_, _≤_, _<_}
+use Prim.Native.Nat.{ℕ, zero, suc, _+_, _-_, _/_, _≤_, _<_}
 use native.Mathlib.Omega.{arith}
 use native.Mathlib.Numerals.{add-one}
 use mathlib.Core.Path.{_≡_, refl, sym, ap, _∙_}
@@ -10,16 +10,16 @@ use lib.Dec.{eqb}
 use lib.ListN.{length, take, drop, getD, length-drop, length-take, drop-of-length-le}
 use lib.Seq.{drop-cons}
 use borrow.Author.Tests.{le-leb, lt-leb, eq-eqb, ne-eqb}
+use Rattle.cbor.specs.Sums.{capped}
 use Rattle.cbor.specs.Refusals.{Result, ok, refuse, bind, notUtf8, endsInside, notWellFormed}
 use Rattle.cbor.specs.Items.{Kind, Size, definite, indefinite, Chunk}
 use Rattle.cbor.specs.Heads.{Major, strings, majorNumber, majorOf, Head, nextHead, taking}
 use Rattle.cbor.specs.Utf8.{firstBad, isUtf8}
-use Rattle.cbor.specs.TypedArrays.{elementSize, isTypedArray}
 use Rattle.cbor.specs.Valid.{isText}
 use Rattle.cbor.specs.Decode.{counted, another, stepAt, content, chunkBy, chunk}
 use Rattle.cbor.specs.Answers.{kindNumber}
 use Rattle.cbor.specs.HeadAnswers.{head, headTold, sizeInformation, headFrom, headAt}
-use Rattle.cbor.specs.WalkAnswers.{WalkTold, made, refused, walkTold, sized, toldOf, kindOf, chunkContents, untilOf, turnOf, Inner, Turned, capped, afterTold, Headed, Within, ElementSize, mayTagBy}
+use Rattle.cbor.specs.WalkAnswers.{WalkTold, made, refused, walkTold, sized, toldOf, kindOf, chunkContents, untilOf, turnOf, Inner, Turned, afterTold, Headed, Within}
 use Rattle.cbor.specs.declared.refusal.Refusal.{Refusal}
 use Rattle.cbor.specs.declared.refusal.RefusalKind.{RefusalKind}
 use Rattle.cbor.specs.declared.refusal.RefusalKind.the-variants.{NotUtf8, EndsInside, NotWellFormed}
@@ -287,57 +287,3 @@ module _ (k : Bool) (s : List ℕ) {m : ℕ} (n : length s ≡ 0 → ⊥) (i : m
         ∙ sym (ap (λ (u : Result Chunk). toldOf (length s) (sized chunkContents u)) (chunk-at g))
 
 pub ruleset chunk-ways = (chunk-none, chunk-other, chunk-lost, chunk-open, chunk-content)
-
--- TYPED ARRAYS
-
-module _ (n : ℕ) where
-  element : (e r : ℕ) → n / 16 % 2 + n % 4 ≡ e → r ≡ 2 ^ e → 0 < r → ElementSize n r
-  unfolding elementSize
-  element e r h i p = record { is = rw (h) i; some = p }
-
-  pub element-one : n / 16 % 2 + n % 4 ≡ 0 → ElementSize n 1
-  element-one h = element 0 1 h refl (omega arith)
-
-  pub element-two : n / 16 % 2 + n % 4 ≡ 1 → ElementSize n 2
-  element-two h = element 1 2 h refl (omega arith)
-
-  pub element-four : n / 16 % 2 + n % 4 ≡ 2 → ElementSize n 4
-  element-four h = element 2 4 h refl (omega arith)
-
-  pub element-eight : n / 16 % 2 + n % 4 ≡ 3 → ElementSize n 8
-  element-eight h = element 3 8 h refl (omega arith)
-
-  pub element-sixteen : (n / 16 % 2 + n % 4 ≡ 0 → ⊥) → (n / 16 % 2 + n % 4 ≡ 1 → ⊥) → (n / 16 % 2 + n % 4 ≡ 2 → ⊥) → (n / 16 % 2 + n % 4 ≡ 3 → ⊥) → ElementSize n 16
-  element-sixteen a b c d = element 4 16 (omega arith) refl (omega arith)
-
-pub ruleset element-ways = (element-one, element-two, element-four, element-eight, element-sixteen)
-
-typed : (n : ℕ) → 64 ≤ n → n ≤ 87 → isTypedArray n ≡ true
-unfolding isTypedArray
-typed n l h = rw (le-leb 64 n l) (rw (le-leb n 87 h))
-
-module _ (n major size : ℕ) where
-  pub tag-low : n < 64 → true ≡ mayTagBy n major size
-  unfolding mayTagBy isTypedArray
-  tag-low h = simp (mayTagBy, isTypedArray, lt-leb 64 n h)
-
-  module _ (l : 64 ≤ n) where
-    pub tag-high : 87 < n → true ≡ mayTagBy n major size
-    unfolding mayTagBy isTypedArray
-    tag-high h = simp (mayTagBy, isTypedArray, le-leb 64 n l, lt-leb n 87 h)
-
-    module _ (h : n ≤ 87) where
-      pub tag-reserved : n ≡ 76 → false ≡ mayTagBy n major size
-      unfolding mayTagBy
-      tag-reserved e = rw (typed n l h, mayTagBy) (rw (eq-eqb n 76 e))
-
-      module _ (e : n ≡ 76 → ⊥) where
-        pub tag-other : (major ≡ 2 → ⊥) → false ≡ mayTagBy n major size
-        unfolding mayTagBy
-        tag-other m = rw (typed n l h, mayTagBy) (rw (ne-eqb n 76 e) (rw (ne-eqb major 2 m)))
-
-        pub tag-bytes : {z : ℕ} → major ≡ 2 → ElementSize n z → eqb (size % z) 0 ≡ mayTagBy n major size
-        unfolding mayTagBy
-        tag-bytes m z = rw (z .is) (rw (typed n l h, mayTagBy) (rw (ne-eqb n 76 e) (rw (eq-eqb major 2 m))))
-
-pub ruleset tag-ways = (tag-low, tag-high, tag-reserved, tag-other, tag-bytes)

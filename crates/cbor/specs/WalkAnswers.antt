@@ -1,13 +1,14 @@
 -- What the code that walks over bytes answers: where an item ends, and how many bytes of strings are in it.
-use Prim.Native.Nat.{ℕ, zero, suc, _+_, _-_, _%_, _^_, _≤_, _<_, min}
+use Prim.Native.Nat.{ℕ, zero, suc, _+_, _-_, _≤_}
 use mathlib.Core.Path.{_≡_}
 use mathlib.Core.List.{List}
-use mathlib.Core.Bool.{Bool, true, false, _&&_}
+use mathlib.Core.Bool.{Bool, true, false}
 use lib.Dec.{eqb}
 use lib.ListN.{length, drop}
+use Rattle.cbor.specs.Sums.{capped}
 use Rattle.cbor.specs.Refusals.{Result, ok, refuse, bind, tooDeep, badTypedArray}
 use Rattle.cbor.specs.Items.{Kind, byteString, textString, Chunk, Item, int, string, chunked, array, map, tag, simple, Items, none, more, Pairs, none₂, more₂}
-use Rattle.cbor.specs.TypedArrays.{chunksLength, elementSize, isTypedArray, mayTag}
+use Rattle.cbor.specs.TypedArrays.{chunksLength, mayTag}
 use Rattle.cbor.specs.Decode.{Until, counted, broken, ended, Step, over, another, stepAt, several, chunk, Entry, entry, item}
 use Rattle.cbor.specs.Answers.{kindNumber}
 use Rattle.cbor.specs.HeadAnswers.{headTold, headAt}
@@ -116,10 +117,6 @@ pub record Turned (s : List ℕ) (at : ℕ) (u : Extent) (r : Turn) : Type 0 whe
   pub is : turnOf s r ≡ stepAt (untilOf u) (drop at s)
   pub inside : at ≤ length s → Inner s r
 
--- a sum that stops at the largest number
-abbrev pub capped : ℕ → ℕ → ℕ
-capped a b = min (a + b) (2 ^ 64 - 1)
-
 -- the same answer counted from `from` places before, with `size` bytes of strings before it
 unfoldable pub afterTold : ℕ → ℕ → WalkTold → WalkTold
 afterTold from size (made e k) = made (capped from e) (capped size k)
@@ -131,11 +128,3 @@ pub record Headed (s : List ℕ) (h : HeadAt) : Type 0 where
 
 pub record Within (s : List ℕ) (from : ℕ) : Type 0 where
   pub inside : from ≤ length s
-
-pub record ElementSize (n r : ℕ) : Type 0 where
-  pub is : r ≡ elementSize n
-  pub some : 0 < r
-
--- whether a tag n may stand before an item, by its major type and the bytes in it
-unfoldable pub mayTagBy : ℕ → ℕ → ℕ → Bool
-mayTagBy n major size = elim (isTypedArray n) [ true ↦ elim (eqb n 76) [ true ↦ false | false ↦ eqb major 2 && eqb (size % elementSize n) 0 ] | false ↦ true ]

@@ -5,6 +5,8 @@ use crate::head::HeadAt;
 use crate::head::HeadRead;
 use crate::refusal::Refusal;
 use crate::refusal::RefusalKind;
+use crate::sum::sum;
+use crate::typed;
 use crate::utf8;
 ghost use mathlib.Core.Path.{_≡_};
 ghost use Prim.Native.Nat.{_/_, _≤_};
@@ -15,7 +17,7 @@ ghost use Rattle.cbor.specs.Heads.{majorNumber, strings};
 ghost use Rattle.cbor.specs.Decode.{content, chunk, entry, item, decode};
 ghost use Rattle.cbor.specs.Valid.{isText};
 ghost use Rattle.cbor.specs.Answers.{kindNumber};
-ghost use Rattle.cbor.specs.WalkAnswers.{made, refused, walkTold, sized, toldOf, walkOf, walkAllOf, below, kindOf, entryContents, chunkContents, oneOf, allOf, tagOf, untilOf, Turned, capped, afterTold, Headed, Within, ElementSize, mayTagBy, contents};
+ghost use Rattle.cbor.specs.WalkAnswers.{made, refused, walkTold, sized, toldOf, walkOf, walkAllOf, below, kindOf, entryContents, chunkContents, oneOf, allOf, tagOf, untilOf, Turned, afterTold, Headed, Within, contents};
 
 // What was walked over ends before `end`; `size` is the number of bytes of strings in it.
 pub struct Made {
@@ -51,17 +53,6 @@ fn refuse(kind: RefusalKind, place: usize) -> Walked
     ensures { λ r. ⌜ walkTold r ≡ refused (kindNumber kind) place ⌝ }
 {
     Walked::Refused(Refusal { kind, place })
-}
-
-// A sum that stops at the largest number.
-fn sum(a: usize, b: usize) -> usize
-    ensures { λ r. ⌜ r ≡ capped a b ⌝ }
-{
-    if b <= 18446744073709551615 - a {
-        a + b
-    } else {
-        18446744073709551615
-    }
 }
 
 // The answer for a part, as that for the whole: the part starts at `from`, and `size` bytes of strings stand before it.
@@ -167,41 +158,6 @@ fn chunk(bytes: &[u8], text: bool) -> Walked
     }
 }
 
-// TAGS
-
-// The size of the elements of a typed array (RFC 8746, section 2.1).
-fn element_size(n: u64) -> usize
-    ensures { λ r. ⌜ ElementSize n r ⌝ }
-{
-    let e = n / 16 % 2 + n % 4;
-    match e {
-        0 => 1,
-        1 => 2,
-        2 => 4,
-        3 => 8,
-        _ => 16,
-    }
-}
-
-// Whether a tag may stand before an item, by its major type and the bytes in it.
-fn may_tag(n: u64, major: u8, size: usize) -> bool
-    ensures { λ r. ⌜ r ≡ mayTagBy n major size ⌝ }
-{
-    if n < 64 {
-        return true;
-    }
-    if 87 < n {
-        return true;
-    }
-    if n == 76 {
-        return false;
-    }
-    if major != 2 {
-        return false;
-    }
-    size % element_size(n) == 0
-}
-
 // THE CYCLE
 
 // The item at the front, with levels left.
@@ -267,7 +223,7 @@ fn tag(bytes: &[u8], from: usize, n: u64, levels: usize) -> Walked
     match part {
         Walked::Refused(e) => Walked::Refused(e),
         Walked::Made(m) => {
-            if may_tag(n, initial_at(bytes, from) / 32, m.size) {
+            if typed::may_tag(n, initial_at(bytes, from) / 32 == 2, m.size) {
                 return Walked::Made(m);
             }
             refuse(RefusalKind::BadTypedArray, 0)

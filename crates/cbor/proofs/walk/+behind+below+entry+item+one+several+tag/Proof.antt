@@ -29,7 +29,7 @@ use Rattle.cbor.proofs.walk.after.Reads as after-reads
 use Rattle.cbor.proofs.walk.chunk.Reads as chunk-reads
 use Rattle.cbor.proofs.walk.content.Reads as content-reads
 use Rattle.cbor.proofs.walk.initial_at.Reads as initial-at-reads
-use Rattle.cbor.proofs.walk.may_tag.Reads as may-tag-reads
+use Rattle.cbor.proofs.typed.may_tag.Reads as may-tag-reads
 use Rattle.cbor.proofs.walk.reached.Reads as reached-reads
 use Rattle.cbor.proofs.walk.refuse.Reads as refuse-reads
 use Rattle.cbor.proofs.walk.turn_at.Reads as turn-at-reads

@@ -1,9 +1,9 @@
--- `cbor::walk::element_size` meets its contract.
+-- `cbor::typed::element_size` meets its contract.
 -- Assumes nothing.
 use borrow.Author.Needs.{needs}
-use Rattle.cbor.proofs.walk.element_size.Statement.{statement}
-use Rattle.cbor.proofs.walk.element_size.Tie as tie
-use Rattle.cbor.proofs.WalkParts.{element-ways}
+use Rattle.cbor.proofs.typed.element_size.Statement.{statement}
+use Rattle.cbor.proofs.typed.element_size.Tie as tie
+use Rattle.cbor.proofs.TypedCode.{element-ways}
 
 pub element-size-spec : {M : Type 1} → statement M
 element-size-spec =
