@@ -1,11 +1,11 @@
 -- Typed arrays (RFC 8746; document 01, Form: "Typed arrays").
-use Prim.Native.Nat.{ℕ, zero, suc, _+_, _-_, _*_, _/_, _%_, _^_, _<_}
+use Prim.Native.Nat.{ℕ, _+_, _/_, _%_, _^_, _<_}
 use mathlib.Core.Path.{_≡_}
 use mathlib.Core.List.{List, [], _∷_}
 use mathlib.Core.Bool.{Bool, true, false, _&&_}
 use lib.Dec.{leb, eqb}
 use lib.ListN.{length}
-use Rattle.cbor.specs.Items.{Kind, byteString, textString, Chunk, Item, int, string, chunked, array, map, tag, simple}
+use Rattle.cbor.specs.Items.{byteString, textString, Chunk, Item, int, string, chunked, array, map, tag, simple}
 
 -- "With tag bits 010 f s e ll the size is 2 to the power f + ll"
 unfoldable pub elementSize : ℕ → ℕ

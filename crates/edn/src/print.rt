@@ -2,7 +2,7 @@
 use crate::look;
 use cbor::refusal::Refusal;
 use cbor::refusal::RefusalKind;
-use cbor::walk::Walked;
+use cbor::walk::Passed;
 use notation::print;
 ghost use mathlib.Core.Path.{_≡_};
 ghost use Rattle.edn.specs.Operations.{print};
@@ -36,7 +36,7 @@ pub fn print(bytes: &[u8], out: &mut [u8]) -> Answer
 {
     let all = look::checked_all(bytes);
     match all {
-        Walked::Refused(e) => Answer::Refused(e),
-        Walked::Made(_m) => lay(bytes, out),
+        Passed::Refused(e) => Answer::Refused(e),
+        Passed::Span(_m) => lay(bytes, out),
     }
 }
