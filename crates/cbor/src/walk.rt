@@ -30,7 +30,7 @@ pub enum Walked {
     Refused(Refusal),
 }
 
-// Several items, or a part of one, which have no major type of their own.
+// Several items, or a part of one: an entry, a chunk, what stands behind a head.
 pub struct Span {
     pub end: usize,
     pub size: usize,
