@@ -307,21 +307,17 @@ module _ {s b b′ : List ℕ} {at pos : ℕ} (d : ℕ) (a : Answer) (rm : Room 
 pub ruleset pair-ways = (pair-refused, pair-done)
 
 -- TAGS
-divides-note : (size : ℕ) (x : Item) → divides size x ≡ dividesBy size (noteOf x)
-unfolding divides dividesBy noteOf
-divides-note size (int g w n) = refl
-divides-note size (string byteString w b) = refl
-divides-note size (string textString w b) = refl
-divides-note size (chunked byteString cs) = refl
-divides-note size (chunked textString cs) = refl
-divides-note size (array z xs) = refl
-divides-note size (map z ps) = refl
-divides-note size (tag w n x) = refl
-divides-note size (simple n) = refl
-
-may-note : (n : ℕ) (x : Item) → mayTagBy n (noteOf x) ≡ mayTag n x
-unfolding mayTagBy mayTag
-may-note n x = ap (λ (v : Bool). elim (isTypedArray n) as (λ z. Bool) [ true ↦ elim (eqb n 76) as (λ z. Bool) [ true ↦ false | false ↦ v ] | false ↦ true ]) (sym (divides-note (elementSize n) x))
+may-note : (n : ℕ) (x : Item) → mayTagNoted n (noteOf x) ≡ mayTag n x
+unfolding mayTagNoted mayTagBy mayTag divides noteOf
+may-note n (int g w k) = refl
+may-note n (string byteString w b) = refl
+may-note n (string textString w b) = refl
+may-note n (chunked byteString cs) = refl
+may-note n (chunked textString cs) = refl
+may-note n (array z xs) = refl
+may-note n (map z ps) = refl
+may-note n (tag w k x) = refl
+may-note n (simple k) = refl
 
 module _ {s : List ℕ} {at place′ first size : ℕ} (pos : ℕ) (o : Opened s at pos place′) (hs : HeadSize first size) where
   pub tag-place : Fits bits64 (pos + size)
@@ -340,7 +336,7 @@ tag-case : {s b b₁ b₂ : List ℕ} {at pos place′ first size : ℕ} {m : Ma
     → Told (ofTagged first n) s b b₂ (length (marked s) - at + 1) pos a′ (taggedRead d n (length (marked s) - place′) (drop at (marked s)))
 unfolding taggedRead ofTagged ofItem
 tag-case {s} {b} {b₁} {b₂} {at} {pos} {place′} {first} {size} {m} {a′} n d true o hs wr it tm e =
-    let may : mayTagBy n (m .note) ≡ true = ap (mayTagBy n) (item-note (it .thing) (it .moved .noted)) ∙ may-note n (it .thing) ∙ e in
+    let may : mayTagNoted n (m .note) ≡ true = ap (mayTagNoted n) (item-note (it .thing) (it .moved .noted)) ∙ may-note n (it .thing) ∙ e in
     let h : size ≡ length (headBytes first n) = hs .is n in
     let l : length (headBytes first n ++ encode (it .thing)) ≡ length (headBytes first n) + length (encode (it .thing)) = length-append (headBytes first n) (encode (it .thing)) in
     let z : min (size + m .size) (2 ^ 64 - 1) ≡ size + m .size = omega (arith, hs .most, it .moved .short, o .room) in
@@ -355,7 +351,7 @@ tag-case {s} {b} {b₁} {b₂} {at} {pos} {place′} {first} {size} {m} {a′} n
       wrote = wrote-more (wrote-written wr) (it .moved .wrote) (ap (λ (k : ℕ). pos + k) h);
     })
 tag-case {s} {b} {b₁} {b₂} {at} {pos} {place′} {first} {size} {m} {a′} n d false o hs wr it tm e =
-    let may : mayTagBy n (m .note) ≡ false = ap (mayTagBy n) (item-note (it .thing) (it .moved .noted)) ∙ may-note n (it .thing) ∙ e in
+    let may : mayTagNoted n (m .note) ≡ false = ap (mayTagNoted n) (item-note (it .thing) (it .moved .noted)) ∙ may-note n (it .thing) ∙ e in
     let p : place′ ≡ length (marked s) - (length (marked s) - place′) = omega (arith, o .before) in
     told-no badTypedArray (length (marked s) - place′) _ (bind-yes (followed 14 d (drop at (marked s))) _ (it .thing) (it .rest) (it .is) ∙ (rw e)) (denied (tm .refused may) p)
 
