@@ -2,10 +2,10 @@
 // Each function answers where in the bytes what it printed ends, and the place in the buffer behind its text.
 use crate::parts;
 use crate::put;
-use cbor::sum::sum;
 use cbor::head;
 use cbor::head::HeadAt;
 use cbor::head::HeadRead;
+use cbor::sum::sum;
 ghost use mathlib.Core.Path.{_≡_};
 ghost use Prim.Native.Nat.{_+_, _-_};
 ghost use mathlib.Core.Bool.{true};

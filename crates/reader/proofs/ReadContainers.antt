@@ -14,7 +14,7 @@ use Rattle.cbor.specs.Widths.{Width, w0, w1, w2, w4, w8, limit}
 use Rattle.cbor.specs.Items.{byteString, textString, Size, definite, indefinite, Item, int, string, chunked, array, map, tag, simple, Items, count, count₂}
 use Rattle.cbor.specs.Heads.{Major, strings, arrays, maps, majorNumber, initial, head}
 use Rattle.cbor.specs.Encode.{encodeString, encode, encodeAll, encodeAll₂, enclosed, opening, closing}
-use Rattle.cbor.specs.TypedArrays.{mayTag, divides, isTypedArray, elementSize}
+use Rattle.cbor.specs.TypedArrays.{mayTag, mayTagBy, divides}
 use Rattle.cbor.specs.Buffer.{written, closed}
 use Rattle.cbor.specs.HeadAnswers.{headBytes}
 use Rattle.cbor.specs.declared.refusal.Refusal.{Refusal}
@@ -27,7 +27,7 @@ use Rattle.notation.specs.Reading.{marked, sequence}
 use Rattle.tokens.specs.Stands.{Stands}
 use Rattle.tokens.specs.TokenAnswers.{widthNumber, indicatorNumber, shapeCode, Took}
 use Rattle.tokens.specs.NumberAnswers.{chooseBy, chosenNumber}
-use Rattle.reader.specs.ReadAnswers.{View, noteOf, ofItem, ofEntry, ofClosed, ofPairs, ofTagged, followBy, followed, entry, within, taggedRead, indicatorFor, shapeFor, infoBy, HeadSize, mayTagBy, dividesBy, Room, Opened, Bracketed, Loop, Ahead, Light, Heavy, Moved, After, Told, Strayed, Finished, Ended, TagMade, joinedAs}
+use Rattle.reader.specs.ReadAnswers.{View, noteOf, ofItem, ofEntry, ofClosed, ofPairs, ofTagged, followBy, followed, entry, within, taggedRead, indicatorFor, shapeFor, infoBy, HeadSize, mayTagNoted, Room, Opened, Bracketed, Loop, Ahead, Light, Heavy, Moved, After, Told, Strayed, Finished, Ended, TagMade, joinedAs}
 use Rattle.tokens.specs.declared.token.Token.{Token as Cut}
 use Rattle.reader.specs.declared.read.Made.{Made as MadeS}
 use Rattle.reader.specs.declared.read.Answer.{Answer}
