@@ -26,9 +26,9 @@ use Rattle.notation.specs.Places.{levelsAt}
 use Rattle.notation.specs.Alone.{plus}
 use Rattle.reader.specs.ReadAnswers.{Told, ofItem}
 use Rattle.reader.proofs.ReadOne.{one-accepted, one-denied}
-use Rattle.reader.specs.declared.read.Made.{Made as MadeS}
-use Rattle.reader.specs.declared.read.Answer.{Answer as ReadAnswer}
-use Rattle.reader.specs.declared.read.Answer.the-variants.{Made as ReadMade, Refused as ReadRefused}
+use Rattle.reader.specs.declared.answer.Made.{Made as MadeS}
+use Rattle.reader.specs.declared.answer.Answer.{Answer as ReadAnswer}
+use Rattle.reader.specs.declared.answer.Answer.the-variants.{Made as ReadMade, Refused as ReadRefused}
 use Rattle.edn.specs.Operations.{onward, room, fitting, written, itemsOf, spotOf, lookUp, level, replaced, correction, zeroed, correct}
 use Rattle.edn.specs.Answers.{locateTold, locateOf}
 use Rattle.edn.specs.Outcomes.{outcomeOf, textTold, passing, Made}

@@ -22,9 +22,9 @@ use Rattle.cbor.proofs.Buffer.{written-fits, copied-yes}
 use Rattle.notation.specs.Form.{Closed}
 use Rattle.notation.specs.Reading.{marked, checked, sequence, readText}
 use Rattle.reader.specs.ReadAnswers.{Told, After, Became, Moved, Wrote, Denied, ofClosed}
-use Rattle.reader.specs.declared.read.Made.{Made as MadeS}
-use Rattle.reader.specs.declared.read.Answer.{Answer as ReadAnswer}
-use Rattle.reader.specs.declared.read.Answer.the-variants.{Made as ReadMade, Refused as ReadRefused}
+use Rattle.reader.specs.declared.answer.Made.{Made as MadeS}
+use Rattle.reader.specs.declared.answer.Answer.{Answer as ReadAnswer}
+use Rattle.reader.specs.declared.answer.Answer.the-variants.{Made as ReadMade, Refused as ReadRefused}
 use Rattle.edn.specs.Operations.{Outcome, onward, room, fitting, written, bytesOf, read}
 use Rattle.edn.specs.Outcomes.{outcomeOf, laid, Refuses, textTold, passing, Made, Delivered, itemsRead, Ready, Encodes}
 use Rattle.edn.specs.declared.answer.Answer.{Answer}

@@ -14,9 +14,9 @@ use Rattle.cbor.specs.Answers.{kindNumber}
 use Rattle.cbor.specs.declared.refusal.Refusal.{Refusal}
 use Rattle.cbor.specs.declared.refusal.RefusalKind.the-variants.{NoRoom}
 use Rattle.notation.specs.Reading.{readItem}
-use Rattle.reader.specs.declared.read.Made.{Made as MadeS}
-use Rattle.reader.specs.declared.read.Answer.{Answer as ReadAnswer}
-use Rattle.reader.specs.declared.read.Answer.the-variants.{Made as ReadMade, Refused as ReadRefused}
+use Rattle.reader.specs.declared.answer.Made.{Made as MadeS}
+use Rattle.reader.specs.declared.answer.Answer.{Answer as ReadAnswer}
+use Rattle.reader.specs.declared.answer.Answer.the-variants.{Made as ReadMade, Refused as ReadRefused}
 use Rattle.edn.specs.Operations.{onward, lookUp, correction, correct}
 use Rattle.edn.specs.Answers.{locateTold, locateOf}
 use Rattle.edn.specs.Outcomes.{outcomeOf, Made}

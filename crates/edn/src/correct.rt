@@ -9,8 +9,8 @@ use crate::text::check_text;
 use cbor::emit;
 use cbor::refusal::Refusal;
 use cbor::refusal::RefusalKind;
+use reader::answer;
 use reader::one::read_one;
-use reader::read;
 ghost use mathlib.Core.Path.{_≡_};
 ghost use Prim.Native.Nat.{_≤_};
 ghost use lib.ListN.{length, take};
@@ -80,13 +80,13 @@ fn plan_for(p: Part, used: usize, size: usize, room: usize) -> Decision
 }
 
 // The new item's bytes, from its text.
-fn read_new(text: &[u8], levels: usize, item: &mut [u8]) -> read::Answer
+fn read_new(text: &[u8], levels: usize, item: &mut [u8]) -> answer::Answer
     requires { ⌜ length (now item) ≡ mostBytes ⌝ }
     ensures { λ r. ⌜ Newly (now (text .entry)) levels (now (item .exit)) r ⌝ }
 {
     let t = check_text(text);
     match t {
-        Text::Refused(e) => read::Answer::Refused(e),
+        Text::Refused(e) => answer::Answer::Refused(e),
         Text::Good => read_one(text, levels, item),
     }
 }
@@ -105,8 +105,8 @@ fn replace(
 {
     let a = read_new(text, levels, item);
     match a {
-        read::Answer::Refused(e) => Decision::Refused(e),
-        read::Answer::Made(m) => plan_for(p, used, m.size, room),
+        answer::Answer::Refused(e) => Decision::Refused(e),
+        answer::Answer::Made(m) => plan_for(p, used, m.size, room),
     }
 }
 

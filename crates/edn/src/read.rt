@@ -6,6 +6,7 @@ use crate::text::Text;
 use crate::text::check_text;
 use cbor::emit;
 use cbor::refusal::RefusalKind;
+use reader::answer;
 use reader::read;
 ghost use mathlib.Core.Path.{_≡_};
 ghost use Rattle.edn.specs.Operations.{read};
@@ -29,8 +30,8 @@ fn encode(text: &[u8], made: &mut [u8], out: &mut [u8]) -> Answer
 {
     let a = read::read_items(text, made);
     match a {
-        read::Answer::Refused(e) => Answer::Refused(e),
-        read::Answer::Made(m) => deliver(made, m.size, out),
+        answer::Answer::Refused(e) => Answer::Refused(e),
+        answer::Answer::Made(m) => deliver(made, m.size, out),
     }
 }
 

@@ -29,9 +29,9 @@ use Rattle.tokens.specs.TokenAnswers.{widthNumber, indicatorNumber, shapeCode, 
 use Rattle.tokens.specs.NumberAnswers.{chooseBy, chosenNumber}
 use Rattle.reader.specs.ReadAnswers.{View, noteOf, ofItem, ofEntry, ofClosed, ofPairs, ofTagged, followBy, followed, entry, within, taggedRead, indicatorFor, shapeFor, infoBy, HeadSize, mayTagNoted, Room, Opened, Bracketed, Loop, Ahead, Light, Heavy, Moved, After, Told, Strayed, Finished, Ended, TagMade, joinedAs}
 use Rattle.tokens.specs.declared.token.Token.{Token as Cut}
-use Rattle.reader.specs.declared.read.Made.{Made as MadeS}
-use Rattle.reader.specs.declared.read.Answer.{Answer}
-use Rattle.reader.specs.declared.read.Answer.the-variants.{Made, Refused}
+use Rattle.reader.specs.declared.answer.Made.{Made as MadeS}
+use Rattle.reader.specs.declared.answer.Answer.{Answer}
+use Rattle.reader.specs.declared.answer.Answer.the-variants.{Made, Refused}
 use Rattle.notation.proofs.Equations.{bind-same}
 use Rattle.tokens.proofs.Marked.{stands-left, length-marked}
 use Rattle.tokens.proofs.IndicatorCode.{choose-is}

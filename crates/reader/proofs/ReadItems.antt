@@ -26,8 +26,8 @@ use Rattle.tokens.specs.Stands.{Stands}
 use Rattle.tokens.specs.TokenAnswers.{widthNumber, indicatorNumber, itemCode, openCode, kindCode, beginCode, shapeCode, codeOf, itemMark, openMark, beginMark, markOf, itemNumber, openNumber, beginNumber, numberOf, Seen, Took}
 use Rattle.reader.specs.ReadAnswers.{noteOf, ofItem, ofTagged, followBy, followed, chunkedRead, within, taggedRead, indicatorFor, infoBy, majorBy, initialBy, Room, Opened, Bracketed, Told, Strayed, Leafed}
 use Rattle.tokens.specs.declared.token.Token.{Token as Cut}
-use Rattle.reader.specs.declared.read.Answer.{Answer}
-use Rattle.reader.specs.declared.read.Answer.the-variants.{Made}
+use Rattle.reader.specs.declared.answer.Answer.{Answer}
+use Rattle.reader.specs.declared.answer.Answer.the-variants.{Made}
 use Rattle.cbor.proofs.HeadCode.{head-bytes}
 use Rattle.notation.proofs.Equations.{bind-same, bind-assoc, obey-if}
 use Rattle.tokens.proofs.Marked.{stands-left}

@@ -19,9 +19,9 @@ use Rattle.notation.specs.Reading.{marked}
 use Rattle.tokens.specs.TokenAnswers.{indicatorNumber, shapeCode, Took}
 use Rattle.reader.specs.ReadAnswers.{Entry, ofItem, ofEntry, ofClosed, ofPairs, entry, shapeFor, Room, Loop, Told, Strayed}
 use Rattle.tokens.specs.declared.token.Token.{Token as Cut}
-use Rattle.reader.specs.declared.read.Made.{Made as MadeS}
-use Rattle.reader.specs.declared.read.Answer.{Answer}
-use Rattle.reader.specs.declared.read.Answer.the-variants.{Made, Refused}
+use Rattle.reader.specs.declared.answer.Made.{Made as MadeS}
+use Rattle.reader.specs.declared.answer.Answer.{Answer}
+use Rattle.reader.specs.declared.answer.Answer.the-variants.{Made, Refused}
 use Rattle.reader.proofs.Telling.{got, seen-as}
 use Rattle.reader.proofs.ReadRules.{lastItem, items-more, items-end, items-start, addPair, lastPair, pairs-more, pairs-end, pairs-start}
 use Rattle.reader.proofs.ReadLoops.{Row, Run, row-empty, row-start, row-room, row-refused, row-fits, row-count, row-comma, row-less, row-close, row-stray}

@@ -20,9 +20,9 @@ use Rattle.tokens.specs.Stands.{Stands}
 use Rattle.tokens.specs.TokenAnswers.{indicatorNumber, shapeCode, codeOf, markOf, Took}
 use Rattle.reader.specs.ReadAnswers.{View, Wrote, Room, Told, Strayed}
 use Rattle.tokens.specs.declared.token.Token.{Token as Cut}
-use Rattle.reader.specs.declared.read.Made.{Made as MadeS}
-use Rattle.reader.specs.declared.read.Answer.{Answer}
-use Rattle.reader.specs.declared.read.Answer.the-variants.{Made, Refused}
+use Rattle.reader.specs.declared.answer.Made.{Made as MadeS}
+use Rattle.reader.specs.declared.answer.Answer.{Answer}
+use Rattle.reader.specs.declared.answer.Answer.the-variants.{Made, Refused}
 use Rattle.tokens.proofs.Marked.{stands-left}
 use Rattle.notation.proofs.Equations.{bind-assoc}
 use Rattle.reader.proofs.ReadWriting.{wrote-nothing, wrote-more}

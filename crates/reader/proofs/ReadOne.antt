@@ -24,9 +24,9 @@ use Rattle.tokens.specs.declared.token.Token.{Token as Cut}
 use Rattle.tokens.proofs.Marked.{length-marked, at-end, stands-left, stands-at}
 use Rattle.reader.specs.ReadAnswers.{Wrote, Room, ofItem, Told, Denies, Strayed}
 use Rattle.reader.specs.OneAnswers.{Behind}
-use Rattle.reader.specs.declared.read.Made.{Made as MadeS}
-use Rattle.reader.specs.declared.read.Answer.{Answer}
-use Rattle.reader.specs.declared.read.Answer.the-variants.{Made, Refused}
+use Rattle.reader.specs.declared.answer.Made.{Made as MadeS}
+use Rattle.reader.specs.declared.answer.Answer.{Answer}
+use Rattle.reader.specs.declared.answer.Answer.the-variants.{Made, Refused}
 use Rattle.reader.proofs.Telling.{place-at, place-left, bind-yes, told-no, told-ok, denied, got, lost, told-lost, told-more, told-stop}
 
 pub one-room : (s : List ℕ) → length s ≤ 65535 → Room s 0 0

@@ -21,9 +21,9 @@ use Rattle.cbor.specs.declared.refusal.RefusalKind.{RefusalKind}
 use Rattle.cbor.proofs.Arguments.{length-big}
 use Rattle.reader.specs.ReadAnswers.{infoBy, Informed, majorBy, initialBy, MajorBy, HeadSize, strayBy, mayTagNoted, noteBy, Light, Heavy, Strayed, Denies, Finished, TagMade, joinedAs}
 use Rattle.tokens.specs.declared.token.Token.{Token as Cut}
-use Rattle.reader.specs.declared.read.Made.{Made as MadeS}
-use Rattle.reader.specs.declared.read.Answer.{Answer}
-use Rattle.reader.specs.declared.read.Answer.the-variants.{Made, Refused}
+use Rattle.reader.specs.declared.answer.Made.{Made as MadeS}
+use Rattle.reader.specs.declared.answer.Answer.{Answer}
+use Rattle.reader.specs.declared.answer.Answer.the-variants.{Made, Refused}
 
 -- THE MAJOR TYPE
 module _ {c : ℕ} where

@@ -27,9 +27,9 @@ use Rattle.tokens.specs.Stands.{Stands}
 use Rattle.tokens.specs.TokenAnswers.{itemCode, openCode, kindCode, sizeNumber, beginCode, shapeCode, codeOf, markOf, beginMark, numberOf, beginNumber, Written, BeginsAs, Seen, Took}
 use Rattle.reader.specs.ReadAnswers.{noteOf, ofItem, ofChunk, ofChunks, chunkOf, chunkBy, chunkRead, chunkedRead, kindFor, majorBy, initialBy, MajorBy, noteBy, Wrote, Room, Opened, Strings, Light, Moved, Told, Strayed, Denies, Stringed, LiteralIs, LiteralTold, Ended, ChunksTold}
 use Rattle.tokens.specs.declared.token.Token.{Token as Cut}
-use Rattle.reader.specs.declared.read.Made.{Made as MadeS}
-use Rattle.reader.specs.declared.read.Answer.{Answer}
-use Rattle.reader.specs.declared.read.Answer.the-variants.{Made, Refused}
+use Rattle.reader.specs.declared.answer.Made.{Made as MadeS}
+use Rattle.reader.specs.declared.answer.Answer.{Answer}
+use Rattle.reader.specs.declared.answer.Answer.the-variants.{Made, Refused}
 use Rattle.notation.proofs.ByName.{reads-is}
 use Rattle.notation.proofs.Equations.{bind-same, bind-assoc, obey-if}
 use Rattle.notation.proofs.SoundToken.{head-most}

@@ -25,9 +25,9 @@ use Rattle.tokens.specs.LiteralAnswers.{Fills, Quotes as Quoting}
 use Rattle.tokens.specs.TokenAnswers.{widthNumber, kindCode, sizeNumber, Quotes, Encodes, Spelled}
 use Rattle.reader.specs.ReadAnswers.{noteOf, ofItem, infoBy, majorBy, initialBy, HeadSize, noteBy, Light, Wrote, Filled, Gave, Leafed, Stringed, LiteralIs, LiteralTold, Ended}
 use Rattle.tokens.specs.declared.token.Token.{Token as Cut}
-use Rattle.reader.specs.declared.read.Made.{Made as MadeS}
-use Rattle.reader.specs.declared.read.Answer.{Answer}
-use Rattle.reader.specs.declared.read.Answer.the-variants.{Made}
+use Rattle.reader.specs.declared.answer.Made.{Made as MadeS}
+use Rattle.reader.specs.declared.answer.Answer.{Answer}
+use Rattle.reader.specs.declared.answer.Answer.the-variants.{Made}
 
 -- LAWS
 pub wrote-nothing : (b : List ℕ) (p : ℕ) → Wrote b b p []

@@ -22,9 +22,9 @@ use Rattle.tokens.specs.Stands.{Stands}
 use Rattle.tokens.specs.TokenAnswers.{widthNumber, indicatorNumber, itemCode, openCode, kindCode, beginCode, shapeCode, codeOf, openMark, itemMark, beginMark, markOf, Seen, Shown, Took}
 use Rattle.reader.specs.ReadAnswers.{View, strayBy, Moved, Denied, After, Told, Strayed, Denies}
 use Rattle.tokens.specs.declared.token.Token.{Token as Cut}
-use Rattle.reader.specs.declared.read.Made.{Made as MadeS}
-use Rattle.reader.specs.declared.read.Answer.{Answer}
-use Rattle.reader.specs.declared.read.Answer.the-variants.{Made, Refused}
+use Rattle.reader.specs.declared.answer.Made.{Made as MadeS}
+use Rattle.reader.specs.declared.answer.Answer.{Answer}
+use Rattle.reader.specs.declared.answer.Answer.the-variants.{Made, Refused}
 use Rattle.tokens.proofs.Marked.{stands-left, stands-at}
 use Rattle.reader.proofs.ReadTokens.{Known, Fine, LeafFine, Cuts, next-fine}
 

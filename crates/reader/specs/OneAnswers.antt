@@ -6,8 +6,8 @@ use Rattle.cbor.specs.Items.{Item}
 use Rattle.notation.specs.Reading.{marked}
 use Rattle.notation.specs.Alone.{aloneMarked}
 use Rattle.reader.specs.ReadAnswers.{ofItem, Moved, Told}
-use Rattle.reader.specs.declared.read.Made.{Made as MadeS}
-use Rattle.reader.specs.declared.read.Answer.{Answer}
+use Rattle.reader.specs.declared.answer.Made.{Made as MadeS}
+use Rattle.reader.specs.declared.answer.Answer.{Answer}
 
 -- behind an item x, which m says was read
 pub record Behind (s : List ℕ) (d : ℕ) (m : MadeS) (a : Answer) : Type 0 where

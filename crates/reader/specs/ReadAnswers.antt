@@ -22,9 +22,9 @@ use Rattle.notation.specs.Reading.{marked}
 use Rattle.tokens.specs.Stands.{Stands}
 use Rattle.tokens.specs.TokenAnswers.{indicatorNumber, kindCode, sizeNumber, shapeCode, codeOf, Spelled}
 use Rattle.tokens.specs.declared.token.Token.{Token as Cut}
-use Rattle.reader.specs.declared.read.Made.{Made as MadeS}
-use Rattle.reader.specs.declared.read.Answer.{Answer}
-use Rattle.reader.specs.declared.read.Answer.the-variants.{Made, Refused}
+use Rattle.reader.specs.declared.answer.Made.{Made as MadeS}
+use Rattle.reader.specs.declared.answer.Answer.{Answer}
+use Rattle.reader.specs.declared.answer.Answer.the-variants.{Made, Refused}
 
 -- WHAT THE CODE KNOWS of a thing that was read: its bytes; how many things it is, or how long the content of a chunk; and a note
 pub record View : Type 0 where

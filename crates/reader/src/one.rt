@@ -1,9 +1,9 @@
 // The text of one item, with no blank or comment outside it.
-use crate::read::Answer;
-use crate::read::Made;
+use crate::answer::Answer;
+use crate::answer::Made;
+use crate::answer::refuse;
+use crate::answer::strayed;
 use crate::read::item;
-use crate::read::refuse;
-use crate::read::strayed;
 use cbor::refusal::RefusalKind;
 use tokens::scan::Cursor;
 use tokens::token::next_token;

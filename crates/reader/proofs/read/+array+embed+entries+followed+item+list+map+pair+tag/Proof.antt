@@ -32,17 +32,17 @@ use Rattle.reader.proofs.read.tag.Kinds as tag-kinds
 use Rattle.reader.proofs.read.+array+embed+entries+followed+item+list+map+pair+tag.Lts-tag as tag-lts
 use Rattle.cbor.proofs.head.write_head.Reads as write-head-reads
 use Rattle.tokens.proofs.indicator.choose.Reads as choose-reads
-use Rattle.reader.proofs.read.chunked.Reads as chunked-reads
-use Rattle.reader.proofs.read.closed.Reads as closed-reads
-use Rattle.reader.proofs.read.done.Reads as done-reads
-use Rattle.reader.proofs.read.endless.Reads as endless-reads
-use Rattle.reader.proofs.read.finish.Reads as finish-reads
-use Rattle.reader.proofs.read.head_size.Reads as head-size-reads
-use Rattle.reader.proofs.read.initial.Reads as initial-reads
+use Rattle.reader.proofs.strings.chunked.Reads as chunked-reads
+use Rattle.reader.proofs.answer.closed.Reads as closed-reads
+use Rattle.reader.proofs.answer.done.Reads as done-reads
+use Rattle.reader.proofs.close.endless.Reads as endless-reads
+use Rattle.reader.proofs.close.finish.Reads as finish-reads
+use Rattle.reader.proofs.heads.head_size.Reads as head-size-reads
+use Rattle.reader.proofs.heads.initial.Reads as initial-reads
 use Rattle.reader.proofs.read.joined.Reads as joined-reads
-use Rattle.reader.proofs.read.leaf.Reads as leaf-reads
-use Rattle.reader.proofs.read.literal.Reads as literal-reads
-use Rattle.reader.proofs.read.strayed.Reads as strayed-reads
+use Rattle.reader.proofs.heads.leaf.Reads as leaf-reads
+use Rattle.reader.proofs.strings.literal.Reads as literal-reads
+use Rattle.reader.proofs.answer.strayed.Reads as strayed-reads
 use Rattle.reader.proofs.read.tagged.Reads as tagged-reads
 use Rattle.tokens.proofs.token.next_token.Reads as next-token-reads
 use Rattle.reader.proofs.read.+array+embed+entries+followed+item+list+map+pair+tag.{statement}
