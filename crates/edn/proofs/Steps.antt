@@ -15,7 +15,7 @@ use Rattle.cbor.specs.Heads.{Major, majorNumber, itemMajor, Head, nextHead}
 use Rattle.cbor.specs.Decode.{Until, counted, broken, over, another, stepAt, extent, item as itemAt, decode}
 use Rattle.cbor.specs.Answers.{kindNumber}
 use Rattle.cbor.specs.HeadAnswers.{headTold, sizeInformation, headFrom, headAt}
-use Rattle.cbor.specs.WalkAnswers.{passTold, walkTold, sized, toldOf, walkOf, walkAllOf, contentsAll, oneOf, untilOf, turnOf, Turned, afterTold, itemAfter}
+use Rattle.cbor.specs.WalkAnswers.{Within, passTold, walkTold, sized, toldOf, walkOf, walkAllOf, contentsAll, oneOf, untilOf, turnOf, Turned, afterTold, itemAfter}
 use Rattle.cbor.specs.declared.refusal.Refusal.{Refusal}
 use Rattle.cbor.specs.declared.head.HeadAt.{HeadAt}
 use Rattle.cbor.specs.declared.head.HeadRead.{HeadRead}
@@ -37,7 +37,7 @@ use Rattle.cbor.proofs.WalkCycle.{Reached, reached, one-leaves}
 use Rattle.cbor.proofs.WalkItems.{part-told, item-told}
 use Rattle.edn.specs.Operations.{itemsOf}
 use Rattle.edn.specs.Following.{Place, at, astray, onto, behindOne, past, stepTo, nthFrom, childBy, childAt, childIn, numbered, follow, trace}
-use Rattle.edn.specs.Answers.{refused, checkTold, checkOf, placeOf, Inner, Moved, Within, extentBy, tracedTo, Still, Traced, item as itemS, refused as refusedS, scanTold, HeadOf, scanFrom, scanned}
+use Rattle.edn.specs.Answers.{refused, checkTold, checkOf, placeOf, Inner, Moved, extentBy, tracedTo, Still, Traced, item as itemS, refused as refusedS, scanTold, HeadOf, scanFrom, scanned}
 use Rattle.edn.specs.declared.look.Checked.the-variants.{Accepted, Refused as CheckRefused}
 use Rattle.edn.specs.declared.look.Scanned.the-variants.{Item as ItemV, Refused as ScanRefused}
 use Rattle.edn.specs.declared.look.Cursor.{Cursor}

@@ -85,9 +85,6 @@ pub record Moved (s : List ℕ) (r : Move) (p : Place) : Type 0 where
   pub is : placeOf s r ≡ p
   pub inside : Inner s r
 
-pub record Within (s : List ℕ) (from : ℕ) : Type 0 where
-  pub inside : from ≤ length s
-
 -- how far the elements behind a head go
 unfoldable pub extentBy : ℕ → ℕ → Until
 extentBy info n = elim (eqb info 31) [ true ↦ broken | false ↦ counted n ]

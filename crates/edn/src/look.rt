@@ -10,10 +10,10 @@ use cbor::walk::Turn;
 use cbor::walk::Walked;
 ghost use mathlib.Core.Path.{_≡_};
 ghost use lib.ListN.{length, drop};
-ghost use Rattle.cbor.specs.WalkAnswers.{untilOf};
+ghost use Rattle.cbor.specs.WalkAnswers.{untilOf, Within};
 ghost use Rattle.edn.specs.Operations.{itemsOf, lookUp, partOf};
 ghost use Rattle.edn.specs.Following.{past, nthFrom, childIn};
-ghost use Rattle.edn.specs.Answers.{checkTold, checkOf, Checks, locateTold, locateOf, Parts, Moved, Within, extentBy, Traced, scanTold, scanFrom, scanned};
+ghost use Rattle.edn.specs.Answers.{checkTold, checkOf, Checks, locateTold, locateOf, Parts, Moved, extentBy, Traced, scanTold, scanFrom, scanned};
 
 pub enum Checked {
     Accepted,

@@ -3,11 +3,14 @@
 use Rattle.tokens.proofs.class.class.Statement.{statement}
 use Rattle.tokens.proofs.class.class.Tie as tie
 use borrow.Author.Needs.{needs}
-use Rattle.tokens.proofs.ClassCode.{class-rule}
+use Rattle.cbor.specs.Utf8.{isIn}
+use Rattle.notation.specs.Classes.{classNumber, classRows, classIn, classOf}
+use Rattle.tokens.proofs.ClassCode.{right, class-rule}
 
 pub class-spec : {M : Type 1} → statement M
+unfolding right classNumber classRows classIn classOf isIn
 class-spec =
     tie.close (tie.spec
     (λ c. search needs)  -- array-read-result
-    (λ c. record { is = class-rule (c .args .b) (search needs); byte = search needs })  -- returns
+    (λ c. record { is = search (class-rule, needs); byte = search needs })  -- returns
     )
