@@ -7,6 +7,7 @@ use mathlib.Core.Bool.{Bool, true, false}
 use mathlib.Core.List.{List, [], _∷_, _++_}
 use lib.Dec.{leb}
 use lib.ListN.{length, take, replicate, length-append, length-replicate}
+use lib.Seq.{take-all}
 use borrow.Author.Tests.{leb-true, leb-false}
 use Rattle.cbor.specs.Ascii.{ascii}
 use Rattle.cbor.specs.Refusals.{Verdict, accepted, refused, noRoom}
@@ -140,3 +141,7 @@ module _ (s b b′ : List ℕ) {a : Answer} (h : outcomeOf a b′ ≡ print s b)
   print-refused l i p = program-refused (λ w. w) (itemsOf s) printText b b′ l h i p
 
 pub ruleset program-ways = (read-accepted, read-refused, print-accepted, print-refused)
+
+-- a front that is longer than all
+pub front-all-of : (s : List ℕ) (n : ℕ) → length s < n → s ≡ take n s
+front-all-of s n h = sym (take-all n s (omega arith))

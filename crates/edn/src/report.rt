@@ -6,7 +6,7 @@ use cbor::refusal;
 use cbor::refusal::Refusal;
 use printer::put;
 ghost use mathlib.Core.Path.{_≡_};
-ghost use lib.ListN.{length};
+ghost use lib.ListN.{length, take};
 ghost use Rattle.cbor.specs.Decode.{mostBytes};
 ghost use Rattle.cbor.specs.Answers.{kindNumber};
 ghost use Rattle.printer.specs.PrintAnswers.{Prints};
@@ -86,4 +86,14 @@ pub fn report_print(bytes: &[u8], out: &mut [u8]) -> usize
 {
     let mut text = [0; 65535];
     said_of_print(bytes, &mut text, out)
+}
+
+// The first `size` bytes, or all of them if there are no more.
+pub fn front(bytes: &[u8], size: usize) -> &[u8]
+    ensures { λ r. ⌜ now r ≡ take size (now (bytes .entry)) ⌝ }
+{
+    if bytes.len() < size {
+        return bytes;
+    }
+    &bytes[..size]
 }

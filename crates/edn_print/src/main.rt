@@ -6,7 +6,5 @@ fn main() {
     let n = io::read_full(0, &mut bytes);
     let mut out = [0u8; 65535];
     let size = report::report_print(&bytes[..n], &mut out);
-    if size <= 65535 {
-        io::write_all(1, &out[..size]);
-    }
+    io::write_all(1, report::front(&out, size));
 }

@@ -6,7 +6,5 @@ fn main() {
     let n = io::read_full(0, &mut text);
     let mut out = [0u8; 131090];
     let size = report::report_read(&text[..n], &mut out);
-    if size <= 131090 {
-        io::write_all(1, &out[..size]);
-    }
+    io::write_all(1, report::front(&out, size));
 }
