@@ -19,16 +19,6 @@ use Rattle.cbor.specs.WalkAnswers.{contents, contentsAll, contentsAll₂
 use Rattle.cbor.proofs.DecodeEncode.{enterAt}
 use Rattle.cbor.proofs.Leaves.{Left, Leaves, left-cut, left-weak, left-on, leaves-behind, leaves-bind, same, leaves-sized, sized-leaves, several-sized, several-leaves}
 
--- TAKING
-
-taking-leaves : (k left : ℕ) (s : List ℕ) → left ≤ length s → Leaves 0 length s (taking k left s)
-unfolding taking
-taking-leaves k left s h = by (leb k (length s)) refl
-  where
-    by : (t : Bool) → leb k (length s) ≡ t → Leaves {A = List ℕ} 0 length s (elim t [ true ↦ ok (take k s) (drop k s) | false ↦ refuse endsInside left ])
-    by true e = let l = leb-true k (length s) e in left-cut 0 (length (take k s)) k s (omega arith) (omega (arith, length-take k s)) l
-    by false e = h
-
 -- HEADS
 
 abbrev pub nought : {A : Type 0} → A → ℕ

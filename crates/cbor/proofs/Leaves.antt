@@ -74,26 +74,6 @@ unfolding sized
 sized-leaves k f s (ok x r) l = l
 sized-leaves k f s (refuse n left) l = l
 
-pub sized-bind : {A B : Type 0} (g : B → ℕ) (res : Result A) (go : A → List ℕ → Result B) → sized g (bind res go) ≡ bind res (λ x r. sized g (go x r))
-unfolding sized bind
-sized-bind g (ok x r) go = refl
-sized-bind g (refuse n left) go = refl
-
-pub bind-sized : {A B : Type 0} (f : A → ℕ) (res : Result A) (go : ℕ → List ℕ → Result B) → bind (sized f res) go ≡ bind res (λ x r. go (f x) r)
-unfolding sized bind
-bind-sized f (ok x r) go = refl
-bind-sized f (refuse n left) go = refl
-
-pub bind-same : {A B : Type 0} (res : Result A) (go to : A → List ℕ → Result B) → ((x : A) (r : List ℕ) → go x r ≡ to x r) → bind res go ≡ bind res to
-unfolding bind
-bind-same (ok x r) go to h = h x r
-bind-same (refuse n left) go to h = refl
-
-pub bind-bind : {A B C : Type 0} (res : Result A) (go : A → List ℕ → Result B) (to : B → List ℕ → Result C) → bind (bind res go) to ≡ bind res (λ x r. bind (go x r) to)
-unfolding bind
-bind-bind (ok x r) go to = refl
-bind-bind (refuse n left) go to = refl
-
 -- SEVERAL
 
 abbrev Fewer : {A : Type 0} → List ℕ → Result A → Type 0

@@ -10,6 +10,7 @@ pub mod Heads
 pub mod HeadCode
 pub mod KindCode
 pub mod EmitCode
+pub mod TypedCode
 pub mod Several
 pub mod Leaves
 pub mod DecodeEncode

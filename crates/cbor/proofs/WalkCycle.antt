@@ -13,12 +13,13 @@ use Rattle.cbor.specs.Refusals.{Result, ok, refuse, bind, tooDeep}
 use Rattle.cbor.specs.Items.{Item}
 use Rattle.cbor.specs.Decode.{Until, Step, over, another, stepAt, severalBy, chunk, entry, item}
 use Rattle.cbor.specs.Answers.{kindNumber}
-use Rattle.cbor.specs.WalkAnswers.{WalkTold, made, refused, walkTold, contents, sized, toldOf, walkOf, below, kindOf, entryContents, chunkContents, oneOf, allOf, untilOf, turnOf, Inner, Turned, afterTold, Within}
+use Rattle.cbor.specs.WalkAnswers.{PassTold, passed, refused, passTold, walkTold, asSpan, walkOf, contents, sized, toldOf, passOf, below, kindOf, entryContents, chunkContents, oneOf, allOf, untilOf, turnOf, Inner, Turned, afterTold, Within}
 use Rattle.cbor.specs.declared.refusal.Refusal.{Refusal}
 use Rattle.cbor.specs.declared.refusal.RefusalKind.the-variants.{TooDeep}
-use Rattle.cbor.specs.declared.walk.Made.{Made}
 use Rattle.cbor.specs.declared.walk.Walked.{Walked}
-use Rattle.cbor.specs.declared.walk.Walked.the-variants.{Made as MadeV, Refused as RefusedV}
+use Rattle.cbor.specs.declared.walk.Span.{Span}
+use Rattle.cbor.specs.declared.walk.Passed.{Passed}
+use Rattle.cbor.specs.declared.walk.Passed.the-variants.{Span as SpanV, Refused as RefusedV}
 use Rattle.cbor.specs.declared.walk.Extent.{Extent}
 use Rattle.cbor.specs.declared.walk.Turn.{Turn}
 use Rattle.cbor.specs.declared.walk.Turn.the-variants.{Over, Another}
@@ -28,29 +29,29 @@ use Rattle.cbor.proofs.ItemLeaves.{chunk-leaves, entry-leaves, below-le
 -- ANSWERS
 
 -- the place at which n bytes less n are
-pub at-front : (k n : ℕ) → refused k 0 ≡ refused k (n - n)
+pub at-front : (k n : ℕ) → _≡_ {A = PassTold} (refused k 0) (refused k (n - n))
 at-front k n = let z : 0 ≡ n - n = omega arith in ap (refused k) z
 
-pub record Reached (n : ℕ) (m : Made) (res : Result ℕ) : Type 0 where
+pub record Reached (n : ℕ) (m : Span) (res : Result ℕ) : Type 0 where
   pub rest : List ℕ
   pub is : res ≡ ok (m .size) rest
   pub ends : m .end ≡ n - length rest
 
-reached-of : (n : ℕ) (m : Made) (res : Result ℕ) → walkTold (MadeV m) ≡ toldOf n res → Reached n m res
-unfolding walkTold toldOf
+reached-of : (n : ℕ) (m : Span) (res : Result ℕ) → passTold (SpanV m) ≡ toldOf n res → Reached n m res
+unfolding passTold toldOf
 reached-of n m (ok k r) e = let i : m .size ≡ k = cc in record { rest = r; is = ap (λ (x : ℕ). ok x r) (sym i); ends = cc }
 reached-of n m (refuse k l) e = let z : _≡_ {A = ℕ} 0 1 = cc in absurd (omega arith)
 
-pub reached : {n : ℕ} {m : Made} (res : Result ℕ) (a : Walked) → walkTold a ≡ toldOf n res → a ≡ MadeV m → Reached n m res
+pub reached : {n : ℕ} {m : Span} (res : Result ℕ) (a : Passed) → passTold a ≡ toldOf n res → a ≡ SpanV m → Reached n m res
 reached res a e i = reached-of _ _ res (rw i at e)
 
-lost-of : (n : ℕ) (e : Refusal) (res : Result ℕ) (go : ℕ → List ℕ → Result ℕ) → walkTold (RefusedV e) ≡ toldOf n res → walkTold (RefusedV e) ≡ toldOf n (bind res go)
-unfolding walkTold toldOf bind
+lost-of : (n : ℕ) (e : Refusal) (res : Result ℕ) (go : ℕ → List ℕ → Result ℕ) → passTold (RefusedV e) ≡ toldOf n res → passTold (RefusedV e) ≡ toldOf n (bind res go)
+unfolding passTold toldOf bind
 lost-of n e (ok k r) go h = let z : _≡_ {A = ℕ} 0 1 = cc in absurd (omega arith)
 lost-of n e (refuse k l) go h = h
 
 -- a part that is refused, and whatever begins with it
-pub lost : (n : ℕ) {e : Refusal} (res : Result ℕ) (go : ℕ → List ℕ → Result ℕ) (a : Walked) → walkTold a ≡ toldOf n res → a ≡ RefusedV e → walkTold (RefusedV e) ≡ toldOf n (bind res go)
+pub lost : (n : ℕ) {e : Refusal} (res : Result ℕ) (go : ℕ → List ℕ → Result ℕ) (a : Passed) → passTold a ≡ toldOf n res → a ≡ RefusedV e → passTold (RefusedV e) ≡ toldOf n (bind res go)
 lost n res go a h i = lost-of n _ res go (rw i at h)
 
 -- the part of a slice from a place on, as the code has it
@@ -65,7 +66,7 @@ after-told s at size (ok k r) h z l v =
     let d = length-drop at s in
     let p : min (at + (length (drop at s) - length r)) (2 ^ 64 - 1) ≡ length s - length r = omega (arith, v .less) in
     let q : min (size + k) (2 ^ 64 - 1) ≡ size + k = omega (arith, v .small) in
-    λ j. made (p j) (q j)
+    λ j. passed (p j) (q j)
 after-told s at size (refuse k q) h z l v =
     let d = length-drop at s in
     let p : min (at + (length (drop at s) - q)) (2 ^ 64 - 1) ≡ length s - q = omega arith in
@@ -73,15 +74,23 @@ after-told s at size (refuse k q) h z l v =
 
 -- ONE LEVEL DOWN
 
-pub below-none : (d : ℕ) (s : List ℕ) {t : WalkTold} → d ≡ 0 → t ≡ refused (kindNumber TooDeep) 0 → t ≡ walkOf (length s) (below d s)
-unfolding walkOf below sized toldOf kindNumber
+pub below-none : (d : ℕ) (s : List ℕ) {t : PassTold} → d ≡ 0 → t ≡ refused (kindNumber TooDeep) 0 → t ≡ passOf (length s) (below d s)
+unfolding passOf below sized toldOf kindNumber
 below-none zero s z e = e ∙ at-front tooDeep (length s)
 below-none (suc d) s z e = absurd (omega arith)
 
-pub below-some : (d : ℕ) (s : List ℕ) {t : WalkTold} → (d ≡ 0 → ⊥) → t ≡ walkOf (length s) (item (d - 1) s) → t ≡ walkOf (length s) (below d s)
+-- an item that was walked over, passed over
+pub span-told : (n : ℕ) (res : Result Item) → asSpan (walkOf n res) ≡ passOf n res
+unfolding asSpan walkOf passOf sized toldOf
+span-told n (ok x r) = refl
+span-told n (refuse k l) = refl
+
+pub below-some : (d : ℕ) (s : List ℕ) {t : PassTold} (a : Walked) → (d ≡ 0 → ⊥) → walkTold a ≡ walkOf (length s) (item (d - 1) s) → t ≡ asSpan (walkTold a) → t ≡ passOf (length s) (below d s)
 unfolding below
-below-some zero s n e = absurd (n refl)
-below-some (suc d) s n e = let i : suc d - 1 ≡ d = omega arith in e ∙ ap (λ (k : ℕ). walkOf (length s) (item k s)) i
+below-some zero s a n e h = absurd (n refl)
+below-some (suc d) s a n e h =
+    let i : suc d - 1 ≡ d = omega arith in
+    h ∙ ap asSpan e ∙ span-told (length s) (item (suc d - 1) s) ∙ ap (λ (k : ℕ). passOf (length s) (item k s)) i
 
 pub ruleset below-ways = (below-none, below-some)
 
@@ -100,14 +109,14 @@ entry-sized rd s = by (rd s)
     by (ok k r) = last k (rd r)
     by (refuse n l) = refl
 
-module _ (d : ℕ) (s : List ℕ) (key : Walked) (told : walkTold key ≡ walkOf (length s) (below d s)) where
-  pub entry-refused : {e : Refusal} → key ≡ RefusedV e → walkTold (RefusedV e) ≡ toldOf (length s) (sized entryContents (entry (below d) s))
-  unfolding walkOf
+module _ (d : ℕ) (s : List ℕ) (key : Passed) (told : passTold key ≡ passOf (length s) (below d s)) where
+  pub entry-refused : {e : Refusal} → key ≡ RefusedV e → passTold (RefusedV e) ≡ toldOf (length s) (sized entryContents (entry (below d) s))
+  unfolding passOf
   entry-refused h = lost (length s) (sized contents (below d s)) _ key told h ∙ ap (toldOf (length s)) (sym (entry-sized (below d) s))
 
-  module _ {k : Made} (e : key ≡ MadeV k) where
+  module _ {k : Span} (e : key ≡ SpanV k) where
     at-key : Reached (length s) k (sized contents (below d s))
-    unfolding walkOf
+    unfolding passOf
     at-key = reached (sized contents (below d s)) key told e
 
     key-left : Left 1 s (at-key .rest) (k .size)
@@ -116,9 +125,9 @@ module _ (d : ℕ) (s : List ℕ) (key : Walked) (told : walkTold key ≡ walkOf
     pub entry-room : k .end ≤ length s
     entry-room = omega (arith, at-key .ends)
 
-    pub entry-made : (part : Walked) {t : WalkTold} → length s * 1 < 2 ^ 63 → walkTold part ≡ walkOf (length (take (length s - k .end) (drop (k .end) s))) (below d (take (length s - k .end) (drop (k .end) s))) → t ≡ afterTold (k .end) (k .size) (walkTold part)
+    pub entry-made : (part : Passed) {t : PassTold} → length s * 1 < 2 ^ 63 → passTold part ≡ passOf (length (take (length s - k .end) (drop (k .end) s))) (below d (take (length s - k .end) (drop (k .end) s))) → t ≡ afterTold (k .end) (k .size) (passTold part)
         → t ≡ toldOf (length s) (sized entryContents (entry (below d) s))
-    unfolding walkOf bind
+    unfolding passOf bind
     entry-made part long p h =
         let g = at-key in
         let l = key-left in
@@ -133,9 +142,9 @@ pub ruleset entry-ways = (entry-refused, entry-made)
 
 -- ONE OF SEVERAL
 
-module _ (n major d : ℕ) (s : List ℕ) {t : WalkTold} where
-  pub one-item : major ≡ 4 → t ≡ walkOf n (below d s) → t ≡ toldOf n (oneOf major d s)
-  unfolding walkOf oneOf
+module _ (n major d : ℕ) (s : List ℕ) {t : PassTold} where
+  pub one-item : major ≡ 4 → t ≡ passOf n (below d s) → t ≡ toldOf n (oneOf major d s)
+  unfolding passOf oneOf
   one-item e h = h ∙ rw (e, oneOf)
 
   pub one-entry : (major ≡ 4 → ⊥) → major ≡ 5 → t ≡ toldOf n (sized entryContents (entry (below d) s)) → t ≡ toldOf n (oneOf major d s)
@@ -183,27 +192,24 @@ abbrev others : ℕ → ℕ → Until → ℕ → List ℕ → Result ℕ
 others major d u m r = bind (allOf major d u r) (λ n r′. ok (m + n) r′)
 
 module _ {major d : ℕ} {s : List ℕ} {from : ℕ} {first : Extent} {at size : ℕ} {u : Extent} (run : Run major d s from first at size u) {turn : Turn} (tu : Turned s at u turn) where
-  pub run-room : at ≤ length s
-  run-room = run .inside
-
   run-eq : (x : Step) → turnOf s turn ≡ x → allOf major d (untilOf first) (drop from s) ≡ bind (severalBy 0 _+_ (oneOf major d) (allOf major d) x (drop at s)) (λ m r. ok (size + m) r)
   run-eq x e =
       run .left ∙ ap (λ (k : Result ℕ). bind k (λ m r. ok (size + m) r)) (all-eq major d (untilOf u) (drop at s)
       ∙ ap (λ (y : Step). severalBy 0 _+_ (oneOf major d) (allOf major d) y (drop at s)) (sym (tu .is) ∙ e))
 
-  pub run-over : {end : ℕ} {t : WalkTold} → turn ≡ Over end → t ≡ made end size → t ≡ toldOf (length s) (allOf major d (untilOf first) (drop from s))
+  pub run-over : {end : ℕ} {t : PassTold} → turn ≡ Over end → t ≡ passed end size → t ≡ toldOf (length s) (allOf major d (untilOf first) (drop from s))
   unfolding turnOf Inner severalBy bind toldOf
   run-over {end} e h =
       let i : end ≤ length s = inner turn e (tu .inside (run .inside)) in
       let p : end ≡ length s - length (drop end s) = omega (arith, length-drop end s) in
       let q : size ≡ size + 0 = omega arith in
-      h ∙ (λ j. made (p j) (q j)) ∙ sym (ap (toldOf (length s)) (run-eq (over (drop end s)) (ap (turnOf s) e)))
+      h ∙ (λ j. passed (p j) (q j)) ∙ sym (ap (toldOf (length s)) (run-eq (over (drop end s)) (ap (turnOf s) e)))
     where
       inner : (x : Turn) → x ≡ Over end → Inner s x → end ≤ length s
       inner x f g = rw f at g
 
-  module _ {next : Extent} (e : turn ≡ Another next) (one : Walked) (long : length s * 1 < 2 ^ 63) (told : walkTold one ≡ toldOf (length (take (length s - at) (drop at s))) (oneOf major d (take (length s - at) (drop at s))))
-      (part : Walked) (after : walkTold part ≡ afterTold at size (walkTold one)) where
+  module _ {next : Extent} (e : turn ≡ Another next) (one : Passed) (long : length s * 1 < 2 ^ 63) (told : passTold one ≡ toldOf (length (take (length s - at) (drop at s))) (oneOf major d (take (length s - at) (drop at s))))
+      (part : Passed) (after : passTold part ≡ afterTold at size (passTold one)) where
     -- this one, with what was walked over before it, and then the others
     on : allOf major d (untilOf first) (drop from s) ≡ bind (bind (oneOf major d (drop at s)) (λ m r. ok (size + m) r)) (others major d (untilOf next))
     unfolding turnOf severalBy bind
@@ -218,14 +224,14 @@ module _ {major d : ℕ} {s : List ℕ} {from : ℕ} {first : Extent} {at size :
         by (ok m r) = last m (allOf major d (untilOf next) r)
         by (refuse n l) = refl
 
-    part-told : walkTold part ≡ toldOf (length s) (bind (oneOf major d (drop at s)) (λ m r. ok (size + m) r))
+    part-told : passTold part ≡ toldOf (length s) (bind (oneOf major d (drop at s)) (λ m r. ok (size + m) r))
     part-told =
         after ∙ ap (afterTold at size) (told ∙ ap (λ (t : List ℕ). toldOf (length t) (oneOf major d t)) (tail-is s at)) ∙ after-told s at size (oneOf major d (drop at s)) (run .inside) (run .small) (omega arith) (one-leaves major d (drop at s))
 
-    pub run-refused : {x : Refusal} → part ≡ RefusedV x → walkTold (RefusedV x) ≡ toldOf (length s) (allOf major d (untilOf first) (drop from s))
+    pub run-refused : {x : Refusal} → part ≡ RefusedV x → passTold (RefusedV x) ≡ toldOf (length s) (allOf major d (untilOf first) (drop from s))
     run-refused h = lost (length s) (bind (oneOf major d (drop at s)) (λ m r. ok (size + m) r)) (others major d (untilOf next)) part part-told h ∙ ap (toldOf (length s)) (sym on)
 
-    module _ {m : Made} (h : part ≡ MadeV m) where
+    module _ {m : Span} (h : part ≡ SpanV m) where
       at-part : Reached (length s) m (bind (oneOf major d (drop at s)) (λ m r. ok (size + m) r))
       at-part = reached _ part part-told h
 

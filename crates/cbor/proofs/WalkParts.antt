@@ -1,6 +1,6 @@
 -- The walk over bytes: its parts outside the cycle.
 -- Assumes nothing.
-use Prim.Native.Nat.{ℕ, zero, suc, _+_, _-_, _/_, _%_, _^_, _≤_, _<_}
+use Prim.Native.Nat.{ℕ, zero, suc, _+_, _-_, _/_, _≤_, _<_}
 use native.Mathlib.Omega.{arith}
 use native.Mathlib.Numerals.{add-one}
 use mathlib.Core.Path.{_≡_, refl, sym, ap, _∙_}
@@ -10,16 +10,16 @@ use lib.Dec.{eqb}
 use lib.ListN.{length, take, drop, getD, length-drop, length-take, drop-of-length-le}
 use lib.Seq.{drop-cons}
 use borrow.Author.Tests.{le-leb, lt-leb, eq-eqb, ne-eqb}
+use Rattle.cbor.specs.Sums.{capped}
 use Rattle.cbor.specs.Refusals.{Result, ok, refuse, bind, notUtf8, endsInside, notWellFormed}
 use Rattle.cbor.specs.Items.{Kind, Size, definite, indefinite, Chunk}
 use Rattle.cbor.specs.Heads.{Major, strings, majorNumber, majorOf, Head, nextHead, taking}
 use Rattle.cbor.specs.Utf8.{firstBad, isUtf8}
-use Rattle.cbor.specs.TypedArrays.{elementSize, isTypedArray}
 use Rattle.cbor.specs.Valid.{isText}
 use Rattle.cbor.specs.Decode.{counted, another, stepAt, content, chunkBy, chunk}
 use Rattle.cbor.specs.Answers.{kindNumber}
 use Rattle.cbor.specs.HeadAnswers.{head, headTold, sizeInformation, headFrom, headAt}
-use Rattle.cbor.specs.WalkAnswers.{WalkTold, made, refused, walkTold, sized, toldOf, kindOf, chunkContents, untilOf, turnOf, Inner, Turned, capped, afterTold, Headed, Within, ElementSize, mayTagBy}
+use Rattle.cbor.specs.WalkAnswers.{PassTold, passed, refused, passTold, walkTold, withMajor, asSpan, sized, toldOf, kindOf, chunkContents, untilOf, turnOf, Inner, Turned, afterTold, itemAfter, Headed, Within}
 use Rattle.cbor.specs.declared.refusal.Refusal.{Refusal}
 use Rattle.cbor.specs.declared.refusal.RefusalKind.{RefusalKind}
 use Rattle.cbor.specs.declared.refusal.RefusalKind.the-variants.{NotUtf8, EndsInside, NotWellFormed}
@@ -28,7 +28,10 @@ use Rattle.cbor.specs.declared.head.HeadRead.{HeadRead}
 use Rattle.cbor.specs.declared.head.HeadRead.the-variants.{Head as HeadV, Refused as HeadRefusedV}
 use Rattle.cbor.specs.declared.walk.Made.{Made}
 use Rattle.cbor.specs.declared.walk.Walked.{Walked}
-use Rattle.cbor.specs.declared.walk.Walked.the-variants.{Made as MadeV, Refused as RefusedV}
+use Rattle.cbor.specs.declared.walk.Walked.the-variants.{Made as MadeV, Refused as WalkRefusedV}
+use Rattle.cbor.specs.declared.walk.Span.{Span}
+use Rattle.cbor.specs.declared.walk.Passed.{Passed}
+use Rattle.cbor.specs.declared.walk.Passed.the-variants.{Span as SpanV, Refused as RefusedV}
 use Rattle.cbor.specs.declared.walk.Extent.{Extent}
 use Rattle.cbor.specs.declared.walk.Extent.the-variants.{Counted, Broken, Ended}
 use Rattle.cbor.specs.declared.walk.Turn.the-variants.{Over, Another}
@@ -36,31 +39,60 @@ use Rattle.cbor.proofs.ItemLeaves.{LowSize, HeadLeft, head-left}
 
 -- ANSWERS
 
-pub told-made : (end size : ℕ) → walkTold (MadeV (record { end = end; size = size })) ≡ made end size
-unfolding walkTold
-told-made end size = refl
+pub told-span : (end size : ℕ) → passTold (SpanV (record { end = end; size = size })) ≡ passed end size
+unfolding passTold
+told-span end size = refl
 
-pub told-refused : (kind : RefusalKind) (place : ℕ) → walkTold (RefusedV (record { kind = kind; place = place })) ≡ refused (kindNumber kind) place
-unfolding walkTold
+pub told-refused : (kind : RefusalKind) (place : ℕ) → passTold (RefusedV (record { kind = kind; place = place })) ≡ refused (kindNumber kind) place
+unfolding passTold
 told-refused kind place = refl
 
-module _ (from size : ℕ) {t : WalkTold} {part : Walked} {x y : ℕ} where
-  pub after-made : {m : Made} → part ≡ MadeV m → x ≡ capped from (m .end) → y ≡ capped size (m .size) → t ≡ made x y → t ≡ afterTold from size (walkTold part)
-  unfolding walkTold afterTold
+module _ (from size : ℕ) {t : PassTold} {part : Passed} {x y : ℕ} where
+  pub after-made : {m : Span} → part ≡ SpanV m → x ≡ capped from (m .end) → y ≡ capped size (m .size) → t ≡ passed x y → t ≡ afterTold from size (passTold part)
+  unfolding passTold afterTold
   after-made e i j h = h ∙ rw (e, i, j)
 
-module _ (from size : ℕ) {t : WalkTold} {part : Walked} {x : ℕ} where
-  pub after-refused : {e : Refusal} → part ≡ RefusedV e → x ≡ capped from (e .place) → t ≡ refused (kindNumber (e .kind)) x → t ≡ afterTold from size (walkTold part)
-  unfolding walkTold afterTold
+module _ (from size : ℕ) {t : PassTold} {part : Passed} {x : ℕ} where
+  pub after-refused : {e : Refusal} → part ≡ RefusedV e → x ≡ capped from (e .place) → t ≡ refused (kindNumber (e .kind)) x → t ≡ afterTold from size (passTold part)
+  unfolding passTold afterTold
   after-refused e i h = h ∙ rw (e, i)
 
 pub ruleset after-ways = (after-made, after-refused)
 
-pub initial-none : (s : List ℕ) (at : ℕ) → length s ≤ at → 0 ≡ getD s at 0
-initial-none [] zero h = refl
-initial-none [] (suc at) h = refl
-initial-none (b ∷ s) zero h = absurd (omega arith)
-initial-none (b ∷ s) (suc at) h = initial-none s at (omega arith)
+-- AN ITEM AND WHAT WAS PASSED OVER
+
+module _ (major : ℕ) {span : Passed} where
+  pub major-made : {m : Span} → span ≡ SpanV m → walkTold (MadeV (record { end = m .end; major = major; size = m .size })) ≡ withMajor major (passTold span)
+  unfolding walkTold passTold withMajor
+  major-made e = rw e
+
+  pub major-refused : {e : Refusal} → span ≡ RefusedV e → walkTold (WalkRefusedV e) ≡ withMajor major (passTold span)
+  unfolding walkTold passTold withMajor
+  major-refused e = rw e
+
+pub ruleset with-ways = (major-made, major-refused)
+
+module _ {whole : Walked} where
+  pub span-made : {m : Made} {t : PassTold} → whole ≡ MadeV m → t ≡ passed (m .end) (m .size) → t ≡ asSpan (walkTold whole)
+  unfolding walkTold asSpan
+  span-made e h = h ∙ rw e
+
+  pub span-refused : {e : Refusal} → whole ≡ WalkRefusedV e → passTold (RefusedV e) ≡ asSpan (walkTold whole)
+  unfolding walkTold passTold asSpan
+  span-refused e = rw e
+
+pub ruleset span-ways = (span-made, span-refused)
+
+module _ (from x : ℕ) {inner : Walked} where
+  pub item-after-made : {m : Made} → inner ≡ MadeV m → x ≡ capped from (m .end) → walkTold (MadeV (record { end = x; major = m .major; size = m .size })) ≡ itemAfter from (walkTold inner)
+  unfolding walkTold itemAfter
+  item-after-made e h = rw (e, h)
+
+  pub item-after-refused : {e : Refusal} → inner ≡ WalkRefusedV e → x ≡ capped from (e .place) → walkTold (WalkRefusedV (record { kind = e .kind; place = x })) ≡ itemAfter from (walkTold inner)
+  unfolding walkTold itemAfter
+  item-after-refused e h = rw (e, h)
+
+pub ruleset item-after-ways = (item-after-made, item-after-refused)
 
 -- TURNS
 
@@ -129,7 +161,7 @@ content-is : (k : Kind) (n : ℕ) (left : ℕ) (r : List ℕ) → n ≤ length r
 unfolding content taking bind
 content-is k n left r h = rw (le-leb n (length r) h, content, taking)
 
-module _ (s : List ℕ) (from n : ℕ) (k : Bool) {t : WalkTold} where
+module _ (s : List ℕ) (from n : ℕ) (k : Bool) {t : PassTold} where
   pub content-short : length s - from < n → t ≡ refused (kindNumber EndsInside) 0 → t ≡ toldOf (length s) (sized length (content (kindOf k) n (length s) (drop from s)))
   unfolding content taking bind sized toldOf kindNumber
   content-short h e =
@@ -145,14 +177,14 @@ module _ {s : List ℕ} {from : ℕ} (n : ℕ) (k : Bool) {v : Bool} (w : Within
       content-is (kindOf k) n (length s) (drop from s) l
       ∙ ap (λ (b : Bool). elim b [ true ↦ ok (take n (drop from s)) (drop n (drop from s)) | false ↦ refuse notUtf8 (length s) ]) (sym (i ∙ ap (λ (k′ : ℕ). isText (kindOf k) (take k′ (drop from s))) m))
 
-  pub content-good : {t : WalkTold} → v ≡ true → t ≡ made (from + n) (from + n - from) → t ≡ toldOf (length s) (sized length (content (kindOf k) n (length s) (drop from s)))
+  pub content-good : {t : PassTold} → v ≡ true → t ≡ passed (from + n) (from + n - from) → t ≡ toldOf (length s) (sized length (content (kindOf k) n (length s) (drop from s)))
   unfolding sized toldOf
   content-good y e =
       let p : from + n ≡ length s - length (drop n (drop from s)) = omega (arith, length-drop n (drop from s), length-drop from s, w .inside) in
       let q : from + n - from ≡ length (take n (drop from s)) = omega (arith, length-take n (drop from s), length-drop from s) in
-      e ∙ rw content-at (rw y (λ j. made (p j) (q j)))
+      e ∙ rw content-at (rw y (λ j. passed (p j) (q j)))
 
-  pub content-bad : {t : WalkTold} → v ≡ false → t ≡ refused (kindNumber NotUtf8) 0 → t ≡ toldOf (length s) (sized length (content (kindOf k) n (length s) (drop from s)))
+  pub content-bad : {t : PassTold} → v ≡ false → t ≡ refused (kindNumber NotUtf8) 0 → t ≡ toldOf (length s) (sized length (content (kindOf k) n (length s) (drop from s)))
   unfolding sized toldOf kindNumber
   content-bad y e = let z : 0 ≡ length s - length s = omega arith in e ∙ rw content-at (rw y (ap (refused notUtf8) z))
 
@@ -195,8 +227,8 @@ head-room {s} e = let g = got e in record { inside = omega (arith, g .ends) }
 
 -- a head that is refused, and whatever begins with it
 lost-of : {A : Type 0} (f : A → ℕ) (s : List ℕ) (e : Refusal) (res : Result Head) (go : Head → List ℕ → Result A) → headTold (HeadRefusedV e) ≡ headFrom (length s) res
-    → walkTold (RefusedV e) ≡ toldOf (length s) (sized f (bind res go))
-unfolding headTold headFrom walkTold toldOf sized bind
+    → passTold (RefusedV e) ≡ toldOf (length s) (sized f (bind res go))
+unfolding headTold headFrom passTold toldOf sized bind
 lost-of f s e (ok d r) go h = let z : _≡_ {A = ℕ} 0 1 = cc in absurd (omega arith)
 lost-of f s e (refuse n left) go h =
     let i : kindNumber (e .kind) ≡ n = cc in
@@ -204,7 +236,7 @@ lost-of f s e (refuse n left) go h =
     λ k. refused (i k) (j k)
 
 pub head-lost : {A : Type 0} (s : List ℕ) {e : Refusal} (f : A → ℕ) (go : Head → List ℕ → Result A) (a : HeadRead) → headTold a ≡ headAt s 0 → a ≡ HeadRefusedV e
-    → walkTold (RefusedV e) ≡ toldOf (length s) (sized f (bind (nextHead s) go))
+    → passTold (RefusedV e) ≡ toldOf (length s) (sized f (bind (nextHead s) go))
 unfolding headAt
 head-lost s {e} f go a h i = lost-of f s e (nextHead s) go (rw i at h)
 
@@ -233,12 +265,12 @@ size-indefinite {m = m} {h = h} l e = by (h .size) (l .low) e
     by (definite w) i e = absurd (omega arith)
     by indefinite i e = refl
 
-pub chunk-none : (k : Bool) (s : List ℕ) {t : WalkTold} → length s ≡ 0 → t ≡ refused (kindNumber EndsInside) 0 → t ≡ toldOf (length s) (sized chunkContents (chunk (kindOf k) s))
+pub chunk-none : (k : Bool) (s : List ℕ) {t : PassTold} → length s ≡ 0 → t ≡ refused (kindNumber EndsInside) 0 → t ≡ toldOf (length s) (sized chunkContents (chunk (kindOf k) s))
 unfolding chunk sized toldOf kindNumber
 chunk-none k [] h e = e
 chunk-none k (b ∷ s) h e = absurd (omega arith)
 
-pub chunk-other : (k : Bool) (s : List ℕ) {m : ℕ} {t : WalkTold} → (length s ≡ 0 → ⊥) → m ≡ majorNumber (strings (kindOf k)) → (getD s 0 0 / 32 ≡ m → ⊥) → t ≡ refused (kindNumber NotWellFormed) 0
+pub chunk-other : (k : Bool) (s : List ℕ) {m : ℕ} {t : PassTold} → (length s ≡ 0 → ⊥) → m ≡ majorNumber (strings (kindOf k)) → (getD s 0 0 / 32 ≡ m → ⊥) → t ≡ refused (kindNumber NotWellFormed) 0
     → t ≡ toldOf (length s) (sized chunkContents (chunk (kindOf k) s))
 unfolding chunk sized toldOf kindNumber
 chunk-other k [] n i h e = absurd (n refl)
@@ -254,7 +286,7 @@ chunk-is k [] n i h = absurd (n refl)
 chunk-is k (b ∷ s) n i h = rw (eq-eqb (b / 32) (majorNumber (strings k)) (h ∙ i), chunk)
 
 module _ (k : Bool) (s : List ℕ) {m : ℕ} (n : length s ≡ 0 → ⊥) (i : m ≡ majorNumber (strings (kindOf k))) (j : getD s 0 0 / 32 ≡ m) (a : HeadRead) (told : headTold a ≡ headAt s 0) where
-  pub chunk-lost : {e : Refusal} → a ≡ HeadRefusedV e → walkTold (RefusedV e) ≡ toldOf (length s) (sized chunkContents (chunk (kindOf k) s))
+  pub chunk-lost : {e : Refusal} → a ≡ HeadRefusedV e → passTold (RefusedV e) ≡ toldOf (length s) (sized chunkContents (chunk (kindOf k) s))
   chunk-lost h = rw (chunk-is (kindOf k) s n i j) (head-lost s chunkContents _ a told h)
 
   module _ {h : HeadAt} (e : a ≡ HeadV h) where
@@ -265,7 +297,7 @@ module _ (k : Bool) (s : List ℕ) {m : ℕ} (n : length s ≡ 0 → ⊥) (i : m
     unfolding bind
     chunk-at g = chunk-is (kindOf k) s n i j ∙ rw (g .is)
 
-    pub chunk-open : {t : WalkTold} → h .info ≡ 31 → t ≡ refused (kindNumber NotWellFormed) 0 → t ≡ toldOf (length s) (sized chunkContents (chunk (kindOf k) s))
+    pub chunk-open : {t : PassTold} → h .info ≡ 31 → t ≡ refused (kindNumber NotWellFormed) 0 → t ≡ toldOf (length s) (sized chunkContents (chunk (kindOf k) s))
     unfolding chunkBy sized toldOf kindNumber
     chunk-open o f =
         let g = got (headed s a told e) in
@@ -274,7 +306,7 @@ module _ (k : Bool) (s : List ℕ) {m : ℕ} (n : length s ≡ 0 → ⊥) (i : m
         ∙ sym (ap (λ (u : Result Chunk). toldOf (length s) (sized chunkContents u)) (chunk-at g
         ∙ ap (λ (x : Size). chunkBy (kindOf k) x (g .head .argument) (length s) (g .rest)) (size-indefinite (g .left) (sym (g .info) ∙ o))))
 
-    pub chunk-content : {t : WalkTold} → (h .info ≡ 31 → ⊥) → t ≡ toldOf (length s) (sized length (content (kindOf k) (h .argument) (length s) (drop (h .end) s)))
+    pub chunk-content : {t : PassTold} → (h .info ≡ 31 → ⊥) → t ≡ toldOf (length s) (sized length (content (kindOf k) (h .argument) (length s) (drop (h .end) s)))
         → t ≡ toldOf (length s) (sized chunkContents (chunk (kindOf k) s))
     unfolding chunkBy chunkContents
     chunk-content o f =
@@ -287,57 +319,3 @@ module _ (k : Bool) (s : List ℕ) {m : ℕ} (n : length s ≡ 0 → ⊥) (i : m
         ∙ sym (ap (λ (u : Result Chunk). toldOf (length s) (sized chunkContents u)) (chunk-at g))
 
 pub ruleset chunk-ways = (chunk-none, chunk-other, chunk-lost, chunk-open, chunk-content)
-
--- TYPED ARRAYS
-
-module _ (n : ℕ) where
-  element : (e r : ℕ) → n / 16 % 2 + n % 4 ≡ e → r ≡ 2 ^ e → 0 < r → ElementSize n r
-  unfolding elementSize
-  element e r h i p = record { is = rw (h) i; some = p }
-
-  pub element-one : n / 16 % 2 + n % 4 ≡ 0 → ElementSize n 1
-  element-one h = element 0 1 h refl (omega arith)
-
-  pub element-two : n / 16 % 2 + n % 4 ≡ 1 → ElementSize n 2
-  element-two h = element 1 2 h refl (omega arith)
-
-  pub element-four : n / 16 % 2 + n % 4 ≡ 2 → ElementSize n 4
-  element-four h = element 2 4 h refl (omega arith)
-
-  pub element-eight : n / 16 % 2 + n % 4 ≡ 3 → ElementSize n 8
-  element-eight h = element 3 8 h refl (omega arith)
-
-  pub element-sixteen : (n / 16 % 2 + n % 4 ≡ 0 → ⊥) → (n / 16 % 2 + n % 4 ≡ 1 → ⊥) → (n / 16 % 2 + n % 4 ≡ 2 → ⊥) → (n / 16 % 2 + n % 4 ≡ 3 → ⊥) → ElementSize n 16
-  element-sixteen a b c d = element 4 16 (omega arith) refl (omega arith)
-
-pub ruleset element-ways = (element-one, element-two, element-four, element-eight, element-sixteen)
-
-typed : (n : ℕ) → 64 ≤ n → n ≤ 87 → isTypedArray n ≡ true
-unfolding isTypedArray
-typed n l h = rw (le-leb 64 n l) (rw (le-leb n 87 h))
-
-module _ (n major size : ℕ) where
-  pub tag-low : n < 64 → true ≡ mayTagBy n major size
-  unfolding mayTagBy isTypedArray
-  tag-low h = simp (mayTagBy, isTypedArray, lt-leb 64 n h)
-
-  module _ (l : 64 ≤ n) where
-    pub tag-high : 87 < n → true ≡ mayTagBy n major size
-    unfolding mayTagBy isTypedArray
-    tag-high h = simp (mayTagBy, isTypedArray, le-leb 64 n l, lt-leb n 87 h)
-
-    module _ (h : n ≤ 87) where
-      pub tag-reserved : n ≡ 76 → false ≡ mayTagBy n major size
-      unfolding mayTagBy
-      tag-reserved e = rw (typed n l h, mayTagBy) (rw (eq-eqb n 76 e))
-
-      module _ (e : n ≡ 76 → ⊥) where
-        pub tag-other : (major ≡ 2 → ⊥) → false ≡ mayTagBy n major size
-        unfolding mayTagBy
-        tag-other m = rw (typed n l h, mayTagBy) (rw (ne-eqb n 76 e) (rw (ne-eqb major 2 m)))
-
-        pub tag-bytes : {z : ℕ} → major ≡ 2 → ElementSize n z → eqb (size % z) 0 ≡ mayTagBy n major size
-        unfolding mayTagBy
-        tag-bytes m z = rw (z .is) (rw (typed n l h, mayTagBy) (rw (ne-eqb n 76 e) (rw (eq-eqb major 2 m))))
-
-pub ruleset tag-ways = (tag-low, tag-high, tag-reserved, tag-other, tag-bytes)

@@ -6,7 +6,7 @@ use lib.Dec.{leb}
 use lib.ListN.{length, take, drop, getD}
 use Rattle.cbor.specs.Refusals.{Result, ok, refuse, bind, float, endsInside, notWellFormed}
 use Rattle.cbor.specs.Widths.{Width, w0, w1, w2, w4, w8, argumentBytes, information, bigEndian, valueFrom}
-use Rattle.cbor.specs.Items.{Sign, unsigned, negative, Kind, byteString, textString, Size, definite, indefinite}
+use Rattle.cbor.specs.Items.{Sign, unsigned, negative, Kind, byteString, textString, Size, definite, indefinite, Item, int, string, chunked, array, map, tag, simple}
 
 -- the eight major types (RFC 8949, section 3.1)
 pub data Major : Type 0 where
@@ -26,6 +26,15 @@ majorNumber simples = 7
 
 unfoldable pub majorOf : ℕ → Major
 majorOf m = getD (integers unsigned ∷ integers negative ∷ strings byteString ∷ strings textString ∷ arrays ∷ maps ∷ tags ∷ []) m simples
+
+unfoldable pub itemMajor : Item → Major
+itemMajor (int g w n) = integers g
+itemMajor (string k w b) = strings k
+itemMajor (chunked k cs) = strings k
+itemMajor (array z xs) = arrays
+itemMajor (map z ps) = maps
+itemMajor (tag w n x) = tags
+itemMajor (simple n) = simples
 
 -- WRITING
 

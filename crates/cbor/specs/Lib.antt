@@ -1,4 +1,5 @@
 pub mod Ascii
+pub mod Sums
 pub mod Refusals
 pub mod Widths
 pub mod Items

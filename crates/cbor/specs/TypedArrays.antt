@@ -1,10 +1,11 @@
 -- Typed arrays (RFC 8746; document 01, Form: "Typed arrays").
-use Prim.Native.Nat.{ℕ, zero, suc, _+_, _-_, _*_, _/_, _%_, _^_}
+use Prim.Native.Nat.{ℕ, _+_, _/_, _%_, _^_, _<_}
+use mathlib.Core.Path.{_≡_}
 use mathlib.Core.List.{List, [], _∷_}
 use mathlib.Core.Bool.{Bool, true, false, _&&_}
 use lib.Dec.{leb, eqb}
 use lib.ListN.{length}
-use Rattle.cbor.specs.Items.{Kind, byteString, textString, Chunk, Item, int, string, chunked, array, map, tag, simple}
+use Rattle.cbor.specs.Items.{byteString, textString, Chunk, Item, int, string, chunked, array, map, tag, simple}
 
 -- "With tag bits 010 f s e ll the size is 2 to the power f + ll"
 unfoldable pub elementSize : ℕ → ℕ
@@ -30,5 +31,19 @@ divides size (simple n) = false
 unfoldable pub isTypedArray : ℕ → Bool
 isTypedArray n = leb 64 n && leb n 87
 
+-- what is asked of the item, where the tag asks it
+abbrev pub asked : ℕ → Bool → Bool
+asked n b = elim (isTypedArray n) [ true ↦ elim (eqb n 76) [ true ↦ false | false ↦ b ] | false ↦ true ]
+
 unfoldable pub mayTag : ℕ → Item → Bool
-mayTag n x = elim (isTypedArray n) [ true ↦ elim (eqb n 76) [ true ↦ false | false ↦ divides (elementSize n) x ] | false ↦ true ]
+mayTag n x = asked n (divides (elementSize n) x)
+
+-- IN CODE
+
+pub record ElementSize (n r : ℕ) : Type 0 where
+  pub is : r ≡ elementSize n
+  pub some : 0 < r
+
+-- the same, by whether the item is a byte string, and its length
+unfoldable pub mayTagBy : ℕ → Bool → ℕ → Bool
+mayTagBy n bytes l = asked n (bytes && eqb (l % elementSize n) 0)

@@ -1,13 +1,15 @@
--- What the code that walks over bytes answers: where an item ends, and how many bytes of strings are in it.
-use Prim.Native.Nat.{ℕ, zero, suc, _+_, _-_, _%_, _^_, _≤_, _<_, min}
+-- What the code that walks over bytes answers: where an item ends, its major type, and how many bytes of strings are in it.
+use Prim.Native.Nat.{ℕ, zero, suc, _+_, _-_, _≤_}
 use mathlib.Core.Path.{_≡_}
 use mathlib.Core.List.{List}
-use mathlib.Core.Bool.{Bool, true, false, _&&_}
+use mathlib.Core.Bool.{Bool, true, false}
 use lib.Dec.{eqb}
 use lib.ListN.{length, drop}
+use Rattle.cbor.specs.Sums.{capped}
 use Rattle.cbor.specs.Refusals.{Result, ok, refuse, bind, tooDeep, badTypedArray}
 use Rattle.cbor.specs.Items.{Kind, byteString, textString, Chunk, Item, int, string, chunked, array, map, tag, simple, Items, none, more, Pairs, none₂, more₂}
-use Rattle.cbor.specs.TypedArrays.{chunksLength, elementSize, isTypedArray, mayTag}
+use Rattle.cbor.specs.Heads.{majorNumber, itemMajor}
+use Rattle.cbor.specs.TypedArrays.{chunksLength, mayTag}
 use Rattle.cbor.specs.Decode.{Until, counted, broken, ended, Step, over, another, stepAt, several, chunk, Entry, entry, item}
 use Rattle.cbor.specs.Answers.{kindNumber}
 use Rattle.cbor.specs.HeadAnswers.{headTold, headAt}
@@ -15,6 +17,8 @@ use Rattle.cbor.specs.declared.head.HeadAt.{HeadAt}
 use Rattle.cbor.specs.declared.head.HeadRead.the-variants.{Head as HeadV}
 use Rattle.cbor.specs.declared.walk.Walked.{Walked}
 use Rattle.cbor.specs.declared.walk.Walked.the-variants.{Made as MadeV, Refused as RefusedV}
+use Rattle.cbor.specs.declared.walk.Passed.{Passed}
+use Rattle.cbor.specs.declared.walk.Passed.the-variants.{Span as SpanV, Refused as PassRefusedV}
 use Rattle.cbor.specs.declared.walk.Extent.{Extent}
 use Rattle.cbor.specs.declared.walk.Extent.the-variants.{Counted, Broken, Ended}
 use Rattle.cbor.specs.declared.walk.Turn.{Turn}
@@ -22,14 +26,31 @@ use Rattle.cbor.specs.declared.walk.Turn.the-variants.{Over, Another}
 
 -- THE ANSWER
 
--- where it ends and how many bytes of strings it has; or a refusal's number and place
+-- of several items, or a part of one: where it ends and how many bytes of strings it has; or a refusal's number and place
+pub data PassTold : Type 0 where
+  passed : ℕ → ℕ → PassTold
+  refused : ℕ → ℕ → PassTold
+
+unfoldable pub passTold : Passed → PassTold
+passTold (SpanV m) = passed (m .end) (m .size)
+passTold (PassRefusedV e) = refused (kindNumber (e .kind)) (e .place)
+
+-- of an item: its major type as well, between the two
 pub data WalkTold : Type 0 where
-  made : ℕ → ℕ → WalkTold
+  made : ℕ → ℕ → ℕ → WalkTold
   refused : ℕ → ℕ → WalkTold
 
 unfoldable pub walkTold : Walked → WalkTold
-walkTold (MadeV m) = made (m .end) (m .size)
+walkTold (MadeV m) = made (m .end) (m .major) (m .size)
 walkTold (RefusedV e) = refused (kindNumber (e .kind)) (e .place)
+
+unfoldable pub withMajor : ℕ → PassTold → WalkTold
+withMajor m (passed e k) = made e m k
+withMajor m (refused i p) = refused i p
+
+unfoldable pub asSpan : WalkTold → PassTold
+asSpan (made e m k) = passed e k
+asSpan (refused i p) = refused i p
 
 -- the bytes of the strings in an item: of a string its own, chunked or not
 unfoldable mutual
@@ -56,14 +77,18 @@ sized f (ok x r) = ok (f x) r
 sized f (refuse n left) = refuse n left
 
 -- of what was read from n bytes
-unfoldable pub toldOf : ℕ → Result ℕ → WalkTold
-toldOf n (ok k r) = made (n - length r) k
+unfoldable pub toldOf : ℕ → Result ℕ → PassTold
+toldOf n (ok k r) = passed (n - length r) k
 toldOf n (refuse i left) = refused i (n - left)
 
-unfoldable pub walkOf : ℕ → Result Item → WalkTold
-walkOf n res = toldOf n (sized contents res)
+unfoldable pub passOf : ℕ → Result Item → PassTold
+passOf n res = toldOf n (sized contents res)
 
-unfoldable pub walkAllOf : ℕ → Result Items → WalkTold
+unfoldable pub walkOf : ℕ → Result Item → WalkTold
+walkOf n (ok x r) = made (n - length r) (majorNumber (itemMajor x)) (contents x)
+walkOf n (refuse i left) = refused i (n - left)
+
+unfoldable pub walkAllOf : ℕ → Result Items → PassTold
 walkAllOf n res = toldOf n (sized contentsAll res)
 
 -- INSIDE THE CYCLE
@@ -97,7 +122,7 @@ allOf major d u s = several 0 _+_ (oneOf major d) u s
 
 -- a tag's item, at whose head `left` were left
 unfoldable pub tagOf : ℕ → ℕ → ℕ → List ℕ → Result ℕ
-tagOf n d left s = bind (below d s) (λ x r. elim (mayTag n x) [ true ↦ ok (contents x) r | false ↦ refuse badTypedArray left ])
+tagOf n d left s = bind (item d s) (λ x r. elim (mayTag n x) [ true ↦ ok (contents x) r | false ↦ refuse badTypedArray left ])
 
 unfoldable pub untilOf : Extent → Until
 untilOf (Counted n) = counted n
@@ -116,14 +141,14 @@ pub record Turned (s : List ℕ) (at : ℕ) (u : Extent) (r : Turn) : Type 0 whe
   pub is : turnOf s r ≡ stepAt (untilOf u) (drop at s)
   pub inside : at ≤ length s → Inner s r
 
--- a sum that stops at the largest number
-abbrev pub capped : ℕ → ℕ → ℕ
-capped a b = min (a + b) (2 ^ 64 - 1)
-
 -- the same answer counted from `from` places before, with `size` bytes of strings before it
-unfoldable pub afterTold : ℕ → ℕ → WalkTold → WalkTold
-afterTold from size (made e k) = made (capped from e) (capped size k)
+unfoldable pub afterTold : ℕ → ℕ → PassTold → PassTold
+afterTold from size (passed e k) = passed (capped from e) (capped size k)
 afterTold from size (refused i p) = refused i (capped from p)
+
+unfoldable pub itemAfter : ℕ → WalkTold → WalkTold
+itemAfter from (made e m k) = made (capped from e) m k
+itemAfter from (refused i p) = refused i (capped from p)
 
 -- the head at the front
 pub record Headed (s : List ℕ) (h : HeadAt) : Type 0 where
@@ -131,11 +156,3 @@ pub record Headed (s : List ℕ) (h : HeadAt) : Type 0 where
 
 pub record Within (s : List ℕ) (from : ℕ) : Type 0 where
   pub inside : from ≤ length s
-
-pub record ElementSize (n r : ℕ) : Type 0 where
-  pub is : r ≡ elementSize n
-  pub some : 0 < r
-
--- whether a tag n may stand before an item, by its major type and the bytes in it
-unfoldable pub mayTagBy : ℕ → ℕ → ℕ → Bool
-mayTagBy n major size = elim (isTypedArray n) [ true ↦ elim (eqb n 76) [ true ↦ false | false ↦ eqb major 2 && eqb (size % elementSize n) 0 ] | false ↦ true ]

@@ -5,26 +5,39 @@ use crate::head::HeadAt;
 use crate::head::HeadRead;
 use crate::refusal::Refusal;
 use crate::refusal::RefusalKind;
+use crate::sum::sum;
+use crate::typed;
 use crate::utf8;
 ghost use mathlib.Core.Path.{_≡_};
 ghost use Prim.Native.Nat.{_/_, _≤_};
 ghost use mathlib.Core.Bool.{true, false};
-ghost use lib.ListN.{length, drop, getD};
-ghost use Rattle.cbor.specs.Items.{Item};
+ghost use lib.ListN.{length, drop};
 ghost use Rattle.cbor.specs.Heads.{majorNumber, strings};
 ghost use Rattle.cbor.specs.Decode.{content, chunk, entry, item, decode};
 ghost use Rattle.cbor.specs.Valid.{isText};
 ghost use Rattle.cbor.specs.Answers.{kindNumber};
-ghost use Rattle.cbor.specs.WalkAnswers.{made, refused, walkTold, sized, toldOf, walkOf, walkAllOf, below, kindOf, entryContents, chunkContents, oneOf, allOf, tagOf, untilOf, Turned, capped, afterTold, Headed, Within, ElementSize, mayTagBy, contents};
+ghost use Rattle.cbor.specs.WalkAnswers.{passed, refused, passTold, walkTold, withMajor, asSpan, sized, toldOf, passOf, walkOf, walkAllOf, below, kindOf, entryContents, chunkContents, oneOf, allOf, tagOf, untilOf, Turned, afterTold, itemAfter, Headed, Within};
 
-// What was walked over ends before `end`; `size` is the number of bytes of strings in it.
+// An item ends before `end`; `major` is its major type, `size` the number of bytes of strings in it: of a string its length.
 pub struct Made {
     pub end: usize,
+    pub major: u8,
     pub size: usize,
 }
 
 pub enum Walked {
     Made(Made),
+    Refused(Refusal),
+}
+
+// Several items, or a part of one: an entry, a chunk, what stands behind a head.
+pub struct Span {
+    pub end: usize,
+    pub size: usize,
+}
+
+pub enum Passed {
+    Span(Span),
     Refused(Refusal),
 }
 
@@ -41,46 +54,73 @@ pub enum Turn {
     Another(Extent),
 }
 
-fn reached(end: usize, size: usize) -> Walked
-    ensures { λ r. ⌜ walkTold r ≡ made end size ⌝ }
+fn reached(end: usize, size: usize) -> Passed
+    ensures { λ r. ⌜ passTold r ≡ passed end size ⌝ }
 {
-    Walked::Made(Made { end, size })
+    Passed::Span(Span { end, size })
 }
 
-fn refuse(kind: RefusalKind, place: usize) -> Walked
-    ensures { λ r. ⌜ walkTold r ≡ refused (kindNumber kind) place ⌝ }
+fn refuse(kind: RefusalKind, place: usize) -> Passed
+    ensures { λ r. ⌜ passTold r ≡ refused (kindNumber kind) place ⌝ }
 {
-    Walked::Refused(Refusal { kind, place })
+    Passed::Refused(Refusal { kind, place })
 }
 
-// A sum that stops at the largest number.
-fn sum(a: usize, b: usize) -> usize
-    ensures { λ r. ⌜ r ≡ capped a b ⌝ }
+// The item of a major type that was passed over.
+fn with_major(major: u8, span: Passed) -> Walked
+    ensures { λ r. ⌜ walkTold r ≡ withMajor major (passTold span) ⌝ }
 {
-    if b <= 18446744073709551615 - a {
-        a + b
-    } else {
-        18446744073709551615
+    match span {
+        Passed::Span(m) => Walked::Made(Made {
+            end: m.end,
+            major,
+            size: m.size,
+        }),
+        Passed::Refused(e) => Walked::Refused(e),
+    }
+}
+
+// An item as one of several.
+fn as_span(whole: Walked) -> Passed
+    ensures { λ r. ⌜ passTold r ≡ asSpan (walkTold whole) ⌝ }
+{
+    match whole {
+        Walked::Made(m) => reached(m.end, m.size),
+        Walked::Refused(e) => Passed::Refused(e),
     }
 }
 
 // The answer for a part, as that for the whole: the part starts at `from`, and `size` bytes of strings stand before it.
-pub fn after(from: usize, size: usize, part: Walked) -> Walked
-    ensures { λ r. ⌜ walkTold r ≡ afterTold from size (walkTold part) ⌝ }
+pub fn after(from: usize, size: usize, part: Passed) -> Passed
+    ensures { λ r. ⌜ passTold r ≡ afterTold from size (passTold part) ⌝ }
 {
     match part {
-        Walked::Made(m) => reached(sum(from, m.end), sum(size, m.size)),
-        Walked::Refused(e) => {
+        Passed::Span(m) => reached(sum(from, m.end), sum(size, m.size)),
+        Passed::Refused(e) => {
             let kind = e.kind;
             refuse(kind, sum(from, e.place))
         }
     }
 }
 
-fn initial_at(bytes: &[u8], at: usize) -> u8
-    ensures { λ r. ⌜ r ≡ getD (now (bytes .entry)) at 0 ⌝ }
+// The answer for an item that starts at `from`, as that for the whole.
+pub fn item_after(from: usize, inner: Walked) -> Walked
+    ensures { λ r. ⌜ walkTold r ≡ itemAfter from (walkTold inner) ⌝ }
 {
-    if at < bytes.len() { bytes[at] } else { 0 }
+    match inner {
+        Walked::Made(m) => Walked::Made(Made {
+            end: sum(from, m.end),
+            major: m.major,
+            size: m.size,
+        }),
+        Walked::Refused(e) => {
+            let kind = e.kind;
+            Walked::Refused(Refusal {
+                kind,
+                place: sum(from, e.place),
+            })
+        }
+    }
 }
 
 // What stands next at a place.
@@ -125,9 +165,9 @@ fn is_text(bytes: &[u8], text: bool) -> bool
 }
 
 // The content of a string: `n` bytes behind its head, which is at the front.
-fn content(bytes: &[u8], from: usize, n: u64, text: bool) -> Walked
+fn content(bytes: &[u8], from: usize, n: u64, text: bool) -> Passed
     requires { ⌜ Within (now bytes) from ⌝ }
-    ensures { λ r. ⌜ walkTold r ≡ toldOf (length (now (bytes .entry))) (sized length (content (kindOf text) n (length (now (bytes .entry))) (drop from (now (bytes .entry))))) ⌝ }
+    ensures { λ r. ⌜ passTold r ≡ toldOf (length (now (bytes .entry))) (sized length (content (kindOf text) n (length (now (bytes .entry))) (drop from (now (bytes .entry))))) ⌝ }
 {
     if ((bytes.len() - from) as u64) < n {
         return refuse(RefusalKind::EndsInside, 0);
@@ -146,8 +186,8 @@ fn string_major(text: bool) -> u8
 }
 
 // A chunk of a string.
-fn chunk(bytes: &[u8], text: bool) -> Walked
-    ensures { λ r. ⌜ walkTold r ≡ toldOf (length (now (bytes .entry))) (sized chunkContents (chunk (kindOf text) (now (bytes .entry)))) ⌝ }
+fn chunk(bytes: &[u8], text: bool) -> Passed
+    ensures { λ r. ⌜ passTold r ≡ toldOf (length (now (bytes .entry))) (sized chunkContents (chunk (kindOf text) (now (bytes .entry)))) ⌝ }
 {
     if bytes.len() == 0 {
         return refuse(RefusalKind::EndsInside, 0);
@@ -157,7 +197,7 @@ fn chunk(bytes: &[u8], text: bool) -> Walked
     }
     let read = head::read_head(bytes, 0);
     match read {
-        HeadRead::Refused(e) => Walked::Refused(e),
+        HeadRead::Refused(e) => Passed::Refused(e),
         HeadRead::Head(h) => {
             if h.info == 31 {
                 return refuse(RefusalKind::NotWellFormed, 0);
@@ -165,41 +205,6 @@ fn chunk(bytes: &[u8], text: bool) -> Walked
             content(bytes, h.end, h.argument, text)
         }
     }
-}
-
-// TAGS
-
-// The size of the elements of a typed array (RFC 8746, section 2.1).
-fn element_size(n: u64) -> usize
-    ensures { λ r. ⌜ ElementSize n r ⌝ }
-{
-    let e = n / 16 % 2 + n % 4;
-    match e {
-        0 => 1,
-        1 => 2,
-        2 => 4,
-        3 => 8,
-        _ => 16,
-    }
-}
-
-// Whether a tag may stand before an item, by its major type and the bytes in it.
-fn may_tag(n: u64, major: u8, size: usize) -> bool
-    ensures { λ r. ⌜ r ≡ mayTagBy n major size ⌝ }
-{
-    if n < 64 {
-        return true;
-    }
-    if 87 < n {
-        return true;
-    }
-    if n == 76 {
-        return false;
-    }
-    if major != 2 {
-        return false;
-    }
-    size % element_size(n) == 0
 }
 
 // THE CYCLE
@@ -211,14 +216,14 @@ pub fn item(bytes: &[u8], levels: usize) -> Walked
     let read = head::read_head(bytes, 0);
     match read {
         HeadRead::Refused(e) => Walked::Refused(e),
-        HeadRead::Head(h) => behind(bytes, h, levels),
+        HeadRead::Head(h) => with_major(h.major, behind(bytes, h, levels)),
     }
 }
 
 // The item at the front, by its head.
-fn behind(bytes: &[u8], h: HeadAt, levels: usize) -> Walked
+fn behind(bytes: &[u8], h: HeadAt, levels: usize) -> Passed
     requires { ⌜ Headed (now bytes) h ⌝ }
-    ensures { λ r. ⌜ walkTold r ≡ walkOf (length (now (bytes .entry))) (item levels (now (bytes .entry))) ⌝ }
+    ensures { λ r. ⌜ passTold r ≡ passOf (length (now (bytes .entry))) (item levels (now (bytes .entry))) ⌝ }
 {
     let major = h.major;
     if major <= 1 {
@@ -240,7 +245,7 @@ fn behind(bytes: &[u8], h: HeadAt, levels: usize) -> Walked
         return refuse(RefusalKind::TooDeep, 0);
     }
     if major == 6 {
-        return tag(bytes, h.end, h.argument, levels);
+        return tag(bytes, h.end, h.argument, levels - 1);
     }
     if h.info == 31 {
         return several(bytes, h.end, Extent::Broken, major, levels);
@@ -249,26 +254,26 @@ fn behind(bytes: &[u8], h: HeadAt, levels: usize) -> Walked
 }
 
 // The item at the front, one level down.
-fn below(bytes: &[u8], levels: usize) -> Walked
-    ensures { λ r. ⌜ walkTold r ≡ walkOf (length (now (bytes .entry))) (below levels (now (bytes .entry))) ⌝ }
+fn below(bytes: &[u8], levels: usize) -> Passed
+    ensures { λ r. ⌜ passTold r ≡ passOf (length (now (bytes .entry))) (below levels (now (bytes .entry))) ⌝ }
 {
     if levels == 0 {
         return refuse(RefusalKind::TooDeep, 0);
     }
-    item(bytes, levels - 1)
+    as_span(item(bytes, levels - 1))
 }
 
 // A tag's item, behind its head.
-fn tag(bytes: &[u8], from: usize, n: u64, levels: usize) -> Walked
+fn tag(bytes: &[u8], from: usize, n: u64, levels: usize) -> Passed
     requires { ⌜ Within (now bytes) from ⌝ }
-    ensures { λ r. ⌜ walkTold r ≡ toldOf (length (now (bytes .entry))) (tagOf n levels (length (now (bytes .entry))) (drop from (now (bytes .entry)))) ⌝ }
+    ensures { λ r. ⌜ passTold r ≡ toldOf (length (now (bytes .entry))) (tagOf n levels (length (now (bytes .entry))) (drop from (now (bytes .entry)))) ⌝ }
 {
-    let part = after(from, 0, below(&bytes[from..], levels));
-    match part {
-        Walked::Refused(e) => Walked::Refused(e),
+    let inner = item_after(from, item(&bytes[from..], levels));
+    match inner {
+        Walked::Refused(e) => Passed::Refused(e),
         Walked::Made(m) => {
-            if may_tag(n, initial_at(bytes, from) / 32, m.size) {
-                return Walked::Made(m);
+            if typed::may_tag(n, m.major == 2, m.size) {
+                return reached(m.end, m.size);
             }
             refuse(RefusalKind::BadTypedArray, 0)
         }
@@ -276,13 +281,13 @@ fn tag(bytes: &[u8], from: usize, n: u64, levels: usize) -> Walked
 }
 
 // An entry of a map: a key and its value.
-fn entry(bytes: &[u8], levels: usize) -> Walked
-    ensures { λ r. ⌜ walkTold r ≡ toldOf (length (now (bytes .entry))) (sized entryContents (entry (below levels) (now (bytes .entry)))) ⌝ }
+fn entry(bytes: &[u8], levels: usize) -> Passed
+    ensures { λ r. ⌜ passTold r ≡ toldOf (length (now (bytes .entry))) (sized entryContents (entry (below levels) (now (bytes .entry)))) ⌝ }
 {
     let key = below(bytes, levels);
     match key {
-        Walked::Refused(e) => Walked::Refused(e),
-        Walked::Made(k) => {
+        Passed::Refused(e) => Passed::Refused(e),
+        Passed::Span(k) => {
             let end = k.end;
             after(end, k.size, below(&bytes[end..], levels))
         }
@@ -290,8 +295,8 @@ fn entry(bytes: &[u8], levels: usize) -> Walked
 }
 
 // One of several inside an item of a major type.
-pub fn one(bytes: &[u8], major: u8, levels: usize) -> Walked
-    ensures { λ r. ⌜ walkTold r ≡ toldOf (length (now (bytes .entry))) (oneOf major levels (now (bytes .entry))) ⌝ }
+pub fn one(bytes: &[u8], major: u8, levels: usize) -> Passed
+    ensures { λ r. ⌜ passTold r ≡ toldOf (length (now (bytes .entry))) (oneOf major levels (now (bytes .entry))) ⌝ }
 {
     if major == 4 {
         return below(bytes, levels);
@@ -303,9 +308,9 @@ pub fn one(bytes: &[u8], major: u8, levels: usize) -> Walked
 }
 
 // Several inside an item of a major type, from a place on.
-fn several(bytes: &[u8], from: usize, until: Extent, major: u8, levels: usize) -> Walked
+fn several(bytes: &[u8], from: usize, until: Extent, major: u8, levels: usize) -> Passed
     requires { ⌜ Within (now bytes) from ⌝ }
-    ensures { λ r. ⌜ walkTold r ≡ toldOf (length (now (bytes .entry))) (allOf major levels (untilOf until) (drop from (now (bytes .entry)))) ⌝ }
+    ensures { λ r. ⌜ passTold r ≡ toldOf (length (now (bytes .entry))) (allOf major levels (untilOf until) (drop from (now (bytes .entry)))) ⌝ }
 {
     let mut at = from;
     let mut size: usize = 0;
@@ -317,8 +322,8 @@ fn several(bytes: &[u8], from: usize, until: Extent, major: u8, levels: usize) -
             Turn::Another(next) => {
                 let part = after(at, size, one(&bytes[at..], major, levels));
                 match part {
-                    Walked::Refused(e) => return Walked::Refused(e),
-                    Walked::Made(m) => {
+                    Passed::Refused(e) => return Passed::Refused(e),
+                    Passed::Span(m) => {
                         at = m.end;
                         size = m.size;
                         left = next;
@@ -330,8 +335,8 @@ fn several(bytes: &[u8], from: usize, until: Extent, major: u8, levels: usize) -
 }
 
 // The items of a whole sequence of at most 65,535 bytes, to its end.
-pub fn walk_all(bytes: &[u8]) -> Walked
-    ensures { λ r. ⌜ walkTold r ≡ walkAllOf (length (now (bytes .entry))) (decode (now (bytes .entry))) ⌝ }
+pub fn walk_all(bytes: &[u8]) -> Passed
+    ensures { λ r. ⌜ passTold r ≡ walkAllOf (length (now (bytes .entry))) (decode (now (bytes .entry))) ⌝ }
 {
     if 65535 < bytes.len() {
         return refuse(RefusalKind::TooLong, 0);

@@ -49,7 +49,7 @@ acceptance text buffer n = (there, back)
         ap (λ (v : Verdict (List ℕ)). written buffer (λ w. w) v .answer) (onward-is (λ xs. fitting buffer (encodeAll xs)) e ∙ fitting-yes buffer (encodeAll xs) (rw m h)) ∙ ap accepted m
 
 -- what checking accepts
-itemsOf-ok : (bytes : List ℕ) (xs : Items) → Bytes bytes → itemsOf bytes ≡ accepted xs → Decoded bytes xs []
+pub itemsOf-ok : (bytes : List ℕ) (xs : Items) → Bytes bytes → itemsOf bytes ≡ accepted xs → Decoded bytes xs []
 unfolding itemsOf
 itemsOf-ok bytes xs u e =
     let v = verdict-ok (length bytes) (decode bytes) e in

@@ -51,7 +51,7 @@ module _ (s : List ℕ) where
 pub ruleset text-ways = (text-long, text-good, text-bad)
 
 -- a text that passed is read; one that did not is refused as such
-passes : {A : Type 0} (s : List ℕ) (v : Verdict A) → passing s ≡ accepted tt → checked s v ≡ v
+pub passes : {A : Type 0} (s : List ℕ) (v : Verdict A) → passing s ≡ accepted tt → checked s v ≡ v
 unfolding passing checked
 passes {A} s v e = long? (leb (length s) mostBytes) e
   where
@@ -65,7 +65,7 @@ passes {A} s v e = long? (leb (length s) mostBytes) e
     long? true f = text? (isUtf8 s) f
     long? false f = absurd (refused-not-accepted f)
 
-fails : {A : Type 0} (s : List ℕ) (v : Verdict A) {n q : ℕ} → passing s ≡ refused n q → checked s v ≡ refused n q
+pub fails : {A : Type 0} (s : List ℕ) (v : Verdict A) {n q : ℕ} → passing s ≡ refused n q → checked s v ≡ refused n q
 unfolding passing checked
 fails {A} s v {n} {q} e = long? (leb (length s) mostBytes) e
   where
@@ -79,7 +79,7 @@ fails {A} s v {n} {q} e = long? (leb (length s) mostBytes) e
     long? true f = text? (isUtf8 s) f
     long? false f = let i : tooLong ≡ n = cc in let j : 0 ≡ q = cc in rw (i, j)
 
-passed-short : (s : List ℕ) → passing s ≡ accepted tt → length s ≤ mostBytes
+pub passed-short : (s : List ℕ) → passing s ≡ accepted tt → length s ≤ mostBytes
 unfolding passing checked
 passed-short s e = go (leb (length s) mostBytes) refl e
   where

@@ -13,12 +13,12 @@ use Rattle.cbor.specs.Items.{Items}
 use Rattle.cbor.specs.Decode.{decode, mostBytes}
 use Rattle.cbor.specs.Buffer.{over}
 use Rattle.cbor.specs.Answers.{kindNumber}
-use Rattle.cbor.specs.WalkAnswers.{walkTold, sized, toldOf, walkAllOf, contentsAll}
+use Rattle.cbor.specs.WalkAnswers.{passTold, sized, toldOf, walkAllOf, contentsAll}
 use Rattle.cbor.specs.declared.refusal.Refusal.{Refusal}
 use Rattle.cbor.specs.declared.refusal.RefusalKind.the-variants.{NoRoom}
-use Rattle.cbor.specs.declared.walk.Made.{Made}
-use Rattle.cbor.specs.declared.walk.Walked.{Walked}
-use Rattle.cbor.specs.declared.walk.Walked.the-variants.{Made as MadeV, Refused as RefusedV}
+use Rattle.cbor.specs.declared.walk.Span.{Span}
+use Rattle.cbor.specs.declared.walk.Passed.{Passed}
+use Rattle.cbor.specs.declared.walk.Passed.the-variants.{Span as SpanV, Refused as RefusedV}
 use Rattle.notation.specs.Printing.{printText}
 use Rattle.printer.specs.PrintAnswers.{PrintedAll, TextSize}
 use Rattle.edn.specs.Operations.{Outcome, room, fitting, written, itemsOf, textOf, onward, print}
@@ -79,28 +79,28 @@ module _ {s : List ℕ} (b : List ℕ) {n : ℕ} (t : TextSize s n) {v : Bool} (
 
 pub ruleset lay-ways = (lay-done, lay-refused)
 
-print-no : (s b : List ℕ) (e : Refusal) (res : Result Items) → decode s ≡ res → walkTold (RefusedV e) ≡ toldOf (length s) (sized contentsAll res) → outcomeOf (Refused e) b ≡ print s b
-unfolding walkTold toldOf sized itemsOf verdictOf textOf onward print written outcomeOf
+print-no : (s b : List ℕ) (e : Refusal) (res : Result Items) → decode s ≡ res → passTold (RefusedV e) ≡ toldOf (length s) (sized contentsAll res) → outcomeOf (Refused e) b ≡ print s b
+unfolding passTold toldOf sized itemsOf verdictOf textOf onward print written outcomeOf
 print-no s b e (ok xs r) d h = let z : _≡_ {A = ℕ} 0 1 = cc in absurd (omega arith)
 print-no s b e (refuse k l) d h =
     let i : kindNumber (e .kind) ≡ k = cc in
     let j : e .place ≡ length s - l = cc in
     rw (d, i, j, print)
 
-print-yes : (s b b′ : List ℕ) (r : Answer) (m : Made) (res : Result Items) → Bytes s → decode s ≡ res → walkTold (MadeV m) ≡ toldOf (length s) (sized contentsAll res) → Lays s b b′ r → outcomeOf r b′ ≡ print s b
-unfolding walkTold toldOf sized itemsOf verdictOf textOf onward print laid
+print-yes : (s b b′ : List ℕ) (r : Answer) (m : Span) (res : Result Items) → Bytes s → decode s ≡ res → passTold (SpanV m) ≡ toldOf (length s) (sized contentsAll res) → Lays s b b′ r → outcomeOf r b′ ≡ print s b
+unfolding passTold toldOf sized itemsOf verdictOf textOf onward print laid
 print-yes s b b′ r m (ok xs q) u d h l =
     let e = encode-of-decode s xs q u d in
     let w = l .is xs (d ∙ ap (ok xs) (e .done)) in
     rw (d, print) w
 print-yes s b b′ r m (refuse k q) u d h l = let z : _≡_ {A = ℕ} 0 1 = cc in absurd (omega arith)
 
-module _ {s : List ℕ} (b : List ℕ) {a : Walked} (ch : Checks s a) where
+module _ {s : List ℕ} (b : List ℕ) {a : Passed} (ch : Checks s a) where
   pub print-refused : {e : Refusal} → a ≡ RefusedV e → outcomeOf (Refused e) b ≡ print s b
   unfolding walkAllOf
   print-refused {e} h = print-no s b e (decode s) refl (rw h at (ch .is))
 
-  pub print-done : {m : Made} {b′ : List ℕ} {r : Answer} → a ≡ MadeV m → Lays s b b′ r → outcomeOf r b′ ≡ print s b
+  pub print-done : {m : Span} {b′ : List ℕ} {r : Answer} → a ≡ SpanV m → Lays s b b′ r → outcomeOf r b′ ≡ print s b
   unfolding walkAllOf
   print-done {m} h l = print-yes s b _ _ m (decode s) (ch .bytes) refl (rw h at (ch .is)) l
 

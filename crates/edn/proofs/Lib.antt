@@ -5,4 +5,7 @@ pub mod Verdicts
 pub mod Laid
 pub mod Encoding
 pub mod Reporting
+pub mod Putting
+pub mod Deciding
 pub mod Demands
+pub mod Promises

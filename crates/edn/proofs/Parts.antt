@@ -6,24 +6,25 @@ use mathlib.Core.Path.{_≡_, refl, sym, ap, _∙_}
 use mathlib.Core.List.{List, [], _∷_, _++_, append-nil}
 use lib.ListN.{length, take, drop, getD, length-drop, length-append}
 use Rattle.cbor.specs.Refusals.{Result, ok, refuse, Verdict, accepted, refused as refusedV, verdictOf, noSuchPath}
-use Rattle.cbor.specs.Items.{Item, Items}
+use Rattle.cbor.specs.Items.{Items}
 use Rattle.cbor.specs.Encode.{encode, encodeAll}
 use Rattle.cbor.specs.Valid.{Bytes}
 use Rattle.cbor.specs.Decode.{item as itemAt, decode}
 use Rattle.cbor.specs.Paths.{Spot, Found, found, nowhere, locate, start, end}
 use Rattle.cbor.specs.Answers.{kindNumber}
-use Rattle.cbor.specs.WalkAnswers.{walkTold, contents, contentsAll, sized, toldOf, walkOf, walkAllOf, afterTold}
+use Rattle.cbor.specs.WalkAnswers.{passTold, walkTold, contentsAll, sized, toldOf, walkOf, walkAllOf, itemAfter}
 use Rattle.cbor.specs.declared.refusal.Refusal.{Refusal}
 use Rattle.cbor.specs.declared.refusal.RefusalKind.the-variants.{NoSuchPath}
 use Rattle.cbor.specs.declared.walk.Made.{Made}
 use Rattle.cbor.specs.declared.walk.Walked.{Walked}
-use Rattle.cbor.specs.declared.walk.Walked.the-variants.{Made as MadeV, Refused as RefusedV}
-use Rattle.cbor.proofs.Leaves.{leaves-sized}
-use Rattle.cbor.proofs.ItemLeaves.{item-leaves}
+use Rattle.cbor.specs.declared.walk.Walked.the-variants.{Made as MadeV, Refused as WalkRefusedV}
+use Rattle.cbor.specs.declared.walk.Span.{Span}
+use Rattle.cbor.specs.declared.walk.Passed.{Passed}
+use Rattle.cbor.specs.declared.walk.Passed.the-variants.{Span as SpanV, Refused as RefusedV}
 use Rattle.cbor.proofs.DecodeEncode.{item-of-encode}
 use Rattle.cbor.proofs.EncodeDecode.{encode-of-decode}
 use Rattle.cbor.proofs.Paths.{part-at-path}
-use Rattle.cbor.proofs.WalkItems.{part-told}
+use Rattle.cbor.proofs.WalkItems.{item-told}
 use Rattle.edn.specs.Operations.{itemsOf, onward, spotOf, lookUp, partOf}
 use Rattle.edn.specs.Following.{trace}
 use Rattle.edn.specs.Answers.{Checks, part, refused as refusedL, locateTold, locateOf, Ordered, Parts, tracedTo, Still, Traced}
@@ -50,15 +51,15 @@ pub record Read (s : List ℕ) : Type 0 where
   pub same : encodeAll items ≡ s
   pub sound : SoundAll items
 
-read-of : (s : List ℕ) (m : Made) (res : Result Items) → Bytes s → decode s ≡ res → walkTold (MadeV m) ≡ toldOf (length s) (sized contentsAll res) → Read s
-unfolding walkTold toldOf sized itemsOf verdictOf
+read-of : (s : List ℕ) (m : Span) (res : Result Items) → Bytes s → decode s ≡ res → passTold (SpanV m) ≡ toldOf (length s) (sized contentsAll res) → Read s
+unfolding passTold toldOf sized itemsOf verdictOf
 read-of s m (ok xs r) b e h =
     let d = encode-of-decode s xs r b e in
     record { items = xs; is = ap (verdictOf (length s)) e; same = d .same; sound = (d .valid, d .low) }
 read-of s m (refuse n l) b e h = let z : _≡_ {A = ℕ} 0 1 = cc in absurd (omega arith)
 
-refused-of : (s path : List ℕ) (e : Refusal) (res : Result Items) → decode s ≡ res → walkTold (RefusedV e) ≡ toldOf (length s) (sized contentsAll res) → locateTold (PartRefused e) ≡ locateOf (lookUp s path)
-unfolding walkTold toldOf sized itemsOf verdictOf lookUp onward locateTold locateOf
+refused-of : (s path : List ℕ) (e : Refusal) (res : Result Items) → decode s ≡ res → passTold (RefusedV e) ≡ toldOf (length s) (sized contentsAll res) → locateTold (PartRefused e) ≡ locateOf (lookUp s path)
+unfolding passTold toldOf sized itemsOf verdictOf lookUp onward locateTold locateOf
 refused-of s path e (ok xs r) d h = let z : _≡_ {A = ℕ} 0 1 = cc in absurd (omega arith)
 refused-of s path e (refuse k l) d h =
     let i : kindNumber (e .kind) ≡ k = cc in
@@ -109,12 +110,12 @@ found-at : (t : List ℕ) (f : Found Spot) → found t ≡ spotted f [] → (z :
 found-at t (found z) e = (z, refl, cc)
 found-at t (nowhere j) e = let z : _≡_ {A = ℕ} 0 1 = cc in absurd (omega arith)
 
-module _ {s : List ℕ} (path : List ℕ) {a : Walked} (ch : Checks s a) where
+module _ {s : List ℕ} (path : List ℕ) {a : Passed} (ch : Checks s a) where
   pub part-refused : {e : Refusal} → a ≡ RefusedV e → Parts s path (PartRefused e)
   unfolding walkAllOf Ordered
   part-refused {e} f = record { is = refused-of s path e (decode s) refl (rw f at (ch .is)); inside = tt }
 
-  module _ {m : Made} (f : a ≡ MadeV m) where
+  module _ {m : Span} (f : a ≡ SpanV m) where
     read : Read s
     unfolding walkAllOf
     read = read-of s m (decode s) (ch .bytes) refl (rw f at (ch .is))
@@ -140,19 +141,16 @@ module _ {s : List ℕ} (path : List ℕ) {a : Walked} (ch : Checks s a) where
 
         module _ (inner : Walked) (long : length s * 1 < 2 ^ 63)
             (walked : walkTold inner ≡ walkOf (length (take (length s - c .at) (drop (c .at) s))) (itemAt 16 (take (length s - c .at) (drop (c .at) s)))) (whole : Walked)
-            (after : walkTold whole ≡ afterTold (c .at) 0 (walkTold inner)) where
-          whole-told : walkTold whole ≡ toldOf (length s) (sized contents (ok (spot .0 .item) (spot .0 .behind)))
-          unfolding walkOf
-          whole-told =
-              part-told s (c .at) (λ t. sized contents (itemAt 16 t)) inner whole part-room long (λ t. leaves-sized 1 contents t (itemAt 16 t) (item-leaves 16 t)) walked after
-              ∙ ap (λ (u : Result Item). toldOf (length s) (sized contents u)) (spot-stands .reads)
+            (after : walkTold whole ≡ itemAfter (c .at) (walkTold inner)) where
+          whole-told : walkTold whole ≡ walkOf (length s) (ok (spot .0 .item) (spot .0 .behind))
+          whole-told = item-told 16 s (c .at) inner whole part-room long walked after ∙ ap (walkOf (length s)) (spot-stands .reads)
 
-          pub part-gone : {x : Refusal} → whole ≡ RefusedV x → Parts s path (PartRefused x)
-          unfolding walkTold toldOf sized
+          pub part-gone : {x : Refusal} → whole ≡ WalkRefusedV x → Parts s path (PartRefused x)
+          unfolding walkTold walkOf
           part-gone g = let h = rw g at whole-told in let z : _≡_ {A = ℕ} 0 1 = cc in absurd (omega arith)
 
           pub part-made : {w : Made} {r : Located} → whole ≡ MadeV w → r ≡ PartV (record { start = c .at; end = w .end }) → Parts s path r
-          unfolding walkTold toldOf sized locateTold locateOf spotOf Ordered
+          unfolding walkTold walkOf locateTold locateOf spotOf Ordered
           part-made {w} g h =
               let k = rw g at whole-told in
               let st = spot-stands in

@@ -11,27 +11,30 @@ use lib.Seq.{drop-cons}
 use borrow.Author.Tests.{eq-eqb, ne-eqb, eqb-true, eqb-false}
 use Rattle.cbor.specs.Refusals.{Result, ok, refuse, bind, verdictOf}
 use Rattle.cbor.specs.Items.{Size, Item, Items}
-use Rattle.cbor.specs.Heads.{Major, majorNumber, Head, nextHead}
+use Rattle.cbor.specs.Heads.{Major, majorNumber, itemMajor, Head, nextHead}
 use Rattle.cbor.specs.Decode.{Until, counted, broken, over, another, stepAt, extent, item as itemAt, decode}
 use Rattle.cbor.specs.Answers.{kindNumber}
 use Rattle.cbor.specs.HeadAnswers.{headTold, sizeInformation, headFrom, headAt}
-use Rattle.cbor.specs.WalkAnswers.{walkTold, sized, toldOf, walkOf, walkAllOf, contents, contentsAll, oneOf, untilOf, turnOf, Turned, afterTold}
+use Rattle.cbor.specs.WalkAnswers.{passTold, walkTold, sized, toldOf, walkOf, walkAllOf, contentsAll, oneOf, untilOf, turnOf, Turned, afterTold, itemAfter}
 use Rattle.cbor.specs.declared.refusal.Refusal.{Refusal}
 use Rattle.cbor.specs.declared.head.HeadAt.{HeadAt}
 use Rattle.cbor.specs.declared.head.HeadRead.{HeadRead}
 use Rattle.cbor.specs.declared.head.HeadRead.the-variants.{Head as HeadV, Refused as HeadRefusedV}
 use Rattle.cbor.specs.declared.walk.Made.{Made}
 use Rattle.cbor.specs.declared.walk.Walked.{Walked}
-use Rattle.cbor.specs.declared.walk.Walked.the-variants.{Made as MadeV, Refused as RefusedV}
+use Rattle.cbor.specs.declared.walk.Walked.the-variants.{Made as MadeV, Refused as WalkRefusedV}
+use Rattle.cbor.specs.declared.walk.Span.{Span}
+use Rattle.cbor.specs.declared.walk.Passed.{Passed}
+use Rattle.cbor.specs.declared.walk.Passed.the-variants.{Span as SpanV, Refused as RefusedV}
 use Rattle.cbor.specs.declared.walk.Extent.{Extent}
 use Rattle.cbor.specs.declared.walk.Extent.the-variants.{Counted, Broken, Ended}
 use Rattle.cbor.specs.declared.walk.Turn.{Turn}
 use Rattle.cbor.specs.declared.walk.Turn.the-variants.{Over, Another}
-use Rattle.cbor.proofs.Leaves.{Left, Leaves, same, left-cut, left-weak, left-on, leaves-sized}
-use Rattle.cbor.proofs.ItemLeaves.{HeadLeft, head-left, item-leaves}
+use Rattle.cbor.proofs.Leaves.{Left, Leaves, same, left-cut, left-weak, left-on}
+use Rattle.cbor.proofs.ItemLeaves.{HeadLeft, head-left}
 use Rattle.cbor.proofs.WalkParts.{size-indefinite, size-definite}
 use Rattle.cbor.proofs.WalkCycle.{Reached, reached, one-leaves}
-use Rattle.cbor.proofs.WalkItems.{part-told}
+use Rattle.cbor.proofs.WalkItems.{part-told, item-told}
 use Rattle.edn.specs.Operations.{itemsOf}
 use Rattle.edn.specs.Following.{Place, at, astray, onto, behindOne, past, stepTo, nthFrom, childBy, childAt, childIn, numbered, follow, trace}
 use Rattle.edn.specs.Answers.{refused, checkTold, checkOf, placeOf, Inner, Moved, Within, extentBy, tracedTo, Still, Traced, item as itemS, refused as refusedS, scanTold, HeadOf, scanFrom, scanned}
@@ -44,25 +47,25 @@ use Rattle.edn.specs.declared.look.Trace.the-variants.{At, Lost}
 
 -- CHECK
 
-check-no : (n : ℕ) (e : Refusal) (res : Result Items) → walkTold (RefusedV e) ≡ toldOf n (sized contentsAll res) → checkTold (CheckRefused e) ≡ checkOf (verdictOf n res)
-unfolding walkTold toldOf sized checkTold checkOf verdictOf
+check-no : (n : ℕ) (e : Refusal) (res : Result Items) → passTold (RefusedV e) ≡ toldOf n (sized contentsAll res) → checkTold (CheckRefused e) ≡ checkOf (verdictOf n res)
+unfolding passTold toldOf sized checkTold checkOf verdictOf
 check-no n e (ok xs r) h = let z : _≡_ {A = ℕ} 0 1 = cc in absurd (omega arith)
 check-no n e (refuse k l) h =
     let i : kindNumber (e .kind) ≡ k = cc in
     let j : e .place ≡ n - l = cc in
     λ x. refused (i x) (j x)
 
-check-yes : (n : ℕ) (m : Made) (res : Result Items) → walkTold (MadeV m) ≡ toldOf n (sized contentsAll res) → checkTold Accepted ≡ checkOf (verdictOf n res)
-unfolding walkTold toldOf sized checkTold checkOf verdictOf
+check-yes : (n : ℕ) (m : Span) (res : Result Items) → passTold (SpanV m) ≡ toldOf n (sized contentsAll res) → checkTold Accepted ≡ checkOf (verdictOf n res)
+unfolding passTold toldOf sized checkTold checkOf verdictOf
 check-yes n m (ok xs r) h = refl
 check-yes n m (refuse k l) h = let z : _≡_ {A = ℕ} 0 1 = cc in absurd (omega arith)
 
-module _ (s : List ℕ) (a : Walked) (told : walkTold a ≡ walkAllOf (length s) (decode s)) where
+module _ (s : List ℕ) (a : Passed) (told : passTold a ≡ walkAllOf (length s) (decode s)) where
   pub check-refused : {e : Refusal} → a ≡ RefusedV e → checkTold (CheckRefused e) ≡ checkOf (itemsOf s)
   unfolding walkAllOf itemsOf
   check-refused h = check-no (length s) _ (decode s) (rw h at told)
 
-  pub check-fine : {m : Made} → a ≡ MadeV m → checkTold Accepted ≡ checkOf (itemsOf s)
+  pub check-fine : {m : Span} → a ≡ SpanV m → checkTold Accepted ≡ checkOf (itemsOf s)
   unfolding walkAllOf itemsOf
   check-fine h = check-yes (length s) _ (decode s) (rw h at told)
 
@@ -97,7 +100,7 @@ past-off s major i h =
 left-of : (s : List ℕ) (i : ℕ) (r : List ℕ) {z : ℕ} → i ≤ length s → Left 1 (drop i s) r z → Left 0 s r z
 left-of s i r h l = left-weak (omega arith) (omega arith) (left-on (left-cut 0 0 i s (omega arith) (omega arith) h) l)
 
-past-at : (s : List ℕ) (i n : ℕ) (m : Made) (res : Result ℕ) → i ≤ length s → Leaves 1 same (drop i s) res → Reached (length s) m res → Moved s (To (record { at = m .end })) (behindOne res)
+past-at : (s : List ℕ) (i n : ℕ) (m : Span) (res : Result ℕ) → i ≤ length s → Leaves 1 same (drop i s) res → Reached (length s) m res → Moved s (To (record { at = m .end })) (behindOne res)
 unfolding placeOf Inner behindOne
 past-at s i n m (ok k r) h l g =
     let e : g .rest ≡ r = cc (g .is) in
@@ -106,21 +109,21 @@ past-at s i n m (ok k r) h l g =
     record { is = ap at (ap (λ (x : ℕ). drop x s) p ∙ sym (d .drops)); inside = omega arith }
 past-at s i n m (refuse k q) h l g = let f = g .is in let z : _≡_ {A = ℕ} 0 1 = cc in absurd (omega arith)
 
-past-not : (s : List ℕ) (e : Refusal) (res : Result ℕ) → walkTold (RefusedV e) ≡ toldOf (length s) res → astray ≡ behindOne res
-unfolding walkTold toldOf behindOne
+past-not : (s : List ℕ) (e : Refusal) (res : Result ℕ) → passTold (RefusedV e) ≡ toldOf (length s) res → astray ≡ behindOne res
+unfolding passTold toldOf behindOne
 past-not s e (ok k r) h = let z : _≡_ {A = ℕ} 0 1 = cc in absurd (omega arith)
 past-not s e (refuse k q) h = refl
 
-module _ (s : List ℕ) (major i : ℕ) (h : i ≤ length s) (inner : Walked) (long : length s * 1 < 2 ^ 63)
-    (told : walkTold inner ≡ toldOf (length (take (length s - i) (drop i s))) (oneOf major 17 (take (length s - i) (drop i s)))) (part : Walked) (after : walkTold part ≡ afterTold i 0 (walkTold inner)) where
-  one-told : walkTold part ≡ toldOf (length s) (oneOf major 17 (drop i s))
+module _ (s : List ℕ) (major i : ℕ) (h : i ≤ length s) (inner : Passed) (long : length s * 1 < 2 ^ 63)
+    (told : passTold inner ≡ toldOf (length (take (length s - i) (drop i s))) (oneOf major 17 (take (length s - i) (drop i s)))) (part : Passed) (after : passTold part ≡ afterTold i 0 (passTold inner)) where
+  one-told : passTold part ≡ toldOf (length s) (oneOf major 17 (drop i s))
   one-told = part-told s i (oneOf major 17) inner part h long (one-leaves major 17) told after
 
   pub past-refused : {e : Refusal} → part ≡ RefusedV e → Moved s Nowhere (past major (drop i s))
   unfolding placeOf Inner past
   past-refused f = record { is = past-not s _ (oneOf major 17 (drop i s)) (rw f at one-told); inside = tt }
 
-  pub past-to : {m : Made} → part ≡ MadeV m → Moved s (To (record { at = m .end })) (past major (drop i s))
+  pub past-to : {m : Span} → part ≡ SpanV m → Moved s (To (record { at = m .end })) (past major (drop i s))
   unfolding past
   past-to {m} f = past-at s i 0 m (oneOf major 17 (drop i s)) h (one-leaves major 17 (drop i s)) (reached (oneOf major 17 (drop i s)) part one-told f)
 
@@ -337,19 +340,22 @@ scan-no n e (refuse k l) go h =
     let j : e .place ≡ n - l = cc in
     λ x. refusedS (i x) (j x)
 
-item-no : (n : ℕ) (e : Refusal) (h : Head) (t : List ℕ) (res : Result Item) → walkTold (RefusedV e) ≡ toldOf n (sized contents res)
+item-no : (n : ℕ) (e : Refusal) (h : Head) (t : List ℕ) (res : Result Item) → walkTold (WalkRefusedV e) ≡ walkOf n res
     → scanTold (ScanRefused e) ≡ scanFrom n (bind res (λ x r. ok (record { head = h; rest = t; item = x }) r))
-unfolding walkTold toldOf sized scanTold scanFrom bind
+unfolding walkTold walkOf scanTold scanFrom bind
 item-no n e h t (ok x r) i = let z : _≡_ {A = ℕ} 0 1 = cc in absurd (omega arith)
 item-no n e h t (refuse k l) i =
     let p : kindNumber (e .kind) ≡ k = cc in
     let q : e .place ≡ n - l = cc in
     λ x. refusedS (p x) (q x)
 
-item-yes : (n : ℕ) (m : Made) (h : Head) (t : List ℕ) (res : Result Item) → walkTold (MadeV m) ≡ toldOf n (sized contents res)
-    → itemS (majorNumber (h .major)) (sizeInformation (h .size) (h .argument)) (h .argument) (n - length t) (m .end) ≡ scanFrom n (bind res (λ x r. ok (record { head = h; rest = t; item = x }) r))
-unfolding walkTold toldOf sized scanFrom bind
-item-yes n m h t (ok x r) i = let p : m .end ≡ n - length r = cc in ap (itemS (majorNumber (h .major)) (sizeInformation (h .size) (h .argument)) (h .argument) (n - length t)) p
+item-yes : (n : ℕ) (m : Made) (h : Head) (t : List ℕ) (res : Result Item) → walkTold (MadeV m) ≡ walkOf n res
+    → itemS (m .major) (sizeInformation (h .size) (h .argument)) (h .argument) (n - length t) (m .end) ≡ scanFrom n (bind res (λ x r. ok (record { head = h; rest = t; item = x }) r))
+unfolding walkTold walkOf scanFrom bind
+item-yes n m h t (ok x r) i =
+    let j : m .major ≡ majorNumber (itemMajor x) = cc in
+    let p : m .end ≡ n - length r = cc in
+    λ z. itemS (j z) (sizeInformation (h .size) (h .argument)) (h .argument) (n - length t) (p z)
 item-yes n m h t (refuse k l) i = let z : _≡_ {A = ℕ} 0 1 = cc in absurd (omega arith)
 
 module _ (s : List ℕ) (i : ℕ) (a : HeadRead) (told : headTold a ≡ headAt s i) where
@@ -362,25 +368,24 @@ module _ (s : List ℕ) (i : ℕ) (a : HeadRead) (told : headTold a ≡ headAt s
     scan-room = let g = got s i a told f in omega (arith, g .early)
 
     module _ (inner : Walked) (long : length s * 1 < 2 ^ 63)
-        (walked : walkTold inner ≡ walkOf (length (take (length s - i) (drop i s))) (itemAt 16 (take (length s - i) (drop i s)))) (part : Walked) (after : walkTold part ≡ afterTold i 0 (walkTold inner)) where
-      item-told : walkTold part ≡ toldOf (length s) (sized contents (itemAt 16 (drop i s)))
-      unfolding walkOf
-      item-told = part-told s i (λ t. sized contents (itemAt 16 t)) inner part scan-room long (λ t. leaves-sized 1 contents t (itemAt 16 t) (item-leaves 16 t)) walked after
+        (walked : walkTold inner ≡ walkOf (length (take (length s - i) (drop i s))) (itemAt 16 (take (length s - i) (drop i s)))) (part : Walked) (after : walkTold part ≡ itemAfter i (walkTold inner)) where
+      part-is : walkTold part ≡ walkOf (length s) (itemAt 16 (drop i s))
+      part-is = item-told 16 s i inner part scan-room long walked after
 
       scan-is : (g : Got s i h) → scanned (drop i s) ≡ bind (itemAt 16 (drop i s)) (λ x r. ok (record { head = g .head; rest = g .rest; item = x }) r)
       unfolding scanned bind
       scan-is g = rw (g .is)
 
-      pub scan-lost : {e : Refusal} → part ≡ RefusedV e → scanTold (ScanRefused e) ≡ scanFrom (length s) (scanned (drop i s))
+      pub scan-lost : {e : Refusal} → part ≡ WalkRefusedV e → scanTold (ScanRefused e) ≡ scanFrom (length s) (scanned (drop i s))
       scan-lost o =
           let g = got s i a told f in
-          item-no (length s) _ (g .head) (g .rest) (itemAt 16 (drop i s)) (rw o at item-told) ∙ ap (scanFrom (length s)) (sym (scan-is g))
+          item-no (length s) _ (g .head) (g .rest) (itemAt 16 (drop i s)) (rw o at part-is) ∙ ap (scanFrom (length s)) (sym (scan-is g))
 
-      pub scan-made : {m : Made} → part ≡ MadeV m → scanTold (ItemV (record { major = h .major; info = h .info; argument = h .argument; content = h .end; end = m .end })) ≡ scanFrom (length s) (scanned (drop i s))
+      pub scan-made : {m : Made} → part ≡ MadeV m → scanTold (ItemV (record { major = m .major; info = h .info; argument = h .argument; content = h .end; end = m .end })) ≡ scanFrom (length s) (scanned (drop i s))
       unfolding scanTold
       scan-made {m} o =
           let g = got s i a told f in
-          (λ j. itemS (g .major j) (g .info j) (g .argument j) (g .ends j) (m .end))
-          ∙ item-yes (length s) m (g .head) (g .rest) (itemAt 16 (drop i s)) (rw o at item-told) ∙ ap (scanFrom (length s)) (sym (scan-is g))
+          (λ j. itemS (m .major) (g .info j) (g .argument j) (g .ends j) (m .end))
+          ∙ item-yes (length s) m (g .head) (g .rest) (itemAt 16 (drop i s)) (rw o at part-is) ∙ ap (scanFrom (length s)) (sym (scan-is g))
 
 pub ruleset scan-ways = (scan-refused, scan-lost, scan-made)

@@ -7,14 +7,14 @@ use lib.Dec.{eqb}
 use lib.ListN.{length, drop}
 use Rattle.cbor.specs.Refusals.{Result, ok, refuse, bind, Verdict, accepted, refused as refusedV}
 use Rattle.cbor.specs.Items.{Item, Items}
-use Rattle.cbor.specs.Heads.{Head, majorNumber, nextHead}
+use Rattle.cbor.specs.Heads.{Head, majorNumber, itemMajor, nextHead}
 use Rattle.cbor.specs.Valid.{Bytes}
 use Rattle.cbor.specs.Decode.{Until, counted, broken, item as itemAt, decode, mostLevels}
 use Rattle.cbor.specs.Paths.{Spot, Found, found, nowhere, start, end}
 use Rattle.cbor.specs.Answers.{kindNumber}
 use Rattle.cbor.specs.HeadAnswers.{sizeInformation}
-use Rattle.cbor.specs.WalkAnswers.{walkTold, walkAllOf}
-use Rattle.cbor.specs.declared.walk.Walked.{Walked}
+use Rattle.cbor.specs.WalkAnswers.{passTold, walkAllOf}
+use Rattle.cbor.specs.declared.walk.Passed.{Passed}
 use Rattle.edn.specs.Operations.{lookUp}
 use Rattle.edn.specs.Following.{Place, at, astray, trace}
 use Rattle.edn.specs.declared.look.Checked.{Checked}
@@ -43,8 +43,8 @@ checkOf (accepted xs) = fine
 checkOf (refusedV n place) = refused n place
 
 -- the same, with what is known of every slice of bytes
-pub record Checks (s : List ℕ) (r : Walked) : Type 0 where
-  pub is : walkTold r ≡ walkAllOf (length s) (decode s)
+pub record Checks (s : List ℕ) (r : Passed) : Type 0 where
+  pub is : passTold r ≡ walkAllOf (length s) (decode s)
   pub bytes : Bytes s
 
 -- LOCATE
@@ -122,7 +122,7 @@ pub record HeadOf : Type 0 where
   pub item : Item
 
 unfoldable pub scanFrom : ℕ → Result HeadOf → ScanTold
-scanFrom size (ok x r) = item (majorNumber (x .head .major)) (sizeInformation (x .head .size) (x .head .argument)) (x .head .argument) (size - length (x .rest)) (size - length r)
+scanFrom size (ok x r) = item (majorNumber (itemMajor (x .item))) (sizeInformation (x .head .size) (x .head .argument)) (x .head .argument) (size - length (x .rest)) (size - length r)
 scanFrom size (refuse n left) = refused n (size - left)
 
 -- the item at the front, 16 levels left

@@ -3,5 +3,7 @@ pub mod Following
 pub mod Answers
 pub mod Outcomes
 pub mod Programs
+pub mod Corrections
 pub mod Demands
+pub mod Promises
 pub mod Examples

@@ -5,6 +5,7 @@ use cbor::refusal::Refusal;
 use cbor::refusal::RefusalKind;
 use cbor::walk;
 use cbor::walk::Extent;
+use cbor::walk::Passed;
 use cbor::walk::Turn;
 use cbor::walk::Walked;
 ghost use mathlib.Core.Path.{_≡_};
@@ -30,7 +31,7 @@ pub enum Located {
     Refused(Refusal),
 }
 
-// One item: its head, as read; where the head ends and its content begins; where the item ends.
+// One item: its major type, the rest of its head as read; where the head ends and its content begins; where the item ends.
 pub struct ItemAt {
     pub major: u8,
     pub info: u8,
@@ -50,8 +51,8 @@ pub fn check(bytes: &[u8]) -> Checked
 {
     let all = walk::walk_all(bytes);
     match all {
-        Walked::Refused(e) => Checked::Refused(e),
-        Walked::Made(_m) => Checked::Accepted,
+        Passed::Refused(e) => Checked::Refused(e),
+        Passed::Span(_m) => Checked::Accepted,
     }
 }
 
@@ -93,8 +94,8 @@ impl Cursor {
         }
         let part = walk::after(at, 0, walk::one(&bytes[at..], major, 17));
         match part {
-            Walked::Refused(_e) => Move::Nowhere,
-            Walked::Made(m) => Move::To(Cursor { at: m.end }),
+            Passed::Refused(_e) => Move::Nowhere,
+            Passed::Span(m) => Move::To(Cursor { at: m.end }),
         }
     }
 
@@ -185,7 +186,7 @@ fn between(start: usize, end: usize) -> Located
     Located::Part(Part { start, end })
 }
 
-pub fn checked_all(bytes: &[u8]) -> Walked
+pub fn checked_all(bytes: &[u8]) -> Passed
     ensures { λ r. ⌜ Checks (now (bytes .entry)) r ⌝ }
 {
     walk::walk_all(bytes)
@@ -196,8 +197,8 @@ fn part_at(bytes: &[u8], path: &[u16]) -> Located
 {
     let all = checked_all(bytes);
     match all {
-        Walked::Refused(e) => Located::Refused(e),
-        Walked::Made(_m) => {
+        Passed::Refused(e) => Located::Refused(e),
+        Passed::Span(_m) => {
             let trace = follow(bytes, path);
             match trace {
                 Trace::Lost(i) => Located::Refused(Refusal {
@@ -206,7 +207,7 @@ fn part_at(bytes: &[u8], path: &[u16]) -> Located
                 }),
                 Trace::At(c) => {
                     let at = c.at;
-                    let whole = walk::after(at, 0, walk::item(&bytes[at..], 16));
+                    let whole = walk::item_after(at, walk::item(&bytes[at..], 16));
                     match whole {
                         Walked::Refused(e) => Located::Refused(e),
                         Walked::Made(m) => between(at, m.end),
@@ -247,11 +248,11 @@ pub fn scan(bytes: &[u8], at: usize) -> Scanned
     match read {
         HeadRead::Refused(e) => Scanned::Refused(e),
         HeadRead::Head(h) => {
-            let walked = walk::after(at, 0, walk::item(&bytes[at..], 16));
+            let walked = walk::item_after(at, walk::item(&bytes[at..], 16));
             match walked {
                 Walked::Refused(e) => Scanned::Refused(e),
                 Walked::Made(m) => Scanned::Item(ItemAt {
-                    major: h.major,
+                    major: m.major,
                     info: h.info,
                     argument: h.argument,
                     content: h.end,

@@ -4,7 +4,7 @@ use crate::answer::fits;
 use crate::answer::refuse;
 use crate::look;
 use cbor::refusal::RefusalKind;
-use cbor::walk::Walked;
+use cbor::walk::Passed;
 use printer::print;
 ghost use mathlib.Core.Path.{_≡_};
 ghost use Rattle.edn.specs.Operations.{print};
@@ -27,7 +27,7 @@ pub fn print(bytes: &[u8], out: &mut [u8]) -> Answer
 {
     let all = look::checked_all(bytes);
     match all {
-        Walked::Refused(e) => Answer::Refused(e),
-        Walked::Made(_m) => lay(bytes, out),
+        Passed::Refused(e) => Answer::Refused(e),
+        Passed::Span(_m) => lay(bytes, out),
     }
 }

@@ -16,7 +16,7 @@ use Rattle.cbor.specs.Ascii.{ascii}
 use Rattle.cbor.specs.Buffer.{over}
 use Rattle.cbor.proofs.Buffer.{over-nil, over-one, over-more}
 use Rattle.notation.specs.Printing.{decimalWithin, decimalOf, hexDigitOf, hexByteOf, hexOf, escapeOf, escapedOf}
-use Rattle.cbor.specs.WalkAnswers.{capped}
+use Rattle.cbor.specs.Sums.{capped}
 use Rattle.printer.specs.PrintAnswers.{Prints, contentOf}
 
 -- ONE PART BEHIND THE OTHER

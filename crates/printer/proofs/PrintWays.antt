@@ -22,7 +22,8 @@ use Rattle.cbor.specs.declared.head.HeadRead.the-variants.{Head as HeadV, Refus
 use Rattle.cbor.proofs.Results.{refuse-not-ok}
 use Rattle.cbor.proofs.DecodeEncode.{enterAt, by-head}
 use Rattle.notation.specs.Printing.{sizeOf, printInt, printString, printChunked, print, printSimple}
-use Rattle.cbor.specs.WalkAnswers.{capped, kindOf, sized as mapped, below, Within}
+use Rattle.cbor.specs.Sums.{capped}
+use Rattle.cbor.specs.WalkAnswers.{kindOf, sized as mapped, below, Within}
 use Rattle.printer.specs.PrintAnswers.{Prints, widthBy, sizeBy, signOf, entryText, chunkText, oneOf, allOf, untilBy, modeBy, behindBy, stepBy, Turned, joined, openingBy, closingBy, containerText, chunkedText, tagText, Told, Headed}
 use Rattle.printer.specs.declared.print.Printed.{Printed}
 use Rattle.printer.proofs.PrintLeaves.{prints-more, prints-as}

@@ -12,7 +12,8 @@ use Rattle.cbor.specs.Widths.{Width, w0, w1, w2, w4, w8}
 use Rattle.cbor.specs.Items.{Sign, unsigned, negative, Kind, Size, definite, indefinite, Chunk, Item, tag, Items}
 use Rattle.cbor.specs.Heads.{majorOf, nextHead}
 use Rattle.cbor.specs.Decode.{Until, counted, broken, ended, Step, over, another, stepAt, several, chunk, Entry, entry, decode}
-use Rattle.cbor.specs.WalkAnswers.{capped, sized as mapped, below, kindOf}
+use Rattle.cbor.specs.Sums.{capped}
+use Rattle.cbor.specs.WalkAnswers.{sized as mapped, below, kindOf}
 use Rattle.cbor.specs.declared.head.HeadAt.{HeadAt}
 use Rattle.notation.specs.Words.{simpleWord}
 use Rattle.notation.specs.Printing.{decimalOf, hexOf, escapedOf, printString, printChunked, sizeOf, print, printText}

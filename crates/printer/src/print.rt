@@ -5,6 +5,7 @@ use crate::put;
 use cbor::head;
 use cbor::head::HeadAt;
 use cbor::head::HeadRead;
+use cbor::sum::sum;
 ghost use mathlib.Core.Path.{_≡_};
 ghost use Prim.Native.Nat.{_+_, _-_};
 ghost use mathlib.Core.Bool.{true};
@@ -13,7 +14,8 @@ ghost use lib.Dec.{eqb};
 ghost use Rattle.cbor.specs.Heads.{taking};
 ghost use Rattle.cbor.specs.Decode.{chunk, entry, item};
 ghost use Rattle.notation.specs.Printing.{print, printString};
-ghost use Rattle.cbor.specs.WalkAnswers.{capped, kindOf, sized as mapped, below, Within};
+ghost use Rattle.cbor.specs.Sums.{capped};
+ghost use Rattle.cbor.specs.WalkAnswers.{kindOf, sized as mapped, below, Within};
 ghost use Rattle.printer.specs.PrintAnswers.{Prints, widthBy, entryText, chunkText, oneOf, allOf, untilBy, modeBy, behindBy, Turned, Moves, separatorOf, joined, openingBy, closingBy, containerText, chunkedText, tagText, Told, Headed, PrintedAll, TextSize};
 
 pub struct Printed {
@@ -42,7 +44,7 @@ fn past(at: usize, mode: u8) -> usize
     ensures { λ r. ⌜ r ≡ capped at (behindBy mode) ⌝ }
 {
     if mode == 1 {
-        return put::sum(at, 1);
+        return sum(at, 1);
     }
     at
 }
@@ -247,7 +249,7 @@ fn chunked(
     if is_over(bytes, from, 1, 0) {
         let p = parts::no_chunks(major == 3, out, pos);
         return Printed {
-            end: put::sum(from, 1),
+            end: sum(from, 1),
             pos: p,
         };
     }

@@ -1,21 +1,11 @@
 // Text into a buffer. Each function answers the place behind what it writes, also where that does not fit; a place stops at
 // the largest number.
+use cbor::sum::sum;
 ghost use mathlib.Core.Path.{_≡_};
 ghost use mathlib.Core.List.{[], _∷_};
-ghost use Rattle.cbor.specs.WalkAnswers.{capped};
 ghost use Rattle.printer.specs.PrintAnswers.{Prints, contentOf};
 ghost use Rattle.notation.specs.Printing.{decimalOf, hexDigitOf, hexByteOf, escapeOf};
 ghost use Prim.Native.Nat.{suc, _<_};
-
-pub fn sum(a: usize, b: usize) -> usize
-    ensures { λ r. ⌜ r ≡ capped a b ⌝ }
-{
-    if b <= 18446744073709551615 - a {
-        a + b
-    } else {
-        18446744073709551615
-    }
-}
 
 pub fn put(out: &mut [u8], pos: usize, v: u8) -> usize
     ensures { λ r. ⌜ Prints (now (out .entry)) (now (out .exit)) pos (v ∷ []) r ⌝ }

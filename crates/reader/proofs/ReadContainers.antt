@@ -14,7 +14,7 @@ use Rattle.cbor.specs.Widths.{Width, w0, w1, w2, w4, w8, limit}
 use Rattle.cbor.specs.Items.{byteString, textString, Size, definite, indefinite, Item, int, string, chunked, array, map, tag, simple, Items, count, count₂}
 use Rattle.cbor.specs.Heads.{Major, strings, arrays, maps, majorNumber, initial, head}
 use Rattle.cbor.specs.Encode.{encodeString, encode, encodeAll, encodeAll₂, enclosed, opening, closing}
-use Rattle.cbor.specs.TypedArrays.{mayTag, divides, isTypedArray, elementSize}
+use Rattle.cbor.specs.TypedArrays.{mayTag, mayTagBy, divides}
 use Rattle.cbor.specs.Buffer.{written, closed}
 use Rattle.cbor.specs.HeadAnswers.{headBytes}
 use Rattle.cbor.specs.declared.refusal.Refusal.{Refusal}
@@ -27,7 +27,7 @@ use Rattle.notation.specs.Reading.{marked, sequence}
 use Rattle.tokens.specs.Stands.{Stands}
 use Rattle.tokens.specs.TokenAnswers.{widthNumber, indicatorNumber, shapeCode, Took}
 use Rattle.tokens.specs.NumberAnswers.{chooseBy, chosenNumber}
-use Rattle.reader.specs.ReadAnswers.{View, noteOf, ofItem, ofEntry, ofClosed, ofPairs, ofTagged, followBy, followed, entry, within, taggedRead, indicatorFor, shapeFor, infoBy, HeadSize, mayTagBy, dividesBy, Room, Opened, Bracketed, Loop, Ahead, Light, Heavy, Moved, After, Told, Strayed, Finished, Ended, TagMade, joinedAs}
+use Rattle.reader.specs.ReadAnswers.{View, noteOf, ofItem, ofEntry, ofClosed, ofPairs, ofTagged, followBy, followed, entry, within, taggedRead, indicatorFor, shapeFor, infoBy, HeadSize, mayTagNoted, Room, Opened, Bracketed, Loop, Ahead, Light, Heavy, Moved, After, Told, Strayed, Finished, Ended, TagMade, joinedAs}
 use Rattle.tokens.specs.declared.token.Token.{Token as Cut}
 use Rattle.reader.specs.declared.read.Made.{Made as MadeS}
 use Rattle.reader.specs.declared.read.Answer.{Answer}
@@ -307,21 +307,17 @@ module _ {s b b′ : List ℕ} {at pos : ℕ} (d : ℕ) (a : Answer) (rm : Room 
 pub ruleset pair-ways = (pair-refused, pair-done)
 
 -- TAGS
-divides-note : (size : ℕ) (x : Item) → divides size x ≡ dividesBy size (noteOf x)
-unfolding divides dividesBy noteOf
-divides-note size (int g w n) = refl
-divides-note size (string byteString w b) = refl
-divides-note size (string textString w b) = refl
-divides-note size (chunked byteString cs) = refl
-divides-note size (chunked textString cs) = refl
-divides-note size (array z xs) = refl
-divides-note size (map z ps) = refl
-divides-note size (tag w n x) = refl
-divides-note size (simple n) = refl
-
-may-note : (n : ℕ) (x : Item) → mayTagBy n (noteOf x) ≡ mayTag n x
-unfolding mayTagBy mayTag
-may-note n x = ap (λ (v : Bool). elim (isTypedArray n) as (λ z. Bool) [ true ↦ elim (eqb n 76) as (λ z. Bool) [ true ↦ false | false ↦ v ] | false ↦ true ]) (sym (divides-note (elementSize n) x))
+may-note : (n : ℕ) (x : Item) → mayTagNoted n (noteOf x) ≡ mayTag n x
+unfolding mayTagNoted mayTagBy mayTag divides noteOf
+may-note n (int g w k) = refl
+may-note n (string byteString w b) = refl
+may-note n (string textString w b) = refl
+may-note n (chunked byteString cs) = refl
+may-note n (chunked textString cs) = refl
+may-note n (array z xs) = refl
+may-note n (map z ps) = refl
+may-note n (tag w k x) = refl
+may-note n (simple k) = refl
 
 module _ {s : List ℕ} {at place′ first size : ℕ} (pos : ℕ) (o : Opened s at pos place′) (hs : HeadSize first size) where
   pub tag-place : Fits bits64 (pos + size)
@@ -340,7 +336,7 @@ tag-case : {s b b₁ b₂ : List ℕ} {at pos place′ first size : ℕ} {m : Ma
     → Told (ofTagged first n) s b b₂ (length (marked s) - at + 1) pos a′ (taggedRead d n (length (marked s) - place′) (drop at (marked s)))
 unfolding taggedRead ofTagged ofItem
 tag-case {s} {b} {b₁} {b₂} {at} {pos} {place′} {first} {size} {m} {a′} n d true o hs wr it tm e =
-    let may : mayTagBy n (m .note) ≡ true = ap (mayTagBy n) (item-note (it .thing) (it .moved .noted)) ∙ may-note n (it .thing) ∙ e in
+    let may : mayTagNoted n (m .note) ≡ true = ap (mayTagNoted n) (item-note (it .thing) (it .moved .noted)) ∙ may-note n (it .thing) ∙ e in
     let h : size ≡ length (headBytes first n) = hs .is n in
     let l : length (headBytes first n ++ encode (it .thing)) ≡ length (headBytes first n) + length (encode (it .thing)) = length-append (headBytes first n) (encode (it .thing)) in
     let z : min (size + m .size) (2 ^ 64 - 1) ≡ size + m .size = omega (arith, hs .most, it .moved .short, o .room) in
@@ -355,7 +351,7 @@ tag-case {s} {b} {b₁} {b₂} {at} {pos} {place′} {first} {size} {m} {a′} n
       wrote = wrote-more (wrote-written wr) (it .moved .wrote) (ap (λ (k : ℕ). pos + k) h);
     })
 tag-case {s} {b} {b₁} {b₂} {at} {pos} {place′} {first} {size} {m} {a′} n d false o hs wr it tm e =
-    let may : mayTagBy n (m .note) ≡ false = ap (mayTagBy n) (item-note (it .thing) (it .moved .noted)) ∙ may-note n (it .thing) ∙ e in
+    let may : mayTagNoted n (m .note) ≡ false = ap (mayTagNoted n) (item-note (it .thing) (it .moved .noted)) ∙ may-note n (it .thing) ∙ e in
     let p : place′ ≡ length (marked s) - (length (marked s) - place′) = omega (arith, o .before) in
     told-no badTypedArray (length (marked s) - place′) _ (bind-yes (followed 14 d (drop at (marked s))) _ (it .thing) (it .rest) (it .is) ∙ (rw e)) (denied (tm .refused may) p)
 

@@ -12,14 +12,14 @@ use mir.Val.{Fits}
 use borrow.Author.Tests.{le-leb, lt-leb, eq-eqb, ne-eqb}
 use Rattle.cbor.specs.Refusals.{badIndicator, badTypedArray}
 use Rattle.cbor.specs.Widths.{w0, w1, w2, w4, w8, limit, fits, shortest, information}
-use Rattle.cbor.specs.TypedArrays.{elementSize, isTypedArray}
+use Rattle.cbor.specs.TypedArrays.{mayTagBy}
 use Rattle.cbor.specs.Answers.{kindNumber, Kinded}
 use Rattle.cbor.specs.Buffer.{closed}
 use Rattle.cbor.specs.HeadAnswers.{argumentSize, headBytes}
 use Rattle.cbor.specs.declared.refusal.Refusal.{Refusal}
 use Rattle.cbor.specs.declared.refusal.RefusalKind.{RefusalKind}
 use Rattle.cbor.proofs.Arguments.{length-big}
-use Rattle.reader.specs.ReadAnswers.{infoBy, Informed, majorBy, initialBy, MajorBy, HeadSize, strayBy, dividesBy, mayTagBy, ElementSize, noteBy, Light, Heavy, Strayed, Denies, Finished, TagMade, joinedAs}
+use Rattle.reader.specs.ReadAnswers.{infoBy, Informed, majorBy, initialBy, MajorBy, HeadSize, strayBy, mayTagNoted, noteBy, Light, Heavy, Strayed, Denies, Finished, TagMade, joinedAs}
 use Rattle.tokens.specs.declared.token.Token.{Token as Cut}
 use Rattle.reader.specs.declared.read.Made.{Made as MadeS}
 use Rattle.reader.specs.declared.read.Answer.{Answer}
@@ -152,75 +152,17 @@ pub light-more : {n : ℕ} → Light n → Fits bits64 (n + 1)
 light-more l = record { fits = omega (arith, l .fits) }
 
 -- TYPED ARRAYS
-fourth : (p : ℕ) → p ≤ 4 → (p ≡ 0 → ⊥) → (p ≡ 1 → ⊥) → (p ≡ 2 → ⊥) → (p ≡ 3 → ⊥) → p ≡ 4
-fourth zero h n0 n1 n2 n3 = absurd (n0 refl)
-fourth (suc zero) h n0 n1 n2 n3 = absurd (n1 refl)
-fourth (suc (suc zero)) h n0 n1 n2 n3 = absurd (n2 refl)
-fourth (suc (suc (suc zero))) h n0 n1 n2 n3 = absurd (n3 refl)
-fourth (suc (suc (suc (suc p)))) h n0 n1 n2 n3 = omega arith
+module _ (n : ℕ) {r : Bool} where
+  pub may-none : (note : ℕ) → note ≡ 0 → r ≡ mayTagBy n false 0 → r ≡ mayTagNoted n note
+  unfolding mayTagNoted
+  may-none note e f = rw e f
 
-module _ {n : ℕ} where
-  pub element-0 : n / 16 % 2 + n % 4 ≡ 0 → ElementSize n 1
-  unfolding elementSize
-  element-0 e = record { is = rw e; some = omega arith }
+  pub may-some : (note : ℕ) → (note ≡ 0 → ⊥) → r ≡ mayTagBy n true (note - 1) → r ≡ mayTagNoted n note
+  unfolding mayTagNoted
+  may-some zero z f = absurd (z refl)
+  may-some (suc l) z f = let e : suc l - 1 ≡ l = omega arith in rw e at f
 
-  pub element-1 : n / 16 % 2 + n % 4 ≡ 1 → ElementSize n 2
-  unfolding elementSize
-  element-1 e = record { is = rw e; some = omega arith }
-
-  pub element-2 : n / 16 % 2 + n % 4 ≡ 2 → ElementSize n 4
-  unfolding elementSize
-  element-2 e = record { is = rw e; some = omega arith }
-
-  pub element-3 : n / 16 % 2 + n % 4 ≡ 3 → ElementSize n 8
-  unfolding elementSize
-  element-3 e = record { is = rw e; some = omega arith }
-
-  pub element-4 : (n / 16 % 2 + n % 4 ≡ 0 → ⊥) → (n / 16 % 2 + n % 4 ≡ 1 → ⊥) → (n / 16 % 2 + n % 4 ≡ 2 → ⊥) → (n / 16 % 2 + n % 4 ≡ 3 → ⊥) → ElementSize n 16
-  unfolding elementSize
-  element-4 n0 n1 n2 n3 =
-      let h : n / 16 % 2 + n % 4 ≤ 4 = omega arith in
-      let e : n / 16 % 2 + n % 4 ≡ 4 = fourth (n / 16 % 2 + n % 4) h n0 n1 n2 n3 in
-      record { is = rw e; some = omega arith }
-
-pub ruleset element-ways = (element-0, element-1, element-2, element-3, element-4)
-
-module _ (n note : ℕ) where
-  pub may-low : n < 64 → true ≡ mayTagBy n note
-  unfolding mayTagBy isTypedArray
-  may-low h = simp (mayTagBy, isTypedArray, lt-leb 64 n h)
-
-  pub may-high : 64 ≤ n → 87 < n → true ≡ mayTagBy n note
-  unfolding mayTagBy isTypedArray
-  may-high g h = simp (mayTagBy, isTypedArray, le-leb 64 n g, lt-leb n 87 h)
-
-  module _ (g : 64 ≤ n) (h : n ≤ 87) where
-    typed : isTypedArray n ≡ true
-    unfolding isTypedArray
-    typed = simp (isTypedArray, le-leb 64 n g, le-leb n 87 h)
-
-    pub may-76 : n ≡ 76 → false ≡ mayTagBy n note
-    unfolding mayTagBy
-    may-76 e = simp (mayTagBy, typed, eq-eqb n 76 e)
-
-    module _ (k : n ≡ 76 → ⊥) where
-      by-size : mayTagBy n note ≡ dividesBy (elementSize n) note
-      unfolding mayTagBy
-      by-size = simp (mayTagBy, typed, ne-eqb n 76 k)
-
-      pub may-none : note ≡ 0 → false ≡ mayTagBy n note
-      unfolding dividesBy
-      may-none e = sym (by-size ∙ rw (e, dividesBy))
-
-      pub may-some : {size : ℕ} → (note ≡ 0 → ⊥) → ElementSize n size → eqb ((note - 1) % size) 0 ≡ mayTagBy n note
-      unfolding dividesBy
-      may-some {size} z s = sym (by-size ∙ ap (λ (k : ℕ). dividesBy k note) (sym (s .is)) ∙ go note z)
-        where
-          go : (m : ℕ) → (m ≡ 0 → ⊥) → dividesBy size m ≡ eqb ((m - 1) % size) 0
-          go zero z = absurd (z refl)
-          go (suc m) z = let e : suc m - 1 ≡ m = omega arith in rw e
-
-pub ruleset may-ways = (may-low, may-high, may-76, may-none, may-some)
+pub ruleset may-ways = (may-none, may-some)
 
 -- REFUSALS AND ANSWERS
 pub denies-is : {k : RefusalKind} {at : ℕ} → Denies (kindNumber k) at (Refused (record { kind = k; place = at }))
@@ -302,7 +244,7 @@ heavy-mul h = record { fits = omega (arith, h .most) }
 pub finish-size : {major size i r : ℕ} → Heavy major size → HeadSize i r → Fits bits64 (r + size)
 finish-size h s = record { fits = omega (arith, h .fits, s .most) }
 
-module _ {n size : ℕ} {m : MadeS} {place : ℕ} {a : Answer} (r : Bool) (e : r ≡ mayTagBy n (m .note)) where
+module _ {n size : ℕ} {m : MadeS} {place : ℕ} {a : Answer} (r : Bool) (e : r ≡ mayTagNoted n (m .note)) where
   pub tagged-yes : {k : ℕ} → r ≡ true → k ≡ min (size + m .size) (2 ^ 64 - 1) → a ≡ Made (record { next = m .next; size = k; count = 1; note = 0 }) → TagMade n size m place a
   tagged-yes {k} t q f =
       record {

@@ -9,7 +9,7 @@ use Rattle.cbor.specs.Refusals.{Result, ok, refuse, bind, badIndicator, tooDeep
 use Rattle.cbor.specs.Widths.{Width, w0, w1, w2, w4, w8, limit, shortest, information}
 use Rattle.cbor.specs.Items.{Kind, byteString, textString, Size, definite, indefinite, Chunk, Item, int, string, chunked, array, map, tag, simple, Pairs, count, count₂}
 use Rattle.cbor.specs.Encode.{encodeString, encodeChunks, encode, encodeAll, encodeAll₂}
-use Rattle.cbor.specs.TypedArrays.{elementSize, chunksLength, isTypedArray, mayTag}
+use Rattle.cbor.specs.TypedArrays.{chunksLength, mayTag, mayTagBy}
 use Rattle.cbor.specs.Buffer.{over, written, closed}
 use Rattle.cbor.specs.Answers.{kindNumber}
 use Rattle.cbor.specs.HeadAnswers.{headBytes}
@@ -190,17 +190,10 @@ strayBy d code mark =
       ]
     ]
 
-unfoldable pub dividesBy : ℕ → ℕ → Bool
-dividesBy size zero = false
-dividesBy size (suc l) = eqb (l % size) 0
-
 -- whether a tag may stand on an item of a note
-unfoldable pub mayTagBy : ℕ → ℕ → Bool
-mayTagBy n note = elim (isTypedArray n) [ true ↦ elim (eqb n 76) [ true ↦ false | false ↦ dividesBy (elementSize n) note ] | false ↦ true ]
-
-pub record ElementSize (n r : ℕ) : Type 0 where
-  pub is : r ≡ elementSize n
-  pub some : 1 ≤ r
+unfoldable pub mayTagNoted : ℕ → ℕ → Bool
+mayTagNoted n zero = mayTagBy n false 0
+mayTagNoted n (suc l) = mayTagBy n true l
 
 -- the note of a string, by the code of its literals and its length
 unfoldable pub noteBy : ℕ → ℕ → ℕ
@@ -349,8 +342,8 @@ pub record Ended (b b′ : List ℕ) (pos first : ℕ) (m : MadeS) (note : ℕ) 
 
 -- what becomes of an item m behind a tag's head of some bytes
 pub record TagMade (n size : ℕ) (m : MadeS) (place : ℕ) (a : Answer) : Type 0 where
-  pub refused : mayTagBy n (m .note) ≡ false → Denies badTypedArray place a
-  pub made : mayTagBy n (m .note) ≡ true → a ≡ Made (record { next = m .next; size = min (size + m .size) (2 ^ 64 - 1); count = 1; note = 0 })
+  pub refused : mayTagNoted n (m .note) ≡ false → Denies badTypedArray place a
+  pub made : mayTagNoted n (m .note) ≡ true → a ≡ Made (record { next = m .next; size = min (size + m .size) (2 ^ 64 - 1); count = 1; note = 0 })
 
 -- the answer for a value behind a key of some bytes
 unfoldable pub joinedAs : ℕ → Answer → Answer

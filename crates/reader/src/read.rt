@@ -5,6 +5,8 @@ use cbor::head;
 use cbor::refusal::Refusal;
 use cbor::refusal::RefusalKind;
 use cbor::refusal::kind_of;
+use cbor::sum::sum;
+use cbor::typed;
 use tokens::base64;
 use tokens::hex;
 use tokens::indicator::choose;
@@ -20,7 +22,7 @@ ghost use Rattle.cbor.specs.Answers.{kindNumber};
 ghost use Rattle.notation.specs.Tokens.{bracket, brace, embedding};
 ghost use Rattle.notation.specs.Form.{either, only, one, items, pairs, chunks, reads};
 ghost use Rattle.notation.specs.Reading.{marked, sequence};
-ghost use Rattle.reader.specs.ReadAnswers.{followed, entry, chunkRead, chunkedRead, within, taggedRead, indicatorFor, shapeFor, kindFor, Informed, initialBy, strayBy, mayTagBy, noteBy, Filled, Room, Opened, Loop, Ahead, Strings, Light, Heavy, MajorBy, HeadSize, LiteralTold, ElementSize, Told, Strayed, Denies, Leafed, Stringed, Finished, Ended, TagMade, ChunksTold, Bracketed, joinedAs, ofItem, ofEntry, ofClosed, ofPairs, ofChunk, ofTagged};
+ghost use Rattle.reader.specs.ReadAnswers.{followed, entry, chunkRead, chunkedRead, within, taggedRead, indicatorFor, shapeFor, kindFor, Informed, initialBy, strayBy, mayTagNoted, noteBy, Filled, Room, Opened, Loop, Ahead, Strings, Light, Heavy, MajorBy, HeadSize, LiteralTold, Told, Strayed, Denies, Leafed, Stringed, Finished, Ended, TagMade, ChunksTold, Bracketed, joinedAs, ofItem, ofEntry, ofClosed, ofPairs, ofChunk, ofTagged};
 
 // What was read: where it goes on, how many bytes it has, how many things it is, and a note: of items the indicator that closed them, of
 // an item 0, or for a byte string one more than its length.
@@ -58,15 +60,6 @@ fn closed(next: usize, size: usize, count: usize, note: u8) -> Answer
     ensures { λ r. ⌜ r ≡ Answer.Made (record { next = next; size = size; count = count; note = note }) ⌝ }
 {
     done(next, size, count, note as usize)
-}
-
-fn sum(a: usize, b: usize) -> usize
-    ensures { λ r. ⌜ r ≡ min (a + b) (2 ^ 64 - 1) ⌝ }
-{
-    if b <= 0xffff_ffff_ffff_ffff - a {
-        return a + b;
-    }
-    0xffff_ffff_ffff_ffff
 }
 
 // The number of the refusal of a token that may not stand where it does, or of what is no token.
@@ -321,35 +314,12 @@ fn finish(
 
 // Whether a tag may stand on an item of a note (typed arrays).
 fn may_tag(number: u64, note: usize) -> bool
-    ensures { λ r. ⌜ r ≡ mayTagBy number note ⌝ }
+    ensures { λ r. ⌜ r ≡ mayTagNoted number note ⌝ }
 {
-    if number < 64 {
-        return true;
-    }
-    if 87 < number {
-        return true;
-    }
-    if number == 76 {
-        return false;
-    }
     if note == 0 {
-        return false;
+        return typed::may_tag(number, false, 0);
     }
-    (note - 1) % element_size(number) == 0
-}
-
-// The size of an element of a typed array: 2 to the power of a bit and the last two bits of the tag.
-fn element_size(number: u64) -> usize
-    ensures { λ r. ⌜ ElementSize number r ⌝ }
-{
-    let power = number / 16 % 2 + number % 4;
-    match power {
-        0 => 1,
-        1 => 2,
-        2 => 4,
-        3 => 8,
-        _ => 16,
-    }
+    typed::may_tag(number, true, note - 1)
 }
 
 // What becomes of an item behind the head of a tag.

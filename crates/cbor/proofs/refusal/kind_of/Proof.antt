@@ -25,5 +25,5 @@ kind-of-spec =
     (λ c. search kinded-ways)  -- returns-14
     (λ c. search kinded-ways)  -- returns-15
     (λ c. search kinded-ways)  -- returns-16
-    (λ c. search kinded-ways)  -- returns-17
+    (λ c. search kinded-ways depth 20)  -- returns-17
     )

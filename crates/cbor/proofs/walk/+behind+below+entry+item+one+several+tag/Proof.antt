@@ -28,8 +28,10 @@ use Rattle.cbor.proofs.head.read_head.Reads as read-head-reads
 use Rattle.cbor.proofs.walk.after.Reads as after-reads
 use Rattle.cbor.proofs.walk.chunk.Reads as chunk-reads
 use Rattle.cbor.proofs.walk.content.Reads as content-reads
-use Rattle.cbor.proofs.walk.initial_at.Reads as initial-at-reads
-use Rattle.cbor.proofs.walk.may_tag.Reads as may-tag-reads
+use Rattle.cbor.proofs.walk.as_span.Reads as as-span-reads
+use Rattle.cbor.proofs.walk.item_after.Reads as item-after-reads
+use Rattle.cbor.proofs.walk.with_major.Reads as with-major-reads
+use Rattle.cbor.proofs.typed.may_tag.Reads as may-tag-reads
 use Rattle.cbor.proofs.walk.reached.Reads as reached-reads
 use Rattle.cbor.proofs.walk.refuse.Reads as refuse-reads
 use Rattle.cbor.proofs.walk.turn_at.Reads as turn-at-reads
@@ -40,8 +42,8 @@ use native.Mathlib.Omega.{arith}
 use Prim.Native.Nat.{_+_, _-_, _*_}
 use lib.ListN.{length}
 use Rattle.cbor.proofs.WalkParts.{headed, head-room}
-use Rattle.cbor.proofs.WalkCycle.{below-ways, entry-room, entry-ways, one-ways, Run, run-start, run-room, run-ways, run-less, run-on}
-use Rattle.cbor.proofs.WalkItems.{tag-turns, item-refused, behind-ways}
+use Rattle.cbor.proofs.WalkCycle.{below-ways, entry-room, entry-ways, one-ways, Run, run-start, run-ways, run-less, run-on}
+use Rattle.cbor.proofs.WalkItems.{tag-turns, item-ways, behind-ways}
 
 abbrev μ-behind : Measures 1 behind-kinds.ps ℕ
 μ-behind κs a = 6 * a .1 .1 .0 + 4
@@ -62,7 +64,7 @@ abbrev μ-several : Measures 1 several-kinds.ps ℕ
 μ-several κs a = 6 * a .1 .1 .1 .1 .0 + 3
 
 abbrev μ-tag : Measures 1 tag-kinds.ps ℕ
-μ-tag κs a = 6 * a .1 .1 .1 .0 + 1
+μ-tag κs a = 6 * a .1 .1 .1 .0 + 6
 
 abbrev behind-at : ℕ → In 1 behind-kinds.ps
 behind-at t = and 1 behind-kinds.ps (is 1 behind-kinds.ps μ-behind t) behind.Pre
@@ -116,13 +118,13 @@ abbrev behind-calls : ℕ → behind-lts.Claims
 behind-calls t = (reached-reads.Asked, reached-reads.Learnt, several-below t, several.Post, content-reads.Asked, content-reads.Learnt, refuse-reads.Asked, refuse-reads.Learnt, tag-below t, tag.Post)
 
 abbrev below-calls : ℕ → below-lts.Claims
-below-calls t = (refuse-reads.Asked, refuse-reads.Learnt, item-below t, item.Post)
+below-calls t = (refuse-reads.Asked, refuse-reads.Learnt, item-below t, item.Post, as-span-reads.Asked, as-span-reads.Learnt)
 
 abbrev entry-calls : ℕ → entry-lts.Claims
 entry-calls t = (below-below t, below.Post, after-reads.Asked, after-reads.Learnt)
 
 abbrev item-calls : ℕ → item-lts.Claims
-item-calls t = (read-head-reads.Asked, read-head-reads.Learnt, behind-below t, behind.Post)
+item-calls t = (read-head-reads.Asked, read-head-reads.Learnt, behind-below t, behind.Post, with-major-reads.Asked, with-major-reads.Learnt)
 
 abbrev one-calls : ℕ → one-lts.Claims
 one-calls t = (below-below t, below.Post, entry-below t, entry.Post, chunk-reads.Asked, chunk-reads.Learnt)
@@ -131,7 +133,7 @@ abbrev several-calls : ℕ → several-lts.Claims
 several-calls t = (turn-at-reads.Asked, turn-at-reads.Learnt, reached-reads.Asked, reached-reads.Learnt, one-below t, one.Post, after-reads.Asked, after-reads.Learnt)
 
 abbrev tag-calls : ℕ → tag-lts.Claims
-tag-calls t = (below-below t, below.Post, after-reads.Asked, after-reads.Learnt, initial-at-reads.Asked, initial-at-reads.Learnt, may-tag-reads.Asked, may-tag-reads.Learnt, refuse-reads.Asked, refuse-reads.Learnt)
+tag-calls t = (item-below t, item.Post, item-after-reads.Asked, item-after-reads.Learnt, may-tag-reads.Asked, may-tag-reads.Learnt, reached-reads.Asked, reached-reads.Learnt, refuse-reads.Asked, refuse-reads.Learnt)
 
 pub +behind+below+entry+item+one+several+tag-spec : {M : Type 1} → statement M
 +behind+below+entry+item+one+several+tag-spec =
@@ -149,6 +151,7 @@ pub +behind+below+entry+item+one+several+tag-spec : {M : Type 1} → statement M
     (λ c. search behind-ways)  -- returns-5
     (λ c κs. search needs)  -- refuse-requires-2
     (λ c. search behind-ways)  -- returns-6
+    (λ c. search needs)  -- sub-tag
     (λ c κs. (omega arith, search head-room))  -- tag-requires
     (λ c. search behind-ways)  -- returns-7
     (λ c κs. (omega arith, search head-room))  -- several-requires-2
@@ -161,6 +164,7 @@ pub +behind+below+entry+item+one+several+tag-spec : {M : Type 1} → statement M
     (λ c. search below-ways)  -- returns
     (λ c. search needs)  -- sub-item
     (λ c κs. (omega arith, search needs))  -- item-requires
+    (λ c κs. search needs)  -- as-span-requires
     (λ c. search below-ways)  -- returns-2
     )
     (λ t. entry-lts.spec (entry-calls t) (entry-at t) entry.Post
@@ -180,8 +184,9 @@ pub +behind+below+entry+item+one+several+tag-spec : {M : Type 1} → statement M
     (λ c. search needs)  -- enum-known-read
     (λ c. search needs)  -- enum-known-read-2
     (λ c κs. (omega arith, search headed))  -- behind-requires
-    (λ c. search item-refused)  -- returns
-    (λ c. search needs)  -- returns-2
+    (λ c κs. search needs)  -- with-major-requires
+    (λ c. search item-ways)  -- returns
+    (λ c. search item-ways)  -- returns-2
     )
     (λ t. one-lts.spec (one-calls t) (one-at t) one.Post
     (λ c κs. (omega arith, search needs))  -- below-requires
@@ -210,15 +215,15 @@ pub +behind+below+entry+item+one+several+tag-spec : {M : Type 1} → statement M
     (λ c. search run-on)  -- loop-again
     )
     (λ t. tag-lts.spec (tag-calls t) (tag-at t) tag.Post
-    (λ c. search needs)  -- sub-below
-    (λ c. search needs)  -- part-below-start
-    (λ c. search needs)  -- part-below-end
-    (λ c κs. (omega arith, search needs))  -- below-requires
-    (λ c κs. search needs)  -- after-requires
-    (λ c. search needs)  -- enum-known-part
-    (λ c. search needs)  -- enum-known-part-2
-    (λ c κs. search needs)  -- initial-at-requires
+    (λ c. search needs)  -- sub-item
+    (λ c. search needs)  -- part-item-start
+    (λ c. search needs)  -- part-item-end
+    (λ c κs. (omega arith, search needs))  -- item-requires
+    (λ c κs. search needs)  -- item-after-requires
+    (λ c. search needs)  -- enum-known-inner
+    (λ c. search needs)  -- enum-known-inner-2
     (λ c κs. search needs)  -- may-tag-requires
+    (λ c κs. search needs)  -- reached-requires
     (λ c. search tag-turns)  -- returns
     (λ c κs. search needs)  -- refuse-requires
     (λ c. search tag-turns)  -- returns-2

@@ -3,10 +3,10 @@
 use Rattle.cbor.proofs.walk.reached.Statement.{statement}
 use Rattle.cbor.proofs.walk.reached.Tie as tie
 use borrow.Author.Needs.{needs}
-use Rattle.cbor.proofs.WalkParts.{told-made}
+use Rattle.cbor.proofs.WalkParts.{told-span}
 
 pub reached-spec : {M : Type 1} → statement M
 reached-spec =
     tie.close (tie.spec
-    (λ c. search told-made)  -- returns
+    (λ c. search told-span)  -- returns
     )

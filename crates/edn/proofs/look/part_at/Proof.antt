@@ -18,7 +18,7 @@ part-at-spec =
     (λ c. search part-room)  -- part-item-start
     (λ c. search needs)  -- part-item-end
     (λ c κs. search needs)  -- item-requires
-    (λ c κs. search needs)  -- after-requires
+    (λ c κs. search needs)  -- item-after-requires
     (λ c. search needs)  -- enum-known-whole
     (λ c. search needs)  -- enum-known-whole-2
     (λ c κs. search needs)  -- between-requires

@@ -15,7 +15,7 @@ scan-spec =
     (λ c. search scan-room)  -- part-item-start
     (λ c. search needs)  -- part-item-end
     (λ c κs. search needs)  -- item-requires
-    (λ c κs. search needs)  -- after-requires
+    (λ c κs. search needs)  -- item-after-requires
     (λ c. search needs)  -- enum-known-walked
     (λ c. search needs)  -- enum-known-walked-2
     (λ c. search scan-ways)  -- returns

@@ -43,7 +43,7 @@ use Rattle.printer.proofs.print.separator.Reads as separator-reads
 use Rattle.printer.proofs.print.string.Reads as string-reads
 use Rattle.printer.proofs.put.put.Reads as put-reads
 use Rattle.printer.proofs.put.put_all.Reads as put-all-reads
-use Rattle.printer.proofs.put.sum.Reads as sum-reads
+use Rattle.cbor.proofs.sum.sum.Reads as sum-reads
 use Rattle.printer.proofs.parts.integer.Reads as integer-reads
 use Rattle.printer.proofs.parts.no_chunks.Reads as no-chunks-reads
 use Rattle.printer.proofs.parts.simple.Reads as simple-reads

@@ -8,12 +8,9 @@ use Rattle.reader.proofs.ReadSmall.{may-ways}
 pub may-tag-spec : {M : Type 1} → statement M
 may-tag-spec =
     tie.close (tie.spec
+    (λ c κs. search needs)  -- may-tag-requires
     (λ c. search may-ways)  -- returns
+    (λ c. search needs)  -- sub-may-tag
+    (λ c κs. search needs)  -- may-tag-requires-2
     (λ c. search may-ways)  -- returns-2
-    (λ c. search may-ways)  -- returns-3
-    (λ c. search may-ways)  -- returns-4
-    (λ c. search needs)  -- sub-result
-    (λ c κs. search needs)  -- element-size-requires
-    (λ c. search needs)  -- rem-result
-    (λ c. search may-ways)  -- returns-5
     )
