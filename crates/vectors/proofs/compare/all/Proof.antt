@@ -1,0 +1,25 @@
+-- `vectors::compare::all` meets its contract.
+-- Assumes nothing.
+use Rattle.vectors.proofs.compare.all.Statement.{statement}
+use Rattle.vectors.proofs.compare.all.Tie as tie
+use borrow.Author.Needs.{needs}
+use Prim.Native.Nat.{_-_, _≤_}
+use lib.ListN.{length}
+
+abbrev Inv-loop : tie.InvT-loop
+Inv-loop s v i₀ i = i ≤ length s
+
+abbrev μ-loop : tie.MeasureT-loop
+μ-loop s v i₀ i = length s - i
+
+pub all-spec : {M : Type 1} → statement M
+all-spec =
+    tie.close (tie.spec Inv-loop μ-loop
+    (λ c. search needs)  -- loop-holds
+    (λ c. search needs)  -- shared-slice-read-if1
+    (λ c. search needs)  -- returns
+    (λ c. search needs)  -- add-i
+    (λ c. search needs)  -- loop-less
+    (λ c. search needs)  -- loop-again
+    (λ c. search needs)  -- returns-2
+    )

@@ -1,0 +1,28 @@
+-- `vectors::cut::number` meets its contract.
+-- Assumes nothing.
+use Rattle.vectors.proofs.cut.number.Statement.{statement}
+use Rattle.vectors.proofs.cut.number.Tie as tie
+use borrow.Author.Needs.{needs}
+use Prim.Native.Nat.{_-_, _≤_}
+use lib.ListN.{length}
+
+abbrev Inv-loop : tie.InvT-loop
+Inv-loop field v₀ i₀ v i = i ≤ length field
+
+abbrev μ-loop : tie.MeasureT-loop
+μ-loop field v₀ i₀ v i = length field - i
+
+pub number-spec : {M : Type 1} → statement M
+number-spec =
+    tie.close (tie.spec Inv-loop μ-loop
+    (λ c κs. search needs)  -- no-decimal-requires
+    (λ c. search needs)  -- returns
+    (λ c. search needs)  -- loop-holds
+    (λ c. search needs)  -- shared-slice-read-with-digit
+    (λ c κs. search needs)  -- with-digit-requires
+    (λ c. search needs)  -- returns-2
+    (λ c. search needs)  -- add-i
+    (λ c. search needs)  -- loop-less
+    (λ c. search needs)  -- loop-again
+    (λ c. search needs)  -- returns-3
+    )

@@ -1,0 +1,34 @@
+-- `vectors::fill::Filled::hex` meets its contract.
+-- Assumes nothing.
+use Rattle.vectors.proofs.fill.Filled.hex.Statement.{statement}
+use Rattle.vectors.proofs.fill.Filled.hex.Tie as tie
+use borrow.Author.Needs.{needs}
+use Prim.Native.Nat.{_-_}
+use mathlib.Core.Path.{_≡_}
+use lib.ListN.{length}
+
+abbrev Inv-loop : tie.InvT-loop
+Inv-loop field out₀ f₀ at₀ out f at = length out ≡ length out₀
+
+abbrev μ-loop : tie.MeasureT-loop
+μ-loop field out₀ f₀ at₀ out f at = length field - at
+
+pub hex-spec : {M : Type 1} → statement M
+hex-spec =
+    tie.close (tie.spec Inv-loop μ-loop
+    (λ c. search needs)  -- slice-aggregate-same
+    (λ c κs. search needs)  -- same-requires
+    (λ c. search needs)  -- returns
+    (λ c κs. search needs)  -- failed-requires
+    (λ c. search needs)  -- returns-2
+    (λ c. search needs)  -- loop-holds
+    (λ c κs. search needs)  -- two-digits-requires
+    (λ c κs. search needs)  -- failed-requires-2
+    (λ c. search needs)  -- same-length
+    (λ c. search needs)  -- returns-3
+    (λ c κs. search needs)  -- byte-requires
+    (λ c. search needs)  -- loop-less
+    (λ c. search needs)  -- loop-again
+    (λ c. search needs)  -- same-length-2
+    (λ c. search needs)  -- returns-4
+    )
