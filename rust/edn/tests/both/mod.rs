@@ -5,6 +5,7 @@
 use crate::model;
 use edn::sys;
 use std::fmt::Write;
+use std::time::Instant;
 
 #[derive(Clone, Debug)]
 pub enum Case {
@@ -110,7 +111,7 @@ pub fn same(case: Case) -> u8 {
 }
 
 fn shrink(mut case: Case) -> Case {
-    let mut tries = 0;
+    let started = Instant::now();
     loop {
         let mut smaller = None;
         'cut: for part in 0..2 {
@@ -118,13 +119,12 @@ fn shrink(mut case: Case) -> Case {
             let mut size = n;
             while size > 0 {
                 let mut at = 0;
-                while at + size <= n {
+                while at + size <= n && started.elapsed().as_secs() < 10 {
                     let mut c = case.clone();
                     bytes_of(&mut c, part).unwrap().drain(at..at + size);
                     if let Case::Correct { buffer, used, .. } = &mut c {
                         *used = (*used).min(buffer.len());
                     }
-                    tries += 1;
                     if differs(&c).is_some() {
                         smaller = Some(c);
                         break 'cut;
@@ -135,7 +135,7 @@ fn shrink(mut case: Case) -> Case {
             }
         }
         match smaller {
-            Some(c) if tries < 100_000 => case = c,
+            Some(c) if started.elapsed().as_secs() < 10 => case = c,
             _ => return case,
         }
     }
