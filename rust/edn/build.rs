@@ -35,7 +35,9 @@ fn build() -> PathBuf {
     }
     let made = match Command::new("rt").args(["staticlib", "edn_c"]).current_dir(&root).output() {
         Ok(made) => made,
-        Err(e) => panic!("`rt`, the Rattle toolchain, cannot be run ({e}); put it on the path, or set EDN_LIB_DIR to a folder with libedn_c.a"),
+        Err(e) => {
+            panic!("`rt`, the Rattle toolchain, cannot be run ({e}); put it on the path, or set EDN_LIB_DIR to a folder with libedn_c.a")
+        }
     };
     if !made.status.success() {
         panic!(

@@ -31,7 +31,11 @@ struct Left {
 }
 
 fn library(case: &Case) -> Left {
-    let (Case::Read { values, .. } | Case::Print { values, .. } | Case::LookUp { values, .. } | Case::Correct { values, .. } | Case::Check { values, .. }) = case;
+    let (Case::Read { values, .. }
+    | Case::Print { values, .. }
+    | Case::LookUp { values, .. }
+    | Case::Correct { values, .. }
+    | Case::Check { values, .. }) = case;
     let mut value = vec![MARK; *values];
     let (v, n) = (value.as_mut_ptr(), value.len());
     let mut b = Vec::new();
@@ -58,7 +62,11 @@ fn library(case: &Case) -> Left {
 }
 
 fn plain(case: &Case) -> Left {
-    let (Case::Read { values, .. } | Case::Print { values, .. } | Case::LookUp { values, .. } | Case::Correct { values, .. } | Case::Check { values, .. }) = case;
+    let (Case::Read { values, .. }
+    | Case::Print { values, .. }
+    | Case::LookUp { values, .. }
+    | Case::Correct { values, .. }
+    | Case::Check { values, .. }) = case;
     let mut value = vec![MARK; *values];
     let mut b = Vec::new();
     let answer: model::Answer<Vec<usize>> = match case {
@@ -161,8 +169,12 @@ pub fn literal(b: &[u8]) -> String {
 pub fn kept(case: &Case) -> String {
     let call = match case {
         Case::Read { text, room, values } => format!("Case::Read {{ text: {}.to_vec(), room: {room}, values: {values} }}", literal(text)),
-        Case::Print { bytes, room, values } => format!("Case::Print {{ bytes: {}.to_vec(), room: {room}, values: {values} }}", literal(bytes)),
-        Case::LookUp { bytes, path, values } => format!("Case::LookUp {{ bytes: {}.to_vec(), path: vec!{path:?}, values: {values} }}", literal(bytes)),
+        Case::Print { bytes, room, values } => {
+            format!("Case::Print {{ bytes: {}.to_vec(), room: {room}, values: {values} }}", literal(bytes))
+        }
+        Case::LookUp { bytes, path, values } => {
+            format!("Case::LookUp {{ bytes: {}.to_vec(), path: vec!{path:?}, values: {values} }}", literal(bytes))
+        }
         Case::Correct { buffer, used, path, text, values } => format!(
             "Case::Correct {{ buffer: {}.to_vec(), used: {used}, path: vec!{path:?}, text: {}.to_vec(), values: {values} }}",
             literal(buffer),
