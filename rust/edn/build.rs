@@ -16,9 +16,12 @@ fn main() {
     };
     // a copy, since `rt ci` removes what `rt` made
     let folder = PathBuf::from(env::var_os("OUT_DIR").unwrap());
-    if let Err(e) = std::fs::copy(&archive, folder.join("libedn_c.a")) {
+    let copy = folder.join("libedn_c.a");
+    if let Err(e) = std::fs::copy(&archive, &copy) {
         panic!("{} cannot be copied: {e}", archive.display());
     }
+    // for the test that builds the example in C
+    println!("cargo:rustc-env=EDN_C_ARCHIVE={}", copy.display());
     println!("cargo:rustc-link-search=native={}", folder.display());
     println!("cargo:rustc-link-lib=static=edn_c");
 }
@@ -32,7 +35,9 @@ fn build() -> PathBuf {
     }
     let made = match Command::new("rt").args(["staticlib", "edn_c"]).current_dir(&root).output() {
         Ok(made) => made,
-        Err(e) => panic!("`rt`, the Rattle toolchain, cannot be run ({e}); put it on the path, or set EDN_LIB_DIR to a folder with libedn_c.a"),
+        Err(e) => {
+            panic!("`rt`, the Rattle toolchain, cannot be run ({e}); put it on the path, or set EDN_LIB_DIR to a folder with libedn_c.a")
+        }
     };
     if !made.status.success() {
         panic!(

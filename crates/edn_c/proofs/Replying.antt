@@ -3,13 +3,17 @@
 use Prim.Native.Nat.{ℕ, zero, suc, _≤_, _<_}
 use native.Mathlib.Omega.{arith}
 use mathlib.Core.Path.{_≡_, refl, sym, ap, _∙_}
+use mathlib.Core.Bool.{Bool, true, false}
 use mathlib.Core.List.{List, [], _∷_}
+use lib.Dec.{eqb}
 use lib.ListN.{length, set}
 use Rattle.cbor.specs.Refusals.{Verdict, accepted, refused}
 use Rattle.cbor.specs.Items.{Items}
 use Rattle.cbor.specs.Paths.{Spot, start, end}
 use Rattle.cbor.specs.Answers.{kindNumber}
 use Rattle.cbor.specs.declared.refusal.Refusal.{Refusal}
+use Rattle.cbor.specs.declared.refusal.RefusalKind.{RefusalKind}
+use Rattle.cbor.specs.declared.refusal.RefusalKind.the-variants.{TooLong, NotUtf8, NoToken, UnknownWord, Dots, Float, OutOfRange, BadContent, BadIndicator, TooDeep, NotAllowed, MixedChunks, BadTypedArray, NoRoom, EndsInside, NotWellFormed, NoSuchPath}
 use Rattle.edn.specs.Operations.{Outcome}
 use Rattle.edn.specs.Outcomes.{outcomeOf}
 use Rattle.edn.specs.Answers.{checkTold, checkOf, locateTold, locateOf}
@@ -20,13 +24,38 @@ use Rattle.edn.specs.declared.look.Checked.the-variants.{Accepted, Refused as C
 use Rattle.edn.specs.declared.look.Part.{Part}
 use Rattle.edn.specs.declared.look.Located.{Located}
 use Rattle.edn.specs.declared.look.Located.the-variants.{Part as PartV, Refused as PartRefused}
-use Rattle.edn_c.specs.Replies.{code, lengthIn, spotIn, placeIn, answerOf}
+use Rattle.edn_c.specs.Replies.{code, succeeds, lengthIn, spotIn, placeIn, answerOf}
 
 -- past its end a list stays as it is
 pub set-past : (v : List ℕ) (i x : ℕ) → length v ≤ i → v ≡ set v i x
 set-past [] i x h = refl
 set-past (y ∷ v) zero x h = absurd (omega arith)
 set-past (y ∷ v) (suc i) x h = ap (λ w. y ∷ w) (set-past v i x (omega arith))
+
+-- no refusal has the number 0
+not-zero : (k : RefusalKind) → eqb (kindNumber k) 0 ≡ false
+unfolding kindNumber
+not-zero TooLong = refl
+not-zero NotUtf8 = refl
+not-zero NoToken = refl
+not-zero UnknownWord = refl
+not-zero Dots = refl
+not-zero Float = refl
+not-zero OutOfRange = refl
+not-zero BadContent = refl
+not-zero BadIndicator = refl
+not-zero TooDeep = refl
+not-zero NotAllowed = refl
+not-zero MixedChunks = refl
+not-zero BadTypedArray = refl
+not-zero NoRoom = refl
+not-zero EndsInside = refl
+not-zero NotWellFormed = refl
+not-zero NoSuchPath = refl
+
+-- a number that is a refusal's is not 0
+fails : {r : ℕ} (k : RefusalKind) → r ≡ kindNumber k → eqb r 0 ≡ false
+fails k s = rw s (not-zero k)
 
 -- AN ANSWER
 module _ {a : Answer} where
@@ -46,7 +75,15 @@ module _ {a : Answer} where
   unfolding lengthIn answerOf outcomeOf
   refused-value v e s = rw e s
 
-pub ruleset reply-ways = (done-number, done-value, refused-number, refused-value)
+  pub done-success : {n : ℕ} → a ≡ Written n → true ≡ succeeds (answerOf a)
+  unfolding succeeds answerOf outcomeOf
+  done-success e = rw e
+
+  pub refused-success : {x : Refusal} {r : ℕ} → a ≡ Refused x → r ≡ kindNumber (x .kind) → eqb r 0 ≡ succeeds (answerOf a)
+  unfolding succeeds answerOf outcomeOf
+  refused-success {x} e s = rw e (fails (x .kind) s)
+
+pub ruleset reply-ways = (done-number, done-value, done-success, refused-number, refused-value, refused-success)
 
 -- AN OPERATION WITH A BUFFER
 answer-of : (a : Answer) (b : List ℕ) → answerOf a ≡ (outcomeOf a b) .answer
@@ -63,13 +100,14 @@ module _ (a : Answer) (b : List ℕ) (o : Outcome ℕ) (h : outcomeOf a b ≡ o)
   pub whole-number : {r : ℕ} → r ≡ code (answerOf a) → r ≡ code (o .answer)
   whole-number s = s ∙ ap code (answer-of a b ∙ ap (λ p. p .answer) h)
 
+  pub whole-success : (r : ℕ) → eqb r 0 ≡ succeeds (answerOf a) → eqb r 0 ≡ succeeds (o .answer)
+  whole-success r s = s ∙ ap succeeds (answer-of a b ∙ ap (λ p. p .answer) h)
+
   pub whole-buffer : b ≡ o .buffer
   whole-buffer = buffer-of a b ∙ ap (λ p. p .buffer) h
 
   pub whole-value : (v : List ℕ) {v′ : List ℕ} → v′ ≡ lengthIn v (answerOf a) → v′ ≡ lengthIn v (o .answer)
   whole-value v s = s ∙ ap (lengthIn v) (answer-of a b ∙ ap (λ p. p .answer) h)
-
-pub ruleset whole-ways = (whole-number, whole-buffer, whole-value)
 
 -- LOOKING UP
 module _ {l : Located} where
@@ -103,7 +141,17 @@ module _ {l : Located} where
       let i : x .place ≡ q = cc in
       rw (s, i)
 
-pub ruleset look-ways = (part-number, part-value, lost-number, lost-value)
+  pub part-success : {p : Part} (w : Verdict Spot) → locateTold l ≡ locateOf w → l ≡ PartV p → true ≡ succeeds w
+  unfolding locateTold locateOf succeeds
+  part-success (accepted z) h e = refl
+  part-success {p} (refused n q) h e = let i : locateTold (PartV p) ≡ locateOf (refused n q) = rw e at h in let z : _≡_ {A = ℕ} 0 1 = cc in absurd (omega arith)
+
+  pub lost-success : {x : Refusal} {r : ℕ} (w : Verdict Spot) → locateTold l ≡ locateOf w → l ≡ PartRefused x → r ≡ kindNumber (x .kind) → eqb r 0 ≡ succeeds w
+  unfolding locateTold locateOf succeeds
+  lost-success {x} (accepted z) h e s = let i : locateTold (PartRefused x) ≡ locateOf (accepted z) = rw e at h in let z : _≡_ {A = ℕ} 0 1 = cc in absurd (omega arith)
+  lost-success {x} (refused n q) h e s = fails (x .kind) s
+
+pub ruleset look-ways = (part-number, part-value, part-success, lost-number, lost-value, lost-success)
 
 -- CHECKING
 module _ {c : Checked} where
@@ -133,4 +181,14 @@ module _ {c : Checked} where
       let i : x .place ≡ q = cc in
       rw (s, i)
 
-pub ruleset check-ways = (fine-number, fine-value, bad-number, bad-value)
+  pub fine-success : (w : Verdict Items) → checkTold c ≡ checkOf w → c ≡ Accepted → true ≡ succeeds w
+  unfolding checkTold checkOf succeeds
+  fine-success (accepted xs) h e = refl
+  fine-success (refused n q) h e = let i : checkTold Accepted ≡ checkOf (refused n q) = rw e at h in let z : _≡_ {A = ℕ} 0 1 = cc in absurd (omega arith)
+
+  pub bad-success : {x : Refusal} {r : ℕ} (w : Verdict Items) → checkTold c ≡ checkOf w → c ≡ CheckRefused x → r ≡ kindNumber (x .kind) → eqb r 0 ≡ succeeds w
+  unfolding checkTold checkOf succeeds
+  bad-success {x} (accepted xs) h e s = let i : checkTold (CheckRefused x) ≡ checkOf (accepted xs) = rw e at h in let z : _≡_ {A = ℕ} 0 1 = cc in absurd (omega arith)
+  bad-success {x} (refused n q) h e s = fails (x .kind) s
+
+pub ruleset check-ways = (fine-number, fine-value, fine-success, bad-number, bad-value, bad-success)

@@ -10,10 +10,11 @@ use edn::look::Located;
 use edn::print;
 use edn::read;
 ghost use mathlib.Core.Path.{_≡_};
+ghost use lib.Dec.{eqb};
 ghost use lib.ListN.{set};
 ghost use Rattle.cbor.specs.Answers.{kindNumber};
 ghost use Rattle.edn.specs.Operations.{read, print, correct, lookUp, itemsOf};
-ghost use Rattle.edn_c.specs.Replies.{code, lengthIn, spotIn, placeIn, answerOf};
+ghost use Rattle.edn_c.specs.Replies.{code, succeeds, lengthIn, spotIn, placeIn, answerOf};
 
 // Puts a number into a slice that reaches that far.
 fn put(value: &mut [u64], i: usize, x: u64)
@@ -36,6 +37,7 @@ fn refused(e: Refusal, value: &mut [u64]) -> u8
 
 fn reply(a: Answer, value: &mut [u64]) -> u8
     ensures { λ r. ⌜ r ≡ code (answerOf a) ⌝ }
+    ensures { λ r. ⌜ eqb r 0 ≡ succeeds (answerOf a) ⌝ }
     ensures { λ _. ⌜ now (value .exit) ≡ lengthIn (now (value .entry)) (answerOf a) ⌝ }
 {
     match a {
@@ -52,6 +54,7 @@ fn reply(a: Answer, value: &mut [u64]) -> u8
 #[no_mangle]
 pub extern "C" fn edn_read(text: &[u8], out: &mut [u8], value: &mut [u64]) -> u8
     ensures { λ r. ⌜ r ≡ code ((read (now (text .entry)) (now (out .entry))) .answer) ⌝ }
+    ensures { λ r. ⌜ eqb r 0 ≡ succeeds ((read (now (text .entry)) (now (out .entry))) .answer) ⌝ }
     ensures { λ _. ⌜ now (out .exit) ≡ (read (now (text .entry)) (now (out .entry))) .buffer ⌝ }
     ensures { λ _. ⌜ now (value .exit) ≡ lengthIn (now (value .entry)) ((read (now (text .entry)) (now (out .entry))) .answer) ⌝ }
 {
@@ -63,6 +66,7 @@ pub extern "C" fn edn_read(text: &[u8], out: &mut [u8], value: &mut [u64]) -> u8
 #[no_mangle]
 pub extern "C" fn edn_print(bytes: &[u8], out: &mut [u8], value: &mut [u64]) -> u8
     ensures { λ r. ⌜ r ≡ code ((print (now (bytes .entry)) (now (out .entry))) .answer) ⌝ }
+    ensures { λ r. ⌜ eqb r 0 ≡ succeeds ((print (now (bytes .entry)) (now (out .entry))) .answer) ⌝ }
     ensures { λ _. ⌜ now (out .exit) ≡ (print (now (bytes .entry)) (now (out .entry))) .buffer ⌝ }
     ensures { λ _. ⌜ now (value .exit) ≡ lengthIn (now (value .entry)) ((print (now (bytes .entry)) (now (out .entry))) .answer) ⌝ }
 {
@@ -81,6 +85,7 @@ pub extern "C" fn edn_correct(
     value: &mut [u64],
 ) -> u8
     ensures { λ r. ⌜ r ≡ code ((correct (now (buffer .entry)) used (now (path .entry)) (now (text .entry))) .answer) ⌝ }
+    ensures { λ r. ⌜ eqb r 0 ≡ succeeds ((correct (now (buffer .entry)) used (now (path .entry)) (now (text .entry))) .answer) ⌝ }
     ensures { λ _. ⌜ now (buffer .exit) ≡ (correct (now (buffer .entry)) used (now (path .entry)) (now (text .entry))) .buffer ⌝ }
     ensures { λ _. ⌜ now (value .exit) ≡ lengthIn (now (value .entry)) ((correct (now (buffer .entry)) used (now (path .entry)) (now (text .entry))) .answer) ⌝ }
 {
@@ -92,6 +97,7 @@ pub extern "C" fn edn_correct(
 #[no_mangle]
 pub extern "C" fn edn_look_up(bytes: &[u8], path: &[u16], value: &mut [u64]) -> u8
     ensures { λ r. ⌜ r ≡ code (lookUp (now (bytes .entry)) (now (path .entry))) ⌝ }
+    ensures { λ r. ⌜ eqb r 0 ≡ succeeds (lookUp (now (bytes .entry)) (now (path .entry))) ⌝ }
     ensures { λ _. ⌜ now (value .exit) ≡ spotIn (now (value .entry)) (lookUp (now (bytes .entry)) (now (path .entry))) ⌝ }
 {
     let found = look::locate(bytes, path);
@@ -111,6 +117,7 @@ pub extern "C" fn edn_look_up(bytes: &[u8], path: &[u16], value: &mut [u64]) -> 
 #[no_mangle]
 pub extern "C" fn edn_check(bytes: &[u8], value: &mut [u64]) -> u8
     ensures { λ r. ⌜ r ≡ code (itemsOf (now (bytes .entry))) ⌝ }
+    ensures { λ r. ⌜ eqb r 0 ≡ succeeds (itemsOf (now (bytes .entry))) ⌝ }
     ensures { λ _. ⌜ now (value .exit) ≡ placeIn (now (value .entry)) (itemsOf (now (bytes .entry))) ⌝ }
 {
     let checked = look::check(bytes);

@@ -26,7 +26,7 @@
 //! A *path* leads to an item: the number of a top item, counted from 0, then of an array's element or of the value of a map's pair, level
 //! by level. It enters nothing else: no key, no tag, no string.
 //!
-//! The functions use up to half a megabyte of stack: give a thread of your own no less.
+//! The functions use less than 128 kilobytes of stack.
 
 use std::fmt;
 use std::ops::Range;

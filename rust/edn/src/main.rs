@@ -119,7 +119,11 @@ fn run(args: &[OsString]) -> Done {
         return misused(&format!("'edn {command}' wants {}; {} is missing", names.join(" "), names[w.plain.len()]));
     }
     if w.plain.len() > names.len() {
-        return misused(&format!("'edn {command}' wants {} and no more: '{}' is extra (quote a text that has blanks)", names.join(" "), w.plain[names.len()].to_string_lossy()));
+        return misused(&format!(
+            "'edn {command}' wants {} and no more: '{}' is extra (quote a text that has blanks)",
+            names.join(" "),
+            w.plain[names.len()].to_string_lossy()
+        ));
     }
     let file = &w.plain[0];
     match command {

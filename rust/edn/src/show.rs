@@ -13,7 +13,15 @@ pub fn clean(s: &str) -> String {
 fn columns(c: char) -> usize {
     match c as u32 {
         0x300..=0x36f | 0x200b..=0x200f | 0xfe00..=0xfe0f => 0,
-        0x1100..=0x115f | 0x2e80..=0xa4cf | 0xac00..=0xd7a3 | 0xf900..=0xfaff | 0xfe30..=0xfe4f | 0xff00..=0xff60 | 0xffe0..=0xffe6 | 0x1f300..=0x1faff | 0x20000..=0x3fffd => 2,
+        0x1100..=0x115f
+        | 0x2e80..=0xa4cf
+        | 0xac00..=0xd7a3
+        | 0xf900..=0xfaff
+        | 0xfe30..=0xfe4f
+        | 0xff00..=0xff60
+        | 0xffe0..=0xffe6
+        | 0x1f300..=0x1faff
+        | 0x20000..=0x3fffd => 2,
         _ => 1,
     }
 }
@@ -81,11 +89,15 @@ fn hint(text: &[u8], e: &Error) -> Option<&'static str> {
     let c = at.utf8_chunks().next().and_then(|c| c.valid().chars().next());
     match (e.number(), c) {
         (3, Some('\u{feff}')) => Some("The file begins with a byte order mark; save it as UTF-8 without one."),
-        (3, Some('\u{201c}' | '\u{201d}' | '\u{201e}' | '\u{2018}' | '\u{2019}')) => Some("This is a curly quote; write the straight ones, \" and '."),
+        (3, Some('\u{201c}' | '\u{201d}' | '\u{201e}' | '\u{2018}' | '\u{2019}')) => {
+            Some("This is a curly quote; write the straight ones, \" and '.")
+        }
         (3, Some('\u{a0}')) => Some("This is a no-break space; write an ordinary one."),
         (3, Some('\u{2026}')) => Some("This character stands for three dots, \"left out here\"; write the data."),
         (3, Some('+')) => Some("Write the number without its plus sign."),
-        (3, Some('/' | '#')) => Some("The comment is not ended: one from / runs to the next /, one from # to the end of its line, which must be there."),
+        (3, Some('/' | '#')) => {
+            Some("The comment is not ended: one from / runs to the next /, one from # to the end of its line, which must be there.")
+        }
         (2, _) if text.starts_with(&[0xff, 0xfe]) || text.starts_with(&[0xfe, 0xff]) => Some("The file is UTF-16; save it as UTF-8."),
         _ => None,
     }
@@ -100,7 +112,14 @@ pub fn text_refusal(name: &str, text: &[u8], e: &Error) -> String {
     let place = if ended { text.iter().rposition(|&b| !matches!(b, 9 | 10 | 13 | 32)).map_or(0, |i| i + 1) } else { e.place() };
     let (line, column) = line_and_column(text, place);
     let end = if ended { ", where the text ends" } else { "" };
-    let mut s = format!("{name}:{line}:{column}: refused {} at {}{end}: {}\n{}\n  {}", e.number(), e.place(), e.name(), line_with_caret(text, place), e.meaning());
+    let mut s = format!(
+        "{name}:{line}:{column}: refused {} at {}{end}: {}\n{}\n  {}",
+        e.number(),
+        e.place(),
+        e.name(),
+        line_with_caret(text, place),
+        e.meaning()
+    );
     if let Some(h) = hint(text, e) {
         s.push_str("\n  ");
         s.push_str(h);
@@ -129,5 +148,12 @@ pub fn bytes_refusal(name: &str, bytes: &[u8], e: &Error) -> String {
 
 pub fn path_refusal(name: &str, path: &str, e: &Error) -> String {
     let caret: usize = path.split('/').take(e.place()).map(|step| step.len() + 1).sum();
-    format!("{name}: refused {} at step {} of the path: {}\n    {path}\n    {}^\n  {}", e.number(), e.place(), e.name(), " ".repeat(caret), e.meaning())
+    format!(
+        "{name}: refused {} at step {} of the path: {}\n    {path}\n    {}^\n  {}",
+        e.number(),
+        e.place(),
+        e.name(),
+        " ".repeat(caret),
+        e.meaning()
+    )
 }

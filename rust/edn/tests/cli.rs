@@ -39,7 +39,13 @@ impl Drop for Folder {
 }
 
 fn edn(args: &[&str], input: &[u8]) -> Output {
-    let mut child = Command::new(env!("CARGO_BIN_EXE_edn")).args(args).stdin(Stdio::piped()).stdout(Stdio::piped()).stderr(Stdio::piped()).spawn().unwrap();
+    let mut child = Command::new(env!("CARGO_BIN_EXE_edn"))
+        .args(args)
+        .stdin(Stdio::piped())
+        .stdout(Stdio::piped())
+        .stderr(Stdio::piped())
+        .spawn()
+        .unwrap();
     // a program that does not read its input may be gone already
     let _ = child.stdin.take().unwrap().write_all(input);
     child.wait_with_output().unwrap()
@@ -118,13 +124,16 @@ fn what_people_trip_over() {
     assert!(fails(&["print", "-"], b"[1, 2]", 1).contains("'edn read'"));
     assert!(fails(&["read", "-"], &[0x82, 0xf5, 0x02], 1).contains("'edn print'"));
     assert!(fails(&["correct", "-", "0", " 2"], &[1], 1).contains("no blank or comment"));
-    assert!(fails(&["correct", "-", "0/7", "2"], &[0x81, 1], 1).contains("refused 17 at step 1 of the path: no such path\n    0/7\n      ^"));
+    assert!(
+        fails(&["correct", "-", "0/7", "2"], &[0x81, 1], 1).contains("refused 17 at step 1 of the path: no such path\n    0/7\n      ^")
+    );
     assert!(fails(&["look", "-", "0/99999999999"], &[0x81, 1], 1).contains("refused 17 at step 1"));
     assert!(fails(&["look", "-", ""], &[0x81, 1], 1).contains("refused 17 at step 0"));
     assert!(fails(&["check", "-"], &[0x82, 0x01], 1).contains("refused 15 at 2: bytes cut off\n    82 01\n          ^^\n"));
     assert!(fails(&["read", "-"], &[b' '; 70_000], 1).contains("refused 1 at 0: too long"));
 }
 
+#[rustfmt::skip]
 #[test]
 fn bad_usage() {
     for args in [
@@ -192,7 +201,13 @@ fn a_file_is_replaced_whole() {
 fn a_broken_pipe_is_no_failure() {
     let mut sheet = vec![0x01; 20_000];
     sheet.push(0x02);
-    let mut child = Command::new(env!("CARGO_BIN_EXE_edn")).args(["print", "-"]).stdin(Stdio::piped()).stdout(Stdio::piped()).stderr(Stdio::piped()).spawn().unwrap();
+    let mut child = Command::new(env!("CARGO_BIN_EXE_edn"))
+        .args(["print", "-"])
+        .stdin(Stdio::piped())
+        .stdout(Stdio::piped())
+        .stderr(Stdio::piped())
+        .spawn()
+        .unwrap();
     drop(child.stdout.take());
     child.stdin.take().unwrap().write_all(&sheet).unwrap();
     let o = child.wait_with_output().unwrap();

@@ -105,7 +105,7 @@ fn sheets_200_000() {
         }
         tally.0[read(&mut rng, text) as usize] += 1;
     }
-    tally.met(&[0, 2, 3, 4, 5, 6, 7, 8, 9, 10, 11, 12, 13, 14], 50);
+    tally.met(&[0, 2, 3, 4, 5, 6, 7, 8, 9, 10, 11, 12, 13, 14], 20);
 }
 
 #[test]
@@ -140,7 +140,7 @@ fn corrections_200_000() {
         let bytes = gen::bytes(&mut rng, i % 8 > 0, 200);
         tally.0[correct(&mut rng, bytes) as usize] += 1;
     }
-    tally.met(&[0, 1, 2, 3, 4, 5, 6, 7, 8, 9, 10, 11, 12, 13, 14, 15, 16, 17], 100);
+    tally.met(&[0, 1, 2, 3, 4, 5, 6, 7, 8, 9, 10, 11, 12, 13, 14, 15, 16, 17], 50);
 }
 
 /// Every text of one or two bytes, and every bytes of one, two or three: all of them, not a sample.

@@ -80,6 +80,7 @@ fn document() {
     both("65((_ h'01', h'02'))", "d8415f41014102ff");
 }
 
+#[rustfmt::skip]
 #[test]
 fn rulings_on_tokens() {
     for (text, number, place) in [
@@ -102,6 +103,7 @@ fn rulings_on_tokens() {
     reads("\"\u{7f}\"", "617f");
 }
 
+#[rustfmt::skip]
 #[test]
 fn rulings_on_refusals() {
     for (text, number, place) in [
@@ -124,6 +126,7 @@ fn rulings_on_refusals() {
     bad(&"81".repeat(17), 10, 16);
 }
 
+#[rustfmt::skip]
 #[test]
 fn rulings_on_corrections() {
     let sheet = hex("820102");
@@ -167,6 +170,7 @@ fn too_long() {
     assert_eq!(edn::check(&vec![0; 65_535]), Ok(()));
 }
 
+#[rustfmt::skip]
 #[test]
 fn rfc_8949_appendix_a() {
     for (text, bytes) in [

@@ -5,6 +5,7 @@
 use crate::model;
 use edn::sys;
 use std::fmt::Write;
+use std::time::Instant;
 
 #[derive(Clone, Debug)]
 pub enum Case {
@@ -30,7 +31,11 @@ struct Left {
 }
 
 fn library(case: &Case) -> Left {
-    let (Case::Read { values, .. } | Case::Print { values, .. } | Case::LookUp { values, .. } | Case::Correct { values, .. } | Case::Check { values, .. }) = case;
+    let (Case::Read { values, .. }
+    | Case::Print { values, .. }
+    | Case::LookUp { values, .. }
+    | Case::Correct { values, .. }
+    | Case::Check { values, .. }) = case;
     let mut value = vec![MARK; *values];
     let (v, n) = (value.as_mut_ptr(), value.len());
     let mut b = Vec::new();
@@ -57,7 +62,11 @@ fn library(case: &Case) -> Left {
 }
 
 fn plain(case: &Case) -> Left {
-    let (Case::Read { values, .. } | Case::Print { values, .. } | Case::LookUp { values, .. } | Case::Correct { values, .. } | Case::Check { values, .. }) = case;
+    let (Case::Read { values, .. }
+    | Case::Print { values, .. }
+    | Case::LookUp { values, .. }
+    | Case::Correct { values, .. }
+    | Case::Check { values, .. }) = case;
     let mut value = vec![MARK; *values];
     let mut b = Vec::new();
     let answer: model::Answer<Vec<usize>> = match case {
@@ -110,7 +119,7 @@ pub fn same(case: Case) -> u8 {
 }
 
 fn shrink(mut case: Case) -> Case {
-    let mut tries = 0;
+    let started = Instant::now();
     loop {
         let mut smaller = None;
         'cut: for part in 0..2 {
@@ -118,13 +127,12 @@ fn shrink(mut case: Case) -> Case {
             let mut size = n;
             while size > 0 {
                 let mut at = 0;
-                while at + size <= n {
+                while at + size <= n && started.elapsed().as_secs() < 10 {
                     let mut c = case.clone();
                     bytes_of(&mut c, part).unwrap().drain(at..at + size);
                     if let Case::Correct { buffer, used, .. } = &mut c {
                         *used = (*used).min(buffer.len());
                     }
-                    tries += 1;
                     if differs(&c).is_some() {
                         smaller = Some(c);
                         break 'cut;
@@ -135,7 +143,7 @@ fn shrink(mut case: Case) -> Case {
             }
         }
         match smaller {
-            Some(c) if tries < 100_000 => case = c,
+            Some(c) if started.elapsed().as_secs() < 10 => case = c,
             _ => return case,
         }
     }
@@ -161,8 +169,12 @@ pub fn literal(b: &[u8]) -> String {
 pub fn kept(case: &Case) -> String {
     let call = match case {
         Case::Read { text, room, values } => format!("Case::Read {{ text: {}.to_vec(), room: {room}, values: {values} }}", literal(text)),
-        Case::Print { bytes, room, values } => format!("Case::Print {{ bytes: {}.to_vec(), room: {room}, values: {values} }}", literal(bytes)),
-        Case::LookUp { bytes, path, values } => format!("Case::LookUp {{ bytes: {}.to_vec(), path: vec!{path:?}, values: {values} }}", literal(bytes)),
+        Case::Print { bytes, room, values } => {
+            format!("Case::Print {{ bytes: {}.to_vec(), room: {room}, values: {values} }}", literal(bytes))
+        }
+        Case::LookUp { bytes, path, values } => {
+            format!("Case::LookUp {{ bytes: {}.to_vec(), path: vec!{path:?}, values: {values} }}", literal(bytes))
+        }
         Case::Correct { buffer, used, path, text, values } => format!(
             "Case::Correct {{ buffer: {}.to_vec(), used: {used}, path: vec!{path:?}, text: {}.to_vec(), values: {values} }}",
             literal(buffer),

@@ -4,8 +4,10 @@
 pub struct Rng(u64);
 
 impl Rng {
+    /// The same inputs in each run; EDN_SEED, a number, gives others.
     pub fn new(seed: u64) -> Self {
-        Rng(seed)
+        let more: u64 = std::env::var("EDN_SEED").ok().and_then(|s| s.parse().ok()).unwrap_or(0);
+        Rng(seed.wrapping_add(more.wrapping_mul(1_000_003)))
     }
 
     pub fn next(&mut self) -> u64 {
@@ -51,6 +53,7 @@ impl Rng {
 }
 
 /// Pieces that tokens are made of, whole and broken.
+#[rustfmt::skip]
 pub const PIECES: &[&str] = &[
     "[", "]", "{", "}", "(", ")", ",", ":", "<<", ">>", "<", ">", "(_", "(_ ", "[_", "{_", "_", "__", "_i", "_0", "_1", "_2", "_3", "_4", "_x", "0", "1",
     "23", "24", "255", "256", "65535", "65536", "4294967295", "4294967296", "18446744073709551615", "18446744073709551616", "-", "-1", "-0", "-24",
@@ -129,6 +132,7 @@ impl Text<'_> {
         self.say(q);
         for _ in 0..self.rng.length() {
             let other = if q == "'" { "\"" } else { "'" };
+            #[rustfmt::skip]
             let s = self.rng.pick(&[
                 "a", "b", "Z", "0", " ", "\\\\", "\\/", "\\b", "\\f", "\\n", "\\r", "\\t", "\\u0000", "\\u00Fc", "\\u6c34", "\\ud83d\\ude00", "ü", "水", "\u{1f600}",
                 "\u{7f}", "/", "#", other,
@@ -429,7 +433,9 @@ pub fn item_text(rng: &mut Rng, clean: bool, levels: usize) -> Vec<u8> {
 
 /// Pieces of tokens in any order, or in the places of a frame.
 pub fn soup(rng: &mut Rng) -> Vec<u8> {
+    #[rustfmt::skip]
     const FRAMES: &[&str] = &["$,$", "[$,$]", "[_ $]", "[_i$ ]", "{$:$}", "{_ $:$,$:$}", "(_ $,$)", "(_ $,$,$)", "(_$)", "<<$,$>>$", "<<$>>$", "65($)", "$($)", "[[$],$]", "$ $", "$$", "[$$]"];
+    #[rustfmt::skip]
     const GOOD: &[&str] = &["1", "-24", "0xff", "24_0", "\"a\"", "'a'", "h'0102'", "b64'AQI'", "''_", "\"\"_", "true", "simple(32)", "[]", "{}", "[_ ]", "<<1>>", "1(2)", "65(h'0102')", "(_ 'a')"];
     let mut out = Vec::new();
     let frame = if rng.once(4) { "$$$$$$" } else { rng.pick(FRAMES) };
@@ -478,7 +484,10 @@ pub fn damage(rng: &mut Rng, s: &mut Vec<u8>, textual: bool) {
             }
             _ => {
                 if at < s.len() {
-                    s[at] = *rng.pick(&[&0xff, &0x00, &0x1f, &0x5f, &0x7f, &0x9f, &0xbf, &0xf8, &0xf9, &0x1c, &0xdf, &0x80, &0xc2, &b'\'', &b'"', &b'/', &b',']);
+                    s[at] = *rng.pick(&[
+                        &0xff, &0x00, &0x1f, &0x5f, &0x7f, &0x9f, &0xbf, &0xf8, &0xf9, &0x1c, &0xdf, &0x80, &0xc2, &b'\'', &b'"', &b'/',
+                        &b',',
+                    ]);
                 }
             }
         }
@@ -518,7 +527,8 @@ impl Bytes<'_> {
     fn string(&mut self, major: u8, n: usize) {
         self.head(major, n as u64);
         for _ in 0..n {
-            let b = if major == 3 { *self.rng.pick(&[&b'a', &b'"', &b'\\', &0x00, &0x1f, &0x7f, &b' ', &b'z']) } else { self.rng.next() as u8 };
+            let b =
+                if major == 3 { *self.rng.pick(&[&b'a', &b'"', &b'\\', &0x00, &0x1f, &0x7f, &b' ', &b'z']) } else { self.rng.next() as u8 };
             self.out.push(b);
         }
         if major == 3 && n >= 4 && self.rng.once(2) {
@@ -555,6 +565,7 @@ impl Bytes<'_> {
             }
             7 => {
                 if !self.clean && self.rng.once(6) {
+                    #[rustfmt::skip]
                     let bad: &[u8] = self.rng.pick(&[
                         &[0xf9, 0, 0][..], &[0xfa, 1, 2, 3, 4], &[0xfb, 0, 0, 0, 0, 0, 0, 0, 0], &[0xf8, 0x18], &[0xff], &[0x1c], &[0x1f], &[0x3f], &[0xdf], &[0xfc],
                         &[0x9b, 0xff, 0xff, 0xff, 0xff, 0xff, 0xff, 0xff, 0xff], &[0xbb, 0x80, 0, 0, 0, 0, 0, 0, 0], &[0x5b, 0xff, 0xff, 0xff, 0xff, 0xff, 0xff, 0xff, 0xff],
@@ -715,7 +726,8 @@ pub fn long_text(rng: &mut Rng) -> Vec<u8> {
     out.extend_from_slice(&open);
     if rng.once(5) {
         // one long string instead of many items
-        let (o, fill, c) = [("\"", "x", "\""), ("'", "\\n", "'"), ("h'", "0f", "'"), ("b64'", "AAAA", "'"), ("/", "c", "/ 1")][rng.below(5)];
+        let (o, fill, c) =
+            [("\"", "x", "\""), ("'", "\\n", "'"), ("h'", "0f", "'"), ("b64'", "AAAA", "'"), ("/", "c", "/ 1")][rng.below(5)];
         out.extend_from_slice(o.as_bytes());
         while out.len() + close.len() + fill.len() + c.len() <= want {
             out.extend_from_slice(fill.as_bytes());
