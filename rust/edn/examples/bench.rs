@@ -1,7 +1,7 @@
 //! How fast the library is beside the plain model of the tests, in one run: `cargo run --release --example bench`.
 //!
-//! For each operation and kind of sheet: the library's time over the model's near 60,000 bytes, and the library's time near 60,000 bytes over
-//! its time near 1,000 (60 is growth in step with the size). Times are the least of many rounds, the two taken in turn.
+//! For each operation and kind of sheet: the library's time over the model's near 60,000 bytes, and the library's time for a byte near 60,000
+//! bytes over that near 1,000 (1 is growth in step with the size). Times are the least of many rounds, the two taken in turn.
 #[path = "../tests/model/mod.rs"]
 mod model;
 
@@ -13,7 +13,7 @@ fn times(mut a: impl FnMut(), mut b: impl FnMut()) -> (f64, f64) {
     let mut least = [f64::MAX; 2];
     let started = Instant::now();
     let mut rounds = 0;
-    while rounds < 10 || started.elapsed() < Duration::from_millis(400) {
+    while rounds < 10 || started.elapsed() < Duration::from_millis(800) {
         for (i, f) in [&mut a as &mut dyn FnMut(), &mut b].into_iter().enumerate() {
             let t = Instant::now();
             f();
@@ -52,14 +52,14 @@ fn main() {
     if cfg!(debug_assertions) {
         eprintln!("a debug build says nothing: cargo run --release --example bench");
     }
-    println!("| operation | sheet | library / model near 60,000 bytes | library, 60,000 / 1,000 bytes |");
+    println!("| operation | sheet | library / model near 60,000 bytes | library's time for a byte, near 60,000 / near 1,000 |");
     println!("|--|--|--|--|");
     for operation in ["read", "print", "look up", "correct", "check"] {
         for kind in ["flat", "nested", "deep <<", "strings", "refused"] {
-            let at = |size| measure(operation, kind, size);
-            let (library, plain) = at(60_000);
-            let (small, _) = at(1_000);
-            println!("| {operation} | {kind} | {:.2} | {:.0} |", library / plain, library / small);
+            let (library, plain) = measure(operation, kind, 60_000);
+            let (small, _) = measure(operation, kind, 1_000);
+            let longer = text(kind, 60_000).len() as f64 / text(kind, 1_000).len() as f64;
+            println!("| {operation} | {kind} | {:.2} | {:.2} |", library / plain, library / small / longer);
         }
     }
 }

@@ -152,7 +152,7 @@ fn read(file: &OsStr, out: Option<&OsStr>) -> Done {
 }
 
 fn print(file: &OsStr, out: Option<&OsStr>) -> Done {
-    let bytes = input(file)?;
+    let bytes = sheet(file)?;
     match edn::print(&bytes) {
         Ok(text) => match out {
             None => output(text.as_bytes()),
@@ -164,7 +164,7 @@ fn print(file: &OsStr, out: Option<&OsStr>) -> Done {
 
 fn look(file: &OsStr, path: &OsStr) -> Done {
     let steps = steps(path)?;
-    let bytes = input(file)?;
+    let bytes = sheet(file)?;
     let part = match edn::look_up(&bytes, &steps) {
         Ok(part) => part,
         Err(e) if e.counted() == Place::Step => return bad_path(file, path, &e),
@@ -178,7 +178,7 @@ fn look(file: &OsStr, path: &OsStr) -> Done {
 
 fn correct(file: &OsStr, path: &OsStr, text: &OsStr, out: Option<&OsStr>) -> Done {
     let steps = steps(path)?;
-    let bytes = input(file)?;
+    let bytes = sheet(file)?;
     match edn::correct(&bytes, &steps, text.as_bytes()) {
         Ok(new) => match out {
             Some(out) => write(out, &new),
@@ -199,7 +199,7 @@ fn correct(file: &OsStr, path: &OsStr, text: &OsStr, out: Option<&OsStr>) -> Don
 }
 
 fn check(file: &OsStr) -> Done {
-    let bytes = input(file)?;
+    let bytes = sheet(file)?;
     match edn::check(&bytes) {
         Ok(()) if bytes.is_empty() => output(format!("{}: a sheet of no items (it is empty)\n", name(file)).as_bytes()),
         Ok(()) => output(format!("{}: a sheet, {} bytes\n", name(file), bytes.len()).as_bytes()),
@@ -277,6 +277,15 @@ fn input(file: &OsStr) -> Result<Vec<u8>, Stop> {
         Ok(_) => Ok(bytes),
         Err(e) => trouble(&format!("{} cannot be read: {}", name(file), why(&e))),
     }
+}
+
+/// What a file of bytes holds. A text of digits and commas alone would pass for one.
+fn sheet(file: &OsStr) -> Result<Vec<u8>, Stop> {
+    let bytes = input(file)?;
+    if !bytes.is_empty() && show::looks_like_text(&bytes) && edn::check(&bytes).is_ok() && edn::read(&bytes).is_ok() {
+        say(&format!("edn: {} could be text as well; it is taken for bytes ('edn read' makes bytes of text)", name(file)));
+    }
+    Ok(bytes)
 }
 
 fn output(bytes: &[u8]) -> Done {

@@ -123,6 +123,8 @@ fn what_people_trip_over() {
     assert!(fails(&["read", "-"], &[0xff, 0xfe, b'1', 0], 1).contains("UTF-16"));
     assert!(fails(&["print", "-"], b"[1, 2]", 1).contains("'edn read'"));
     assert!(fails(&["read", "-"], &[0x82, 0xf5, 0x02], 1).contains("'edn print'"));
+    let o = edn(&["print", "-"], b"1, 2\n");
+    assert!(o.status.success() && String::from_utf8(o.stderr).unwrap().contains("could be text as well"));
     assert!(fails(&["correct", "-", "0", " 2"], &[1], 1).contains("no blank or comment"));
     assert!(
         fails(&["correct", "-", "0/7", "2"], &[0x81, 1], 1).contains("refused 17 at step 1 of the path: no such path\n    0/7\n      ^")
