@@ -1,11 +1,35 @@
 // Compares what came out with what a row says.
-use crate::cut;
+use crate::cut::find;
+use crate::cut::part;
 use cbor::refusal;
 use cbor::refusal::Refusal;
 use edn::answer::Answer;
+ghost use mathlib.Core.Path.{_≡_};
+ghost use lib.ListN.{length};
 
-// What stands in a lent buffer before a call.
-pub const LENT: u8 = 0xee;
+// What a call answered: 0 and how many bytes were written, or the number of a refusal and its place.
+pub struct Outcome {
+    pub number: u64,
+    pub at: u64,
+}
+
+pub fn told_refusal(e: Refusal) -> Outcome {
+    let kind = e.kind;
+    Outcome {
+        number: refusal::number(kind) as u64,
+        at: e.place as u64,
+    }
+}
+
+pub fn told(a: Answer) -> Outcome {
+    match a {
+        Answer::Refused(e) => told_refusal(e),
+        Answer::Written(n) => Outcome {
+            number: 0,
+            at: n as u64,
+        },
+    }
+}
 
 pub fn same(a: &[u8], b: &[u8]) -> bool {
     if a.len() != b.len() {
@@ -21,11 +45,20 @@ pub fn same(a: &[u8], b: &[u8]) -> bool {
     true
 }
 
-// Whether every byte is one byte.
-pub fn all(s: &[u8], v: u8) -> bool {
-    let mut i: usize = 0;
+// What stands in a buffer that is lent, before a call.
+const LENT: u8 = 0xee;
+
+pub fn lent() -> [u8; 65536]
+    ensures { λ r. ⌜ 65536 ≡ length r ⌝ }
+{
+    [LENT; 65536]
+}
+
+// Whether a buffer is as it was lent, from a place on.
+fn untouched(s: &[u8], from: usize) -> bool {
+    let mut i = from;
     while i < s.len() {
-        if s[i] != v {
+        if s[i] != LENT {
             return false;
         }
         i += 1;
@@ -33,55 +66,36 @@ pub fn all(s: &[u8], v: u8) -> bool {
     true
 }
 
-// Whether bytes stand at the front of a buffer, which behind them is as it was lent.
-pub fn holds(out: &[u8], bytes: &[u8]) -> bool {
+// Whether bytes were written to the front of a buffer, which behind them is as it was lent.
+pub fn wrote(t: Outcome, out: &[u8], bytes: &[u8]) -> bool {
     let n = bytes.len();
-    if same(cut::part(out, 0, n), bytes) {
-        return all(cut::part(out, n, out.len()), LENT);
-    }
-    false
+    t.number == 0 && t.at == n as u64 && same(part(out, 0, n), bytes) && untouched(out, n)
+}
+
+// Whether a number is that of a field, in decimal.
+pub fn equals(n: u64, field: &[u8]) -> bool {
+    let mut text = [0u8; 20];
+    let k = io::decimal(n, &mut text);
+    same(&text[..k], field)
+}
+
+// Whether two numbers, with a byte between them, are a field.
+pub fn equal(a: u64, b: u64, between: u8, field: &[u8]) -> bool {
+    let at = find(field, 0, between);
+    equals(a, part(field, 0, at)) && equals(b, part(field, at + 1, field.len()))
 }
 
 // Whether a field is a refusal, `!C@P`.
 pub fn is_refusal(field: &[u8]) -> bool {
-    if field.len() == 0 {
-        return false;
-    }
-    field[0] == b'!'
+    0 < field.len() && field[0] == b'!'
 }
 
-// Whether a refusal is that of a field.
-pub fn refused(e: Refusal, field: &[u8]) -> bool {
-    if !is_refusal(field) {
-        return false;
-    }
-    let p = cut::two_numbers(field, 1, b'@');
-    let kind = e.kind;
-    if p.good {
-        if p.first == refusal::number(kind) as u64 {
-            return p.second == e.place as u64;
-        }
-    }
-    false
+// Whether a call was refused as a field says.
+pub fn refused(t: Outcome, field: &[u8]) -> bool {
+    is_refusal(field) && equal(t.number, t.at, b'@', part(field, 1, field.len()))
 }
 
-// Whether an answer is the refusal of a field, and the buffer that was lent for it is as it was.
-pub fn denied(a: Answer, out: &[u8], field: &[u8]) -> bool {
-    match a {
-        Answer::Written(_n) => false,
-        Answer::Refused(e) => {
-            if refused(e, field) {
-                return all(out, LENT);
-            }
-            false
-        }
-    }
-}
-
-// Whether an answer is that a result of so many bytes was written.
-pub fn wrote(a: Answer, n: usize) -> bool {
-    match a {
-        Answer::Written(m) => m == n,
-        Answer::Refused(_e) => false,
-    }
+// Whether it was, and the buffer that was lent is as it was.
+pub fn denied(t: Outcome, field: &[u8], out: &[u8]) -> bool {
+    refused(t, field) && untouched(out, 0)
 }

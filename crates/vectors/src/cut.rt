@@ -1,6 +1,9 @@
-// Cuts a line into its fields, and reads the numbers that stand in them.
+// Cuts a line into its fields, and reads the numbers in them.
 ghost use Prim.Native.Nat.{_≤_};
 ghost use lib.ListN.{length};
+
+// What a field that cannot be read comes to; more than any number or size of a row.
+pub const FAILED: usize = 1000000;
 
 // The first place from `from` on where a byte stands, or the length.
 pub fn find(s: &[u8], from: usize, byte: u8) -> usize
@@ -27,7 +30,7 @@ pub fn part(s: &[u8], from: usize, to: usize) -> &[u8] {
     &s[0..0]
 }
 
-// The steps from one place up to another.
+// The first steps of a path.
 pub fn steps(s: &[u16], to: usize) -> &[u16] {
     if to <= s.len() {
         return &s[0..to];
@@ -52,19 +55,20 @@ fn start_of(line: &[u8], k: usize) -> usize
     at
 }
 
-// The field number k; empty where there is none, and then no value that is right.
+// The field number k; empty where there is none, and then nothing that can be read.
 pub fn field(line: &[u8], k: usize) -> &[u8] {
     let start = start_of(line, k);
-    let end = find(line, start, b'\t');
-    part(line, start, end)
+    part(line, start, find(line, start, b'\t'))
 }
 
-// How many fields a line has.
-pub fn fields(line: &[u8]) -> usize {
+// How many pieces a byte cuts bytes into.
+pub fn pieces(s: &[u8], byte: u8) -> usize
+    ensures { λ r. ⌜ 1 ≤ r ⌝ }
+{
     let mut n: usize = 1;
     let mut at: usize = 0;
-    while at < line.len() {
-        if line[at] == b'\t' {
+    while at < s.len() {
+        if s[at] == byte {
             n += 1;
         }
         at += 1;
@@ -72,81 +76,45 @@ pub fn fields(line: &[u8]) -> usize {
     n
 }
 
-pub struct Decimal {
-    pub good: bool,
-    pub value: u64,
+// A word with one more letter, and a word: its letters as one number, which tells those of up to seven letters apart.
+fn with_letter(v: u64, b: u8) -> u64 {
+    if v < 72057594037927936 {
+        return v * 256 + b as u64;
+    }
+    v
 }
 
-fn no_decimal() -> Decimal {
-    Decimal {
-        good: false,
-        value: 0,
+pub fn word(s: &[u8]) -> u64 {
+    let mut v: u64 = 0;
+    let mut i: usize = 0;
+    while i < s.len() {
+        v = with_letter(v, s[i]);
+        i += 1;
     }
+    v
 }
 
 // A number with one more decimal digit.
-fn with_digit(v: u64, b: u8) -> Decimal {
-    if b < b'0' {
-        return no_decimal();
-    }
-    if b'9' < b {
-        return no_decimal();
-    }
-    if 1844674407370955161 < v {
-        return no_decimal();
-    }
-    let d = (b - b'0') as u64;
-    if 18446744073709551615 - v * 10 < d {
-        return no_decimal();
-    }
-    Decimal {
-        good: true,
-        value: v * 10 + d,
-    }
-}
-
-// A decimal number of 64 bits.
-pub fn number(field: &[u8]) -> Decimal {
-    if field.len() == 0 {
-        return no_decimal();
-    }
-    let mut v: u64 = 0;
-    let mut i: usize = 0;
-    while i < field.len() {
-        let n = with_digit(v, field[i]);
-        if !n.good {
-            return n;
-        }
-        v = n.value;
-        i += 1;
-    }
-    Decimal {
-        good: true,
-        value: v,
-    }
-}
-
-pub struct Pair {
-    pub good: bool,
-    pub first: u64,
-    pub second: u64,
-}
-
-// Two numbers with a byte between them, from a place on.
-pub fn two_numbers(field: &[u8], from: usize, between: u8) -> Pair {
-    if field.len() < from {
-        return Pair {
-            good: false,
-            first: 0,
-            second: 0,
+fn with_digit(v: usize, b: u8) -> usize {
+    if v < 99999 {
+        return match b {
+            b'0'..=b'9' => v * 10 + (b - b'0') as usize,
+            _ => FAILED,
         };
     }
-    let at = find(field, from, between);
-    let first = number(part(field, from, at));
-    let second = number(part(field, at + 1, field.len()));
-    Pair {
-        good: first.good && second.good,
-        first: first.value,
-        second: second.value,
+    FAILED
+}
+
+// A decimal number.
+pub fn number(s: &[u8]) -> usize {
+    if s.len() == 0 {
+        return FAILED;
     }
+    let mut v: usize = 0;
+    let mut i: usize = 0;
+    while i < s.len() {
+        v = with_digit(v, s[i]);
+        i += 1;
+    }
+    v
 }

@@ -1,22 +1,20 @@
-// Fills a buffer from the fields of a row: bytes in hexadecimal, texts, the steps of a path.
+// Fills a buffer from the fields of a row: bytes and texts, and the steps of a path. Each function is given how much is filled, and
+// answers how much is filled then; where a field cannot be read, or has no room, that is FAILED, and stays so.
 use crate::compare::same;
+use crate::cut::FAILED;
+use crate::cut::field;
 use crate::cut::find;
 use crate::cut::number;
 use crate::cut::part;
 ghost use Prim.Native.Nat.{_≤_, _<_};
 ghost use lib.ListN.{length};
 
-// How much of a buffer is filled, and whether all went well so far.
-pub struct Filled {
-    pub good: bool,
-    pub size: usize,
-}
-
-// A byte that was read, and where the next begins.
-struct Step {
-    good: bool,
-    value: u8,
-    next: usize,
+pub fn put(v: u8, n: usize, out: &mut [u8]) -> usize {
+    if n < out.len() {
+        out[n] = v;
+        return n + 1;
+    }
+    FAILED
 }
 
 // The value of a digit; 16 where it is none.
@@ -24,172 +22,157 @@ fn digit(b: u8) -> u8
     ensures { λ r. ⌜ r ≤ 16 ⌝ }
 {
     match b {
-        0x30..=0x39 => b - 0x30,
-        0x61..=0x66 => b - 0x57,
+        b'0'..=b'9' => b - b'0',
+        b'a'..=b'f' => b - b'a' + 10,
         _ => 16,
     }
 }
 
-// Two digits at a place.
-fn two_digits(s: &[u8], at: usize) -> Step
+// The byte of two digits.
+fn pair(a: u8, b: u8, n: usize, out: &mut [u8]) -> usize {
+    let high = digit(a);
+    let low = digit(b);
+    if high < 16 {
+        if low < 16 {
+            return put(high * 16 + low, n, out);
+        }
+    }
+    FAILED
+}
+
+// The bytes of digits, at least two of them.
+fn digits(s: &[u8], n: usize, out: &mut [u8]) -> usize {
+    let mut size = n;
+    let mut at: usize = 0;
+    while at < s.len() {
+        if s.len() - at == 1 {
+            return FAILED;
+        }
+        size = pair(s[at], s[at + 1], size, out);
+        at += 2;
+    }
+    if at == 0 { FAILED } else { size }
+}
+
+// The same, some times.
+fn repeated(s: &[u8], times: usize, n: usize, out: &mut [u8]) -> usize {
+    let mut size = n;
+    let mut left = times;
+    while 0 < left {
+        size = digits(s, size, out);
+        left -= 1;
+    }
+    size
+}
+
+// Two digits; or `x`, digits, `*`, a number and `.`.
+fn piece(s: &[u8], n: usize, out: &mut [u8]) -> usize {
+    if s.len() == 2 {
+        return digits(s, n, out);
+    }
+    let star = find(s, 0, b'*');
+    let times = number(part(s, star + 1, find(s, star, b'.')));
+    if times < FAILED {
+        return repeated(part(s, 1, star), times, n, out);
+    }
+    FAILED
+}
+
+// Where the piece at a place ends, if it is one.
+fn piece_end(s: &[u8], at: usize) -> usize
     requires { ⌜ at ≤ length (now s) ⌝ }
-    ensures { λ r. ⌜ at < r .next ⌝ }
+    ensures { λ r. ⌜ at < r ⌝ }
 {
-    let next = at + 2;
-    if next <= s.len() {
-        let high = digit(s[at]);
-        let low = digit(s[at + 1]);
-        if high < 16 {
-            if low < 16 {
-                return Step {
-                    good: true,
-                    value: high * 16 + low,
-                    next,
-                };
-            }
+    if at < s.len() {
+        if s[at] == b'x' {
+            return find(s, at, b'.') + 1;
         }
     }
-    Step {
-        good: false,
-        value: 0,
-        next,
-    }
+    at + 2
 }
 
-// A byte of a text: itself, or two digits behind `~`.
-fn letter(s: &[u8], at: usize) -> Step
+// Where the next element of a field begins.
+fn next(text: bool, s: &[u8], at: usize) -> usize
     requires { ⌜ at < length (now s) ⌝ }
-    ensures { λ r. ⌜ at < r .next ⌝ }
+    ensures { λ r. ⌜ at < r ⌝ }
 {
-    let b = s[at];
-    if b == b'~' {
-        return two_digits(s, at + 1);
+    if !text {
+        return piece_end(s, at);
     }
-    Step {
-        good: true,
-        value: b,
-        next: at + 1,
+    if s[at] == b'~' {
+        return piece_end(s, at + 1);
     }
+    at + 1
 }
 
-impl Filled {
-    pub fn none() -> Filled {
-        Filled {
-            good: true,
-            size: 0,
+// One element: a piece, in a text behind `~`; any other byte of a text stands for itself.
+fn element(text: bool, s: &[u8], n: usize, out: &mut [u8]) -> usize {
+    if !text {
+        return piece(s, n, out);
+    }
+    if s.len() == 1 {
+        return put(s[0], n, out);
+    }
+    piece(part(s, 1, s.len()), n, out)
+}
+
+fn elements(text: bool, s: &[u8], n: usize, out: &mut [u8]) -> usize {
+    let mut size = n;
+    let mut at: usize = 0;
+    while at < s.len() {
+        let end = next(text, s, at);
+        size = element(text, part(s, at, end), size, out);
+        at = end;
+    }
+    size
+}
+
+// The bytes of a field, which is a text or in hexadecimal. No bytes are `~` there and `-` here.
+pub fn fill(text: bool, s: &[u8], n: usize, out: &mut [u8]) -> usize {
+    if s.len() == 0 {
+        return FAILED;
+    }
+    if s.len() == 1 {
+        if s[0] == none(text) {
+            return n;
         }
     }
+    elements(text, s, n, out)
+}
 
-    pub fn failed() -> Filled {
-        Filled {
-            good: false,
-            size: 0,
+// The bytes of the field number k of a line.
+pub fn fill_field(text: bool, line: &[u8], k: usize, n: usize, out: &mut [u8]) -> usize {
+    fill(text, field(line, k), n, out)
+}
+
+fn none(text: bool) -> u8 {
+    if text { b'~' } else { b'-' }
+}
+
+// One step more.
+fn step(v: usize, n: usize, out: &mut [u16]) -> usize {
+    if n < out.len() {
+        if v <= 65535 {
+            out[n] = v as u16;
+            return n + 1;
         }
     }
+    FAILED
+}
 
-    // One byte more.
-    pub fn byte(self, out: &mut [u8], v: u8) -> Filled {
-        let at = self.size;
-        if self.good {
-            if at < out.len() {
-                out[at] = v;
-                return Filled {
-                    good: true,
-                    size: at + 1,
-                };
-            }
-        }
-        Filled::failed()
+// The steps of a path, with dots between; `-` is none.
+pub fn path(s: &[u8], out: &mut [u16]) -> usize {
+    if same(s, b"-") {
+        return 0;
     }
-
-    // One step more.
-    fn step(self, out: &mut [u16], v: u64) -> Filled {
-        let at = self.size;
-        if self.good {
-            if at < out.len() {
-                if v <= 65535 {
-                    out[at] = v as u16;
-                    return Filled {
-                        good: true,
-                        size: at + 1,
-                    };
-                }
-            }
+    let mut n: usize = 0;
+    let mut at: usize = 0;
+    loop {
+        let end = find(s, at, b'.');
+        n = step(number(part(s, at, end)), n, out);
+        if s.len() <= end {
+            return n;
         }
-        Filled::failed()
-    }
-
-    // The bytes of a field in hexadecimal; `-` is none.
-    pub fn hex(self, field: &[u8], out: &mut [u8]) -> Filled {
-        if same(field, b"-") {
-            return self;
-        }
-        if field.len() == 0 {
-            return Filled::failed();
-        }
-        let mut f = self;
-        let mut at: usize = 0;
-        while at < field.len() {
-            let s = two_digits(field, at);
-            if !s.good {
-                return Filled::failed();
-            }
-            f = f.byte(out, s.value);
-            at = s.next;
-        }
-        f
-    }
-
-    // The bytes of a text; `~` alone is the empty one.
-    pub fn text(self, field: &[u8], out: &mut [u8]) -> Filled {
-        if same(field, b"~") {
-            return self;
-        }
-        if field.len() == 0 {
-            return Filled::failed();
-        }
-        let mut f = self;
-        let mut at: usize = 0;
-        while at < field.len() {
-            let s = letter(field, at);
-            if !s.good {
-                return Filled::failed();
-            }
-            f = f.byte(out, s.value);
-            at = s.next;
-        }
-        f
-    }
-
-    // A text, some times.
-    pub fn times(self, n: usize, field: &[u8], out: &mut [u8]) -> Filled {
-        let mut f = self;
-        let mut left = n;
-        while 0 < left {
-            f = f.text(field, out);
-            left -= 1;
-        }
-        f
-    }
-
-    // The steps of a path, with dots between; `-` is none.
-    pub fn path(self, field: &[u8], out: &mut [u16]) -> Filled {
-        if same(field, b"-") {
-            return self;
-        }
-        let mut f = self;
-        let mut at: usize = 0;
-        loop {
-            let end = find(field, at, b'.');
-            let n = number(part(field, at, end));
-            if !n.good {
-                return Filled::failed();
-            }
-            f = f.step(out, n.value);
-            if field.len() <= end {
-                return f;
-            }
-            at = end + 1;
-        }
+        at = end + 1;
     }
 }

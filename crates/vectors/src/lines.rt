@@ -1,126 +1,109 @@
 // Goes through the lines: comments, groups and rows.
 use crate::cut::find;
 use crate::cut::part;
+use crate::cut::pieces;
 use crate::run::run;
-use crate::tally::Tally;
-use crate::tally::sum;
+ghost use Prim.Native.Nat.{_≤_};
 
-// How far the run is: the number of the line, the line that began the group, as a part of the text and empty before the first
-// group, and the counts.
-struct Run {
-    line: u64,
-    from: usize,
-    to: usize,
-    group: Tally,
-    all: Tally,
+// How many rows were right, how many wrong, and where they end.
+struct Counts {
+    right: u64,
+    wrong: u64,
+    end: usize,
 }
 
-// Whether a line is empty or begins with `//`.
-fn is_comment(line: &[u8]) -> bool {
-    if line.len() == 0 {
-        return true;
+// Counts stop at a million.
+fn sum(a: u64, b: u64) -> u64 {
+    if a < 1000000 {
+        if b < 1000000 {
+            return a + b;
+        }
     }
-    if line.len() == 1 {
-        return false;
-    }
-    line[0] == b'/' && line[1] == b'/'
+    1000000
 }
 
-// Whether a line begins a group.
-fn is_group(line: &[u8]) -> bool {
-    if line.len() < 2 {
-        return false;
-    }
-    line[0] == b'=' && line[1] == b' '
+fn one_if(a: u8, b: u8) -> u64 {
+    if a == b { 1 } else { 0 }
 }
 
-fn say_wrong(line: u64) {
+// A line: what the group is, and its counts.
+fn show(name: &[u8], right: u64, wrong: u64) {
+    io::write_all(1, name);
+    io::write_all(1, b": ");
+    io::print_decimal(1, right);
+    io::write_all(1, b" right, ");
+    io::print_decimal(1, wrong);
+    io::write_all(1, b" wrong\n");
+}
+
+fn say_wrong(number: usize) {
     io::write_all(1, b"line ");
-    io::print_decimal(1, line);
+    io::print_decimal(1, number as u64);
     io::write_all(1, b": wrong\n");
 }
 
-impl Run {
-    fn new() -> Run {
-        Run {
-            line: 0,
-            from: 0,
-            to: 0,
-            group: Tally::none(),
-            all: Tally::none(),
-        }
+// What a line is: 0 a comment, 1 a row that is right, 2 one that is wrong, 3 the first line of a group.
+fn kind_of(line: &[u8]) -> u8 {
+    if line.len() == 0 {
+        return 0;
     }
-
-    // The group is over. Rows before the first one have no line of their own.
-    fn closed(self, text: &[u8]) -> Tally {
-        let group = self.group;
-        let all = self.all;
-        let name = part(text, self.from, self.to);
-        if 2 < name.len() {
-            group.show(part(name, 2, name.len()));
+    let b = line[0];
+    match b {
+        b'/' => 0,
+        b'=' => 3,
+        _ => {
+            if run(line) {
+                return 1;
+            }
+            2
         }
-        all.plus(group)
-    }
-
-    // The line from one place up to another begins a group.
-    fn begun(self, text: &[u8], from: usize, to: usize) -> Run {
-        Run {
-            line: self.line,
-            from,
-            to,
-            group: Tally::none(),
-            all: self.closed(text),
-        }
-    }
-
-    fn counted(self, right: bool) -> Run {
-        let group = self.group;
-        let all = self.all;
-        if !right {
-            say_wrong(self.line);
-        }
-        Run {
-            line: self.line,
-            from: self.from,
-            to: self.to,
-            group: group.count(right),
-            all,
-        }
-    }
-
-    fn next(self) -> Run {
-        let group = self.group;
-        let all = self.all;
-        Run {
-            line: sum(self.line, 1),
-            from: self.from,
-            to: self.to,
-            group,
-            all,
-        }
-    }
-
-    fn step(self, text: &[u8], from: usize, to: usize) -> Run {
-        let line = part(text, from, to);
-        let here = self.next();
-        if is_comment(line) {
-            return here;
-        }
-        if is_group(line) {
-            return here.begun(text, from, to);
-        }
-        here.counted(run(line))
     }
 }
 
-// The counts of all rows.
-pub fn run_all(text: &[u8]) -> Tally {
-    let mut r = Run::new();
-    let mut at: usize = 0;
+// The rows from a place on, up to the next group.
+fn rows(text: &[u8], from: usize) -> Counts
+    ensures { λ r. ⌜ from ≤ r .end ⌝ }
+{
+    let mut right: u64 = 0;
+    let mut wrong: u64 = 0;
+    let mut at = from;
     while at < text.len() {
         let end = find(text, at, b'\n');
-        r = r.step(text, at, end);
+        let kind = kind_of(part(text, at, end));
+        if kind == 3 {
+            return Counts {
+                right,
+                wrong,
+                end: at,
+            };
+        }
+        if kind == 2 {
+            say_wrong(pieces(part(text, 0, at), b'\n'));
+        }
+        right = sum(right, one_if(kind, 1));
+        wrong = sum(wrong, one_if(kind, 2));
         at = end + 1;
     }
-    r.closed(text)
+    Counts {
+        right,
+        wrong,
+        end: at,
+    }
+}
+
+// All rows. Those before the first group are counted in the last line alone.
+pub fn run_all(text: &[u8]) {
+    let before = rows(text, 0);
+    let mut right = before.right;
+    let mut wrong = before.wrong;
+    let mut at = before.end;
+    while at < text.len() {
+        let end = find(text, at, b'\n');
+        let group = rows(text, end + 1);
+        show(part(text, at + 2, end), group.right, group.wrong);
+        right = sum(right, group.right);
+        wrong = sum(wrong, group.wrong);
+        at = group.end;
+    }
+    show(b"all", right, wrong);
 }

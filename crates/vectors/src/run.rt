@@ -1,19 +1,25 @@
 // Runs one row, and says whether it came out right.
-use crate::compare::LENT;
+use crate::compare::Outcome;
 use crate::compare::denied;
-use crate::compare::holds;
+use crate::compare::equal;
+use crate::compare::equals;
 use crate::compare::is_refusal;
+use crate::compare::lent;
 use crate::compare::refused;
 use crate::compare::same;
+use crate::compare::told;
+use crate::compare::told_refusal;
 use crate::compare::wrote;
+use crate::correct::with_path;
+use crate::cut::FAILED;
 use crate::cut::field;
-use crate::cut::fields;
 use crate::cut::number;
 use crate::cut::part;
+use crate::cut::pieces;
 use crate::cut::steps;
-use crate::cut::two_numbers;
-use crate::fill::Filled;
-use edn::answer::Answer;
+use crate::cut::word;
+use crate::fill::fill;
+use crate::fill::path;
 use edn::look;
 use edn::look::Checked;
 use edn::look::ItemAt;
@@ -22,243 +28,174 @@ use edn::look::Scanned;
 use edn::print::print;
 use edn::read::read;
 
-// Whether an answer and the buffer that was lent for it are right: the bytes that `want` was filled with, or else the refusal of a
-// field.
-fn answered(a: Answer, out: &[u8], f: Filled, want: &[u8], expected: &[u8]) -> bool {
-    if f.good {
-        if wrote(a, f.size) {
-            return holds(out, part(want, 0, f.size));
-        }
+// A text is read, or bytes are printed.
+pub fn ask(printing: bool, input: &[u8], out: &mut [u8]) -> Outcome {
+    if printing {
+        return told(print(input, out));
     }
-    denied(a, out, expected)
+    told(read(input, out))
 }
 
 // A buffer that is one byte too short for a result of n bytes is refused.
-fn short_read(text: &[u8], n: usize, out: &mut [u8]) -> bool {
+fn short(printing: bool, input: &[u8], n: usize, out: &mut [u8]) -> bool {
     if n == 0 {
         return true;
     }
     if out.len() < n {
         return false;
     }
-    let a = read(text, &mut out[0..n - 1]);
-    denied(a, out, b"!14@0")
+    denied(ask(printing, input, &mut out[0..n - 1]), b"!14@0", out)
 }
 
-fn reads(text: &[u8], expected: &[u8]) -> bool {
-    let mut out = [LENT; 1024];
-    let a = read(text, &mut out);
-    let mut want = [0u8; 1024];
-    let f = Filled::none().hex(expected, &mut want);
-    if answered(a, &out, f, &want, expected) {
-        return short_read(text, f.size, &mut [LENT; 1024]);
-    }
-    false
+// The result is some bytes.
+pub fn gives(printing: bool, input: &[u8], want: &[u8]) -> bool {
+    let mut out = lent();
+    wrote(ask(printing, input, &mut out), &out, want)
 }
 
-fn row_read(line: &[u8]) -> bool {
-    let mut text = [0u8; 1024];
-    let t = Filled::none().text(field(line, 1), &mut text);
-    if t.good {
-        return reads(part(&text, 0, t.size), field(line, 2));
-    }
-    false
+fn refuses(printing: bool, input: &[u8], expected: &[u8]) -> bool {
+    let mut out = lent();
+    denied(ask(printing, input, &mut out), expected, &out)
 }
 
-fn short_print(bytes: &[u8], n: usize, out: &mut [u8]) -> bool {
-    if n == 0 {
-        return true;
+// The result is what a field says.
+fn asks(printing: bool, input: &[u8], expected: &[u8]) -> bool {
+    if is_refusal(expected) {
+        return refuses(printing, input, expected);
     }
-    if out.len() < n {
-        return false;
-    }
-    let a = print(bytes, &mut out[0..n - 1]);
-    denied(a, out, b"!14@0")
+    let mut want = io::large_buffer();
+    let n = fill(printing, expected, 0, &mut want);
+    n < FAILED
+        && gives(printing, input, part(&want, 0, n))
+        && short(printing, input, n, &mut lent())
 }
 
-// The text of a field, unless it is a refusal.
-fn expected_text(field: &[u8], out: &mut [u8]) -> Filled {
-    if is_refusal(field) {
-        return Filled::failed();
-    }
-    Filled::none().text(field, out)
+// Bytes are printed, and that text is read.
+fn goes_back(bytes: &[u8]) -> bool {
+    let mut text = lent();
+    let t = ask(true, bytes, &mut text);
+    t.number == 0 && gives(false, part(&text, 0, t.at as usize), bytes)
 }
 
-fn prints(bytes: &[u8], expected: &[u8]) -> bool {
-    let mut out = [LENT; 1024];
-    let a = print(bytes, &mut out);
-    let mut want = [0u8; 1024];
-    let f = expected_text(expected, &mut want);
-    if answered(a, &out, f, &want, expected) {
-        return short_print(bytes, f.size, &mut [LENT; 1024]);
-    }
-    false
-}
-
-fn row_print(line: &[u8]) -> bool {
-    let mut bytes = [0u8; 1024];
-    let b = Filled::none().hex(field(line, 1), &mut bytes);
-    if b.good {
-        return prints(part(&bytes, 0, b.size), field(line, 2));
-    }
-    false
-}
-
-fn row_back(line: &[u8]) -> bool {
-    let mut bytes = [0u8; 1024];
-    let b = Filled::none().hex(field(line, 1), &mut bytes);
-    if !b.good {
-        return false;
-    }
-    let mut text = [LENT; 1024];
-    let p = print(part(&bytes, 0, b.size), &mut text);
-    match p {
-        Answer::Refused(_e) => false,
-        Answer::Written(n) => {
-            let mut out = [LENT; 1024];
-            let a = read(part(&text, 0, n), &mut out);
-            answered(a, &out, b, &bytes, b"")
-        }
-    }
-}
-
-fn row_check(line: &[u8]) -> bool {
-    let mut bytes = [0u8; 1024];
-    let b = Filled::none().hex(field(line, 1), &mut bytes);
-    if !b.good {
-        return false;
-    }
-    let c = look::check(part(&bytes, 0, b.size));
+fn checks(bytes: &[u8], expected: &[u8]) -> bool {
+    let c = look::check(bytes);
     match c {
-        Checked::Accepted => same(field(line, 2), b"ok"),
-        Checked::Refused(e) => refused(e, field(line, 2)),
+        Checked::Accepted => same(expected, b"ok"),
+        Checked::Refused(e) => refused(told_refusal(e), expected),
     }
 }
 
-// The part that `locate` gives, and what `look_up` returns.
-fn located(bytes: &[u8], path: &[u16], expected: &[u8]) -> bool {
+// Whether a part starts and ends as a field says, and is what `look_up` returned.
+fn is_part(bytes: &[u8], start: usize, end: usize, found: &[u8], expected: &[u8]) -> bool {
+    equal(start as u64, end as u64, b'-', expected) && same(found, part(bytes, start, end))
+}
+
+fn looks(bytes: &[u8], path: &[u16], expected: &[u8]) -> bool {
     let found = look::look_up(bytes, path);
     let l = look::locate(bytes, path);
     match l {
-        Located::Refused(e) => {
-            if found.len() == 0 {
-                return refused(e, expected);
-            }
-            false
-        }
-        Located::Part(p) => {
-            let start = p.start;
-            let end = p.end;
-            let w = two_numbers(expected, 0, b'-');
-            if w.good {
-                if w.first == start as u64 {
-                    if w.second == end as u64 {
-                        return same(found, part(bytes, start, end));
-                    }
-                }
-            }
-            false
-        }
+        Located::Part(p) => is_part(bytes, p.start, p.end, found, expected),
+        Located::Refused(e) => found.len() == 0 && refused(told_refusal(e), expected),
     }
 }
 
-fn row_look(line: &[u8]) -> bool {
-    let mut bytes = [0u8; 1024];
-    let b = Filled::none().hex(field(line, 1), &mut bytes);
-    let mut path = [0u16; 64];
-    let p = Filled::none().path(field(line, 2), &mut path);
-    if b.good {
-        if p.good {
-            return located(
-                part(&bytes, 0, b.size),
-                steps(&path, p.size),
-                field(line, 3),
-            );
-        }
-    }
-    false
+fn row_look(line: &[u8], bytes: &[u8], expected: &[u8]) -> bool {
+    let mut space = [0u16; 64];
+    let n = path(field(line, 2), &mut space);
+    n < FAILED && looks(bytes, steps(&space, n), expected)
 }
 
-// Whether a number is that of a field.
-fn equals(n: u64, field: &[u8]) -> bool {
-    let w = number(field);
-    if w.good {
-        return w.value == n;
-    }
-    false
+fn is_item(i: ItemAt, line: &[u8]) -> bool {
+    equals(i.major as u64, field(line, 3))
+        && equals(i.info as u64, field(line, 4))
+        && equals(i.argument, field(line, 5))
+        && equals(i.content as u64, field(line, 6))
+        && equals(i.end as u64, field(line, 7))
 }
 
-fn as_scanned(i: ItemAt, line: &[u8]) -> bool {
-    if fields(line) != 8 {
-        return false;
-    }
-    if equals(i.major as u64, field(line, 3)) {
-        if equals(i.info as u64, field(line, 4)) {
-            if equals(i.argument, field(line, 5)) {
-                if equals(i.content as u64, field(line, 6)) {
-                    return equals(i.end as u64, field(line, 7));
-                }
-            }
-        }
-    }
-    false
-}
-
-fn scans(line: &[u8], bytes: &[u8], at: usize) -> bool {
+fn scans(line: &[u8], bytes: &[u8], at: usize, expected: &[u8]) -> bool {
     let s = look::scan(bytes, at);
     match s {
-        Scanned::Item(i) => as_scanned(i, line),
-        Scanned::Refused(e) => {
-            if fields(line) == 4 {
-                return refused(e, field(line, 3));
-            }
-            false
-        }
+        Scanned::Item(i) => is_item(i, line),
+        Scanned::Refused(e) => refused(told_refusal(e), expected),
     }
 }
 
-fn row_scan(line: &[u8]) -> bool {
-    let mut bytes = [0u8; 1024];
-    let b = Filled::none().hex(field(line, 1), &mut bytes);
+fn row_scan(line: &[u8], bytes: &[u8], expected: &[u8]) -> bool {
     let at = number(field(line, 2));
-    if b.good {
-        if at.good {
-            return scans(line, part(&bytes, 0, b.size), at.value as usize);
-        }
-    }
-    false
+    at < FAILED && scans(line, bytes, at, expected)
 }
 
-// A row with the right number of fields.
-fn run_of(line: &[u8], kind: &[u8], n: usize) -> bool {
-    if n == 2 {
-        if same(kind, b"back") {
-            return row_back(line);
+// The kinds of rows, as `word` has them.
+const READ: u64 = 0x72656164;
+
+const PRINT: u64 = 0x7072696e74;
+
+const BACK: u64 = 0x6261636b;
+
+const CHECK: u64 = 0x636865636b;
+
+const LOOK: u64 = 0x6c6f6f6b;
+
+const SCAN: u64 = 0x7363616e;
+
+const CORRECT: u64 = 0x636f7272656374;
+
+const EDIT: u64 = 0x65646974;
+
+// How many fields a row has; one that is refused may have fewer.
+fn width(kind: u64, refused: bool) -> usize {
+    match kind {
+        BACK => 2,
+        READ => 3,
+        PRINT => 3,
+        CHECK => 3,
+        LOOK => 4,
+        SCAN => {
+            if refused {
+                return 4;
+            }
+            8
         }
+        CORRECT => {
+            if refused {
+                return 6;
+            }
+            7
+        }
+        EDIT => 7,
+        _ => 0,
     }
-    if n == 3 {
-        if same(kind, b"read") {
-            return row_read(line);
-        }
-        if same(kind, b"print") {
-            return row_print(line);
-        }
-        if same(kind, b"check") {
-            return row_check(line);
-        }
+}
+
+// A row whose first field gave the input. The last says what is expected.
+fn run_of(kind: u64, line: &[u8], input: &[u8], expected: &[u8]) -> bool {
+    match kind {
+        BACK => goes_back(input),
+        READ => asks(false, input, expected),
+        PRINT => asks(true, input, expected),
+        CHECK => checks(input, expected),
+        LOOK => row_look(line, input, expected),
+        SCAN => row_scan(line, input, expected),
+        CORRECT => with_path(line, false, field(line, 3), field(line, 4)),
+        _ => with_path(line, true, field(line, 4), field(line, 5)),
     }
-    if n == 4 {
-        if same(kind, b"look") {
-            return row_look(line);
-        }
-    }
-    if same(kind, b"scan") {
-        return row_scan(line);
-    }
-    false
+}
+
+fn takes_text(kind: u64) -> bool {
+    kind == READ || kind == EDIT
+}
+
+fn run_row(kind: u64, line: &[u8], expected: &[u8]) -> bool {
+    let mut input = io::large_buffer();
+    let n = fill(takes_text(kind), field(line, 1), 0, &mut input);
+    n < FAILED && run_of(kind, line, part(&input, 0, n), expected)
 }
 
 // A row that no kind has is wrong.
 pub fn run(line: &[u8]) -> bool {
-    run_of(line, field(line, 0), fields(line))
+    let kind = word(field(line, 0));
+    let n = pieces(line, b'\t');
+    let expected = field(line, n - 1);
+    n == width(kind, is_refusal(expected)) && run_row(kind, line, expected)
 }

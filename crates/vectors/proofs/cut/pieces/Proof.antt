@@ -1,7 +1,7 @@
--- `vectors::cut::fields` meets its contract.
+-- `vectors::cut::pieces` meets its contract.
 -- Assumes nothing.
-use Rattle.vectors.proofs.cut.fields.Statement.{statement}
-use Rattle.vectors.proofs.cut.fields.Tie as tie
+use Rattle.vectors.proofs.cut.pieces.Statement.{statement}
+use Rattle.vectors.proofs.cut.pieces.Tie as tie
 use borrow.Author.Needs.{needs}
 use Prim.Native.Nat.{_+_, _-_, _≤_}
 use native.Mathlib.Omega.{arith}
@@ -9,13 +9,13 @@ use mathlib.Core.Logic.{⊎-elim}
 use lib.ListN.{length}
 
 abbrev Inv-loop : tie.InvT-loop
-Inv-loop line n₀ at₀ n at = (at ≤ length line) × (n ≤ at + 1)
+Inv-loop s byte n₀ at₀ n at = (at ≤ length s) × ((1 ≤ n) × (n ≤ at + 1))
 
 abbrev μ-loop : tie.MeasureT-loop
-μ-loop line n₀ at₀ n at = length line - at
+μ-loop s byte n₀ at₀ n at = length s - at
 
-pub fields-spec : {M : Type 1} → statement M
-fields-spec =
+pub pieces-spec : {M : Type 1} → statement M
+pieces-spec =
     tie.close (tie.spec Inv-loop μ-loop
     (λ c. search needs)  -- loop-holds
     (λ c. search needs)  -- shared-slice-read-if1

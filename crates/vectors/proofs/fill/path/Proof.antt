@@ -1,17 +1,17 @@
--- `vectors::fill::Filled::path` meets its contract.
+-- `vectors::fill::path` meets its contract.
 -- Assumes nothing.
-use Rattle.vectors.proofs.fill.Filled.path.Statement.{statement}
-use Rattle.vectors.proofs.fill.Filled.path.Tie as tie
+use Rattle.vectors.proofs.fill.path.Statement.{statement}
+use Rattle.vectors.proofs.fill.path.Tie as tie
 use borrow.Author.Needs.{needs}
 use Prim.Native.Nat.{_+_, _-_, _≤_}
 use mathlib.Core.Path.{_≡_}
 use lib.ListN.{length}
 
 abbrev Inv-loop : tie.InvT-loop
-Inv-loop field out₀ f₀ at₀ out f at = (at ≤ length field) × (length out ≡ length out₀)
+Inv-loop s out₀ n₀ at₀ out n at = (at ≤ length s) × (length out ≡ length out₀)
 
 abbrev μ-loop : tie.MeasureT-loop
-μ-loop field out₀ f₀ at₀ out f at = length field + 1 - at
+μ-loop s out₀ n₀ at₀ out n at = length s + 1 - at
 
 pub path-spec : {M : Type 1} → statement M
 path-spec =
@@ -23,12 +23,9 @@ path-spec =
     (λ c κs. search needs)  -- find-requires
     (λ c κs. search needs)  -- part-requires
     (λ c κs. search needs)  -- number-requires
-    (λ c κs. search needs)  -- failed-requires
+    (λ c κs. search needs)  -- step-requires
     (λ c. search needs)  -- same-length
     (λ c. search needs)  -- returns-2
-    (λ c κs. search needs)  -- step-requires
-    (λ c. search needs)  -- same-length-2
-    (λ c. search needs)  -- returns-3
     (λ c. search needs)  -- add-at
     (λ c. search needs)  -- loop-less
     (λ c. search needs)  -- loop-again

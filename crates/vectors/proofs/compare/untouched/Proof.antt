@@ -1,19 +1,19 @@
--- `vectors::compare::all` meets its contract.
+-- `vectors::compare::untouched` meets its contract.
 -- Assumes nothing.
-use Rattle.vectors.proofs.compare.all.Statement.{statement}
-use Rattle.vectors.proofs.compare.all.Tie as tie
+use Rattle.vectors.proofs.compare.untouched.Statement.{statement}
+use Rattle.vectors.proofs.compare.untouched.Tie as tie
 use borrow.Author.Needs.{needs}
-use Prim.Native.Nat.{_-_, _≤_}
+use Prim.Native.Nat.{_-_}
 use lib.ListN.{length}
 
 abbrev Inv-loop : tie.InvT-loop
-Inv-loop s v i₀ i = i ≤ length s
+Inv-loop s from i₀ i = Unit {0}
 
 abbrev μ-loop : tie.MeasureT-loop
-μ-loop s v i₀ i = length s - i
+μ-loop s from i₀ i = length s - i
 
-pub all-spec : {M : Type 1} → statement M
-all-spec =
+pub untouched-spec : {M : Type 1} → statement M
+untouched-spec =
     tie.close (tie.spec Inv-loop μ-loop
     (λ c. search needs)  -- loop-holds
     (λ c. search needs)  -- shared-slice-read-if1
