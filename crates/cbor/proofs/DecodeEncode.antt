@@ -7,14 +7,14 @@ use mathlib.Core.List.{List, [], _∷_, _++_, append-assoc, append-nil}
 use lib.Dec.{leb, eqb}
 use lib.ListN.{length, length-append}
 use borrow.Author.Tests.{eq-eqb, le-leb, lt-leb, leb-true, leb-false}
-use Rattle.cbor.specs.Refusals.{Result, ok, refuse, bind, tooDeep}
-use Rattle.cbor.specs.Widths.{Width, w0, w1, w2, w4, w8, limit, fits, shortest, information}
+use Rattle.cbor.specs.Refusals.{ok, refuse, bind, tooDeep}
+use Rattle.cbor.specs.Widths.{Width, w0, w1, limit, fits, shortest, information}
 use Rattle.cbor.specs.Items.{Sign, unsigned, negative, Kind, byteString, textString, Size, definite, indefinite, Chunk, Item, int, string, chunked, array, map, tag, simple, Items, none, more, Pairs, none₂, more₂, count, count₂, levels, levelsAll, levelsAll₂}
-use Rattle.cbor.specs.Heads.{Major, integers, strings, arrays, maps, tags, simples, majorNumber, initial, head, Head, isFloat, isAllowed, isIndefinite, taking, nextHead, break}
+use Rattle.cbor.specs.Heads.{Major, integers, strings, arrays, maps, tags, simples, majorNumber, initial, head, Head, isFloat, isAllowed, isIndefinite, nextHead}
 use Rattle.cbor.specs.Encode.{encodeString, opening, closing, enclosed, encodeChunks, encode, encodeAll, encodeAll₂}
 use Rattle.cbor.specs.TypedArrays.{mayTag}
-use Rattle.cbor.specs.Valid.{Bytes, isText, ValidString, ValidChunks, Fits, isSimple, Valid, ValidAll, ValidAll₂}
-use Rattle.cbor.specs.Decode.{Until, counted, broken, ended, several, content, chunkBy, chunk, Entry, entry, extent, tagged, elements, pair, entries, chunks, Enter, itemBy, itemWith, item, decode, mostBytes, mostLevels}
+use Rattle.cbor.specs.Valid.{isText, ValidString, ValidChunks, Fits, isSimple, Valid, ValidAll, ValidAll₂}
+use Rattle.cbor.specs.Decode.{broken, ended, several, content, chunkBy, chunk, entry, extent, tagged, elements, pair, entries, chunks, Enter, itemBy, itemWith, item, decode, mostBytes, mostLevels}
 use Rattle.cbor.specs.Theorems.{ItemOfEncode, DecodeOfEncode}
 use Rattle.cbor.proofs.Heads.{major-most, information-most, head-read, opening-read, taking-all}
 use Rattle.cbor.proofs.Several.{tailOf, Meets, Begins, begins-more, Reads, reads-nil, reads-cons, reads-all}

@@ -9,15 +9,15 @@ use lib.ListN.{length, length-append}
 use borrow.Author.Tests.{eqb-true, le-leb, lt-leb, leb-true, leb-false}
 use Rattle.cbor.specs.Refusals.{Result, ok, refuse, bind, tooLong, notUtf8, badTypedArray, notWellFormed}
 use Rattle.cbor.specs.Widths.{Width, w0, w1, w2, w4, w8, limit, shortest}
-use Rattle.cbor.specs.Items.{Sign, Kind, Size, definite, indefinite, Chunk, Item, int, string, chunked, array, map, tag, simple, Items, none, more, Pairs, none₂, more₂, count, count₂, levels, levelsAll, levelsAll₂}
-use Rattle.cbor.specs.Heads.{Major, integers, strings, arrays, maps, tags, simples, majorNumber, majorOf, initial, head, Head, isFloat, isAllowed, isIndefinite, taking, nextHead, break}
+use Rattle.cbor.specs.Items.{Kind, Size, definite, indefinite, Chunk, Item, string, chunked, array, map, tag, simple, Items, none, more, Pairs, none₂, count, count₂, levels, levelsAll, levelsAll₂}
+use Rattle.cbor.specs.Heads.{Major, integers, strings, arrays, maps, tags, simples, majorNumber, majorOf, initial, head, Head, isFloat, isAllowed, taking, nextHead, break}
 use Rattle.cbor.specs.Encode.{encodeString, opening, closing, enclosed, encodeChunks, encode, encodeAll, encodeAll₂}
 use Rattle.cbor.specs.TypedArrays.{mayTag}
 use Rattle.cbor.specs.Valid.{Bytes, isText, ValidString, ValidChunks, Fits, isSimple, Valid, ValidAll, ValidAll₂}
 use Rattle.cbor.specs.Decode.{Until, counted, broken, ended, Step, over, another, stepAt, severalBy, severalWithin, several, content, chunkBy, chunk, Entry, entry, extent, tagged, elements, pair, entries, chunks, itemBy, itemWith, item, decode, mostBytes, mostLevels}
 use Rattle.cbor.specs.Theorems.{Decoded, EncodeOfDecode}
 use Rattle.cbor.proofs.Results.{refuse-not-ok}
-use Rattle.cbor.proofs.Heads.{major-back, information-most, Taken, TakenWell, taking-well, Legal, HeadWritten, HeadWell, head-well}
+use Rattle.cbor.proofs.Heads.{major-back, information-most, Taken, TakenWell, taking-well, Legal, HeadWell, head-well}
 use Rattle.cbor.proofs.Several.{tailOf, Meets}
 use Rattle.cbor.proofs.DecodeEncode.{enterAt, shortest-zero, shortest-one}
 

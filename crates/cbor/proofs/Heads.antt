@@ -10,7 +10,7 @@ use lib.Seq.{take-at, drop-at, length-take-le}
 use borrow.Author.Tests.{le-leb, lt-leb, leb-true, leb-false}
 use Rattle.cbor.specs.Refusals.{Result, ok, refuse, bind, endsInside}
 use Rattle.cbor.specs.Widths.{Width, w0, w1, w2, w4, w8, argumentBytes, limit, information, bigEndian, valueFrom}
-use Rattle.cbor.specs.Items.{Sign, unsigned, negative, Kind, byteString, textString, Size, definite, indefinite}
+use Rattle.cbor.specs.Items.{unsigned, negative, byteString, textString, Size, definite, indefinite}
 use Rattle.cbor.specs.Heads.{Major, integers, strings, arrays, maps, tags, simples, majorNumber, majorOf, initial, head, Head, Information, argument, reserved, indefinitely, informationOf, isFloat, isAllowed, isIndefinite, taking, started, argued, headBy, nextHead}
 use Rattle.cbor.specs.Encode.{opening}
 use Rattle.cbor.specs.Valid.{Bytes, Fits}

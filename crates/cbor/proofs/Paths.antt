@@ -2,11 +2,11 @@
 use Prim.Native.Nat.{ℕ, zero, suc, _+_, _*_}
 use mathlib.Core.Path.{_≡_, refl, sym, ap, _∙_}
 use mathlib.Core.List.{List, [], _∷_, _++_, append-assoc, append-nil}
-use Rattle.cbor.specs.Items.{Size, definite, indefinite, Item, int, string, chunked, array, map, tag, simple, Items, none, more, Pairs, none₂, more₂, count, count₂}
+use Rattle.cbor.specs.Items.{Size, Item, int, string, chunked, array, map, tag, simple, Items, none, more, Pairs, none₂, more₂, count, count₂}
 use Rattle.cbor.specs.Heads.{Major, arrays, maps}
 use Rattle.cbor.specs.Encode.{opening, closing, enclosed, encode, encodeAll, encodeAll₂}
 use Rattle.cbor.specs.Paths.{Spot, Found, found, nowhere, within, nth, nth₂, child, onward, descend, locate, changeNth, changeNth₂, changeChild, changeIn, changeAt, replaceAt}
-use Rattle.cbor.specs.Theorems.{Parted, PartAtPath}
+use Rattle.cbor.specs.Theorems.{PartAtPath}
 
 -- the bytes `old` have those of the spot's item between what stands before and behind it, and so has `new` with another item
 pub record Between (old : List ℕ) (new : (Item → Item) → List ℕ) (z : Spot) : Type 0 where

@@ -10,9 +10,9 @@ use lib.Dec.{T, leb, eqb, eqb→eq}
 use lib.ListN.{length, drop, getD, replicate, drop-of-length-le, length-drop}
 use lib.Seq.{drop-cons, drop-drop}
 use borrow.Author.Tests.{le-leb, lt-leb, not-true, not-false}
-use Rattle.cbor.specs.Utf8.{Range, _to_, isIn, Row, rows, Follow, nothing, these, followIn, follow, areIn, sequenceBy, firstBadFrom, firstBad}
+use Rattle.cbor.specs.Utf8.{Range, _to_, isIn, rows, Follow, nothing, these, followIn, follow, areIn, sequenceBy, firstBadFrom, firstBad}
 use Rattle.cbor.specs.Sequences.{ranges, behind, Sequence}
-use Rattle.cbor.proofs.Lists.{front}
+use Rattle.memory.proofs.Lists.{front}
 use Rattle.cbor.proofs.Table.{both, every, between}
 
 -- What a first byte says. Whether two first bytes ask for the same bytes behind them:

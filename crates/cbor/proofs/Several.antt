@@ -7,9 +7,9 @@ use mathlib.Core.List.{List, [], _∷_, _++_, append-assoc}
 use lib.Dec.{eqb}
 use lib.ListN.{length, length-append}
 use borrow.Author.Tests.{ne-eqb}
-use Rattle.cbor.specs.Refusals.{Result, ok, refuse, bind}
+use Rattle.cbor.specs.Refusals.{Result, ok, bind}
 use Rattle.cbor.specs.Heads.{break}
-use Rattle.cbor.specs.Decode.{Until, counted, broken, ended, Step, over, another, stepAt, severalBy, severalWithin, several}
+use Rattle.cbor.specs.Decode.{Until, counted, broken, ended, over, another, stepAt, severalBy, severalWithin, several}
 
 -- what stands behind the last one, and before r
 abbrev pub tailOf : Until → List ℕ → List ℕ

@@ -7,7 +7,7 @@ use lib.ListN.{length}
 use Rattle.cbor.specs.Refusals.{Result, ok, refuse, bind, tooLong, notUtf8, tooDeep, badTypedArray, endsInside, notWellFormed}
 use Rattle.cbor.specs.Widths.{Width}
 use Rattle.cbor.specs.Items.{Kind, Size, definite, indefinite, Chunk, Item, int, string, chunked, array, map, tag, simple, Items, none, more, Pairs, none₂, more₂}
-use Rattle.cbor.specs.Heads.{Major, integers, strings, arrays, maps, tags, simples, Head, nextHead, taking, majorNumber, break}
+use Rattle.cbor.specs.Heads.{Major, integers, strings, arrays, maps, tags, simples, nextHead, taking, majorNumber, break}
 use Rattle.cbor.specs.Valid.{isText}
 use Rattle.cbor.specs.TypedArrays.{mayTag}
 

@@ -5,10 +5,10 @@ use mathlib.Core.List as L
 use mathlib.Core.Path.{_≡_, refl}
 use lib.ListN.{length, replicate}
 use Rattle.cbor.specs.Refusals.{Result, ok, refuse, bind}
-use Rattle.cbor.specs.Widths.{w0, w1, w2, w4, w8, argumentBytes, limit, fits, shortest, information, bigEndian, valueFrom}
-use Rattle.cbor.specs.Items.{unsigned, negative, byteString, textString, Size, definite, indefinite, Chunk, Item, int, string, chunked, array, map, tag, simple, Items, none, more, Pairs, none₂, more₂, count, count₂}
+use Rattle.cbor.specs.Widths.{w0, w1, w2, w8, argumentBytes, limit, fits, shortest, information, bigEndian, valueFrom}
+use Rattle.cbor.specs.Items.{unsigned, negative, byteString, textString, Size, definite, indefinite, Item, int, string, chunked, array, map, tag, simple, Items, none, more, none₂, more₂, count, count₂}
 use Rattle.cbor.specs.Heads.{majorNumber, majorOf, initial, head, informationOf, isFloat, isAllowed, isIndefinite, taking, started, argued, headBy, nextHead}
-use Rattle.cbor.specs.Encode.{encodeString, opening, closing, enclosed, encodeChunks, encode, encodeAll, encodeAll₂}
+use Rattle.cbor.specs.Encode.{encodeString, opening, closing, enclosed, encodeChunks, encode, encodeAll}
 use Rattle.cbor.specs.Utf8.{isIn, rows, followIn, follow, areIn, sequenceBy, firstBadFrom, firstBad, isUtf8}
 use Rattle.cbor.specs.TypedArrays.{elementSize, chunksLength, divides, isTypedArray, mayTag}
 use Rattle.cbor.specs.Valid.{isText}

@@ -2,7 +2,7 @@
 use Prim.Native.Nat.{ℕ, zero, suc, _+_}
 use mathlib.Core.List.{List, [], _∷_, _++_}
 use lib.ListN.{length}
-use Rattle.cbor.specs.Items.{Size, Item, int, string, chunked, array, map, tag, simple, Items, none, more, Pairs, none₂, more₂, count, count₂}
+use Rattle.cbor.specs.Items.{Item, int, string, chunked, array, map, tag, simple, Items, none, more, Pairs, none₂, more₂, count, count₂}
 use Rattle.cbor.specs.Heads.{arrays, maps}
 use Rattle.cbor.specs.Encode.{encode, encodeAll, encodeAll₂, opening, closing}
 

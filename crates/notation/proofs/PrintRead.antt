@@ -7,7 +7,7 @@ use mathlib.Core.List.{List, [], _∷_, _++_, append-assoc}
 use lib.Dec.{eqb}
 use borrow.Author.Tests.{eqb-true, eq-eqb, le-leb}
 use Rattle.cbor.specs.Ascii.{ascii}
-use Rattle.cbor.specs.Refusals.{Result, ok, refuse, bind}
+use Rattle.cbor.specs.Refusals.{ok, bind}
 use Rattle.cbor.specs.Widths.{Width, limit}
 use Rattle.cbor.specs.Items.{Kind, byteString, textString, Size, definite, indefinite, Chunk, Item, int, string, chunked, array, map, tag, simple, Items, none, more, Pairs, none₂, more₂, count, count₂, levels, levelsAll, levelsAll₂}
 use Rattle.cbor.specs.TypedArrays.{mayTag}
@@ -17,9 +17,9 @@ use Rattle.cbor.proofs.Results.{refuse-not-ok}
 use Rattle.notation.specs.Classes.{blank, classNumber, classRows, classIn, classOf, is}
 use Rattle.notation.specs.Scanning.{skip, skipFrom, skipped}
 use Rattle.notation.specs.Indicators.{Indicator, absent}
-use Rattle.notation.specs.Tokens.{bracket, brace, Beginning, leaf, literal, Shape, square, curly, round, Token, begins, closes, aComma, aColon}
+use Rattle.notation.specs.Tokens.{bracket, brace, leaf, literal, Shape, square, curly, round, Token, begins, closes}
 use Rattle.notation.specs.Cutting.{cutBy, cut, place, placed, next}
-use Rattle.notation.specs.Form.{Wanted, either, only, Name, one, items, pairs, chunks, Closed, Value, Rule, give, deny, denyFirst, take, call, then, strays, shapeNumber, closing, tags, afterTag, inside, literalItem, beginning, oneRule, addItem, afterItem, itemsRule, afterValue, afterKey, pairsRule, addChunk, afterChunk, isWanted, chunk, chunksRule, rules, obey, reads}
+use Rattle.notation.specs.Form.{Wanted, either, only, Name, one, items, pairs, chunks, Closed, Value, give, then, shapeNumber, closing, tags, afterTag, inside, literalItem, beginning, oneRule, addItem, afterItem, itemsRule, afterValue, afterKey, pairsRule, addChunk, afterChunk, isWanted, chunk, chunksRule, rules, obey, reads}
 use Rattle.notation.specs.Printing.{decimalOf, indicatorOf, printString, printChunks, printChunked, sizeOf, print, printAll, printRest, printAll₂, printRest₂}
 use Rattle.notation.proofs.Good.{Stop}
 use Rattle.notation.proofs.Locality.{lexing}

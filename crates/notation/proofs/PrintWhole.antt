@@ -7,7 +7,7 @@ use lib.Dec.{eqb}
 use lib.ListN.{length}
 use borrow.Author.Tests.{eq-eqb, le-leb}
 use Rattle.cbor.specs.Ascii.{ascii}
-use Rattle.cbor.specs.Refusals.{ok, bind, Verdict, accepted, verdictOf}
+use Rattle.cbor.specs.Refusals.{ok, bind, Verdict, verdictOf}
 use Rattle.cbor.specs.Decode.{mostBytes, mostLevels}
 use Rattle.cbor.specs.Items.{unsigned, negative, byteString, textString, Item, int, string, chunked, array, map, tag, simple, Items, none, more, levels, levelsAll}
 use Rattle.cbor.specs.Utf8.{isIn, isUtf8}

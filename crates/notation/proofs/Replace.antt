@@ -6,24 +6,23 @@ use mathlib.Core.Bool.{Bool, true, false}
 use mathlib.Core.List.{List, [], _∷_, _++_}
 use lib.Dec.{leb, eqb}
 use Rattle.cbor.specs.Refusals.{Result, ok, refuse, bind, notAllowed}
-use Rattle.cbor.specs.Widths.{Width}
 use Rattle.cbor.specs.Items.{Size, definite, indefinite, Item, array, map, Items, none, more, Pairs, none₂, more₂, count, count₂, levels}
 use Rattle.cbor.specs.Heads.{arrays, maps}
 use Rattle.cbor.specs.Encode.{encode, opening, closing as closingBytes}
-use Rattle.cbor.specs.Paths.{Spot, Found, found, nowhere, within, nth, nth₂, child, onward, descend, changeNth, changeNth₂, changeChild, changeIn}
+use Rattle.cbor.specs.Paths.{Spot, Found, found, within, nth, nth₂, child, onward, descend, changeNth, changeNth₂, changeChild}
 use Rattle.cbor.proofs.Results.{refuse-not-ok}
 use Rattle.cbor.proofs.Paths.{count-change, count-change₂}
 use Rattle.notation.specs.Scanning.{skip}
 use Rattle.notation.specs.Indicators.{Indicator, absent, indefinitely, unknown, wide, Chosen, chosen, misfit, choose}
 use Rattle.notation.specs.Tokens.{Opener, bracket, brace, tagging, embedding, Beginning, leaf, literal, chunking, opens, Shape, square, curly, round, angle, whole, Token, begins, closes, aComma, aColon}
 use Rattle.notation.specs.Cutting.{next, place}
-use Rattle.notation.specs.Form.{Name, one, items, pairs, Closed, Value, Rule, give, deny, take, call, strayIndicator, strayClosing, stray, strays, shapeNumber, closing, sized, contains, inside, beginning, oneRule, addItem, afterItem, itemsRule, afterValue, afterKey, pairsRule, rules, obey, reads}
-use Rattle.notation.specs.Places.{Separator, comma, colon, separated, past, toElement, toValue, into, toward, levelsAt}
-use Rattle.notation.proofs.Good.{Like, Hard, Took}
+use Rattle.notation.specs.Form.{Name, one, items, pairs, Closed, Value, Rule, give, take, strayClosing, stray, strays, shapeNumber, closing, sized, contains, inside, beginning, oneRule, addItem, afterItem, itemsRule, afterValue, afterKey, pairsRule, rules, obey, reads}
+use Rattle.notation.specs.Places.{Separator, comma, colon, separated, past, toElement, toValue, into}
+use Rattle.notation.proofs.Good.{Hard}
 use Rattle.notation.proofs.Locality.{next-skip}
-use Rattle.notation.proofs.ByName.{bind-ok, bind-refuse, reads-is, took, took-next}
+use Rattle.notation.proofs.ByName.{bind-ok, bind-refuse, reads-is, took-next}
 use Rattle.notation.proofs.Splice.{bind-inv, bind-map, Refuses, Behind, Blocked, refuses-bind, refuses-blocks, Equal, Skips, Next, Any, Hole, hole-step, hole-over, hole-take, hole-past}
-use Rattle.notation.proofs.Equations.{element, items-begin, pairs-begin, one-starts, obey-if}
+use Rattle.notation.proofs.Equations.{element, items-begin, pairs-begin, one-starts}
 
 -- THE ITEM AT A PATH, of which P holds
 abbrev pub HasNth : ℕ → (Item → Type 0) → Items → Type 0

@@ -12,7 +12,7 @@ use Rattle.notation.specs.Indicators.{Indicator, absent, indefinitely, u
 use Rattle.notation.specs.Numbers.{number}
 use Rattle.notation.specs.Literals.{quoted}
 use Rattle.notation.specs.Words.{infinityWord, word}
-use Rattle.notation.specs.Tokens.{Opener, bracket, brace, embedding, chunking, opens, Shape, square, curly, round, angle, whole, Token, begins, closes, aComma, aColon}
+use Rattle.notation.specs.Tokens.{Opener, bracket, brace, embedding, chunking, opens, square, curly, round, angle, whole, Token, begins, closes, aComma, aColon}
 
 unfoldable pub startsWith : List ℕ → List ℕ → Bool
 startsWith [] s = true

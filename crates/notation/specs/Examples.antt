@@ -6,7 +6,7 @@ use mathlib.Core.List as L
 use mathlib.Core.Path.{_≡_, refl}
 use lib.ListN.{length}
 use Rattle.cbor.specs.Ascii.{ascii}
-use Rattle.cbor.specs.Refusals.{Result, ok, refuse, bind, Verdict, accepted, refused, verdictOf, noSuchPath}
+use Rattle.cbor.specs.Refusals.{bind, Verdict, accepted, refused, verdictOf, noSuchPath}
 use Rattle.cbor.specs.Widths.{argumentBytes, limit, fits, shortest, information, bigEndian, valueFrom}
 use Rattle.cbor.specs.Items.{Item, Items, count, count₂, levels}
 use Rattle.cbor.specs.Heads.{majorNumber, majorOf, initial, head, informationOf, isFloat, isAllowed, isIndefinite, taking, started, argued, headBy, nextHead}

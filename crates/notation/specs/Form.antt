@@ -6,7 +6,7 @@ use mathlib.Core.Bool.{Bool, true, false}
 use lib.Dec.{leb, eqb}
 use lib.ListN.{length}
 use Rattle.cbor.specs.Refusals.{Result, ok, refuse, bind, badIndicator, tooDeep, notAllowed, mixedChunks, badTypedArray}
-use Rattle.cbor.specs.Widths.{Width, shortest}
+use Rattle.cbor.specs.Widths.{Width}
 use Rattle.cbor.specs.Items.{Kind, byteString, textString, Size, definite, indefinite, Chunk, Item, string, chunked, array, map, tag, Items, none, more, Pairs, none₂, more₂, count, count₂, levels}
 use Rattle.cbor.specs.Encode.{encodeAll}
 use Rattle.cbor.specs.TypedArrays.{mayTag}

@@ -4,12 +4,12 @@ use mathlib.Core.List.{List, [], _∷_, _++_}
 use mathlib.Core.Bool.{Bool, true, false, _&&_, _||_}
 use lib.Dec.{leb, eqb}
 use lib.ListN.{length}
-use Rattle.cbor.specs.Refusals.{Result, ok, refuse, bind, noToken, badContent, badIndicator}
-use Rattle.cbor.specs.Items.{Kind, byteString, textString, definite, indefinite}
+use Rattle.cbor.specs.Refusals.{Result, ok, bind, noToken, badContent, badIndicator}
+use Rattle.cbor.specs.Items.{Kind, byteString, definite, indefinite}
 use Rattle.cbor.specs.Utf8.{_to_, isIn}
 use Rattle.notation.specs.Classes.{blank, slash, hash, is}
 use Rattle.notation.specs.Scanning.{fault}
-use Rattle.notation.specs.Indicators.{Indicator, absent, indefinitely, unknown, wide, indicator, Chosen, chosen, misfit, choose}
+use Rattle.notation.specs.Indicators.{Indicator, absent, indefinitely, unknown, wide, indicator, chosen, misfit, choose}
 use Rattle.notation.specs.Numbers.{digitValue, isDigit}
 use Rattle.notation.specs.Quoted.{character, unquote}
 use Rattle.notation.specs.Tokens.{Token, begins, literal}

@@ -7,7 +7,7 @@ use Rattle.cbor.specs.Refusals.{Result, ok, refuse, bind, noSuchPath}
 use Rattle.cbor.specs.Decode.{mostLevels}
 use Rattle.cbor.specs.Paths.{Found, found, nowhere}
 use Rattle.notation.specs.Scanning.{skip}
-use Rattle.notation.specs.Tokens.{Opener, bracket, brace, tagging, embedding, Beginning, leaf, literal, chunking, opens, Token, begins, closes, aComma, aColon}
+use Rattle.notation.specs.Tokens.{bracket, brace, tagging, embedding, leaf, literal, chunking, opens, Token, begins, closes, aComma, aColon}
 use Rattle.notation.specs.Form.{one, Rule, give, deny, take as takes, call, obey, reads}
 use Rattle.notation.specs.Reading.{marked}
 

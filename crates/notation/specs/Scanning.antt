@@ -6,7 +6,7 @@ use mathlib.Core.Bool.{Bool, true, false, _&&_, _||_}
 use lib.Dec.{leb, eqb}
 use lib.ListN.{length}
 use Rattle.cbor.specs.Refusals.{Result, ok, refuse, bind}
-use Rattle.notation.specs.Classes.{Class, blank, slash, hash, is}
+use Rattle.notation.specs.Classes.{blank, slash, hash, is}
 
 -- BLANKS AND COMMENTS
 

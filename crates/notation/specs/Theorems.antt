@@ -4,7 +4,7 @@ use mathlib.Core.Path.{_≡_}
 use mathlib.Core.List.{List, [], _∷_}
 use mathlib.Core.Bool.{true}
 use lib.ListN.{length}
-use Rattle.cbor.specs.Refusals.{Verdict, accepted, refused, noToken, notAllowed}
+use Rattle.cbor.specs.Refusals.{accepted, refused, noToken, notAllowed}
 use Rattle.cbor.specs.Items.{Item, Items, levels, levelsAll}
 use Rattle.cbor.specs.Valid.{Valid, ValidAll}
 use Rattle.cbor.specs.Decode.{mostBytes, mostLevels}

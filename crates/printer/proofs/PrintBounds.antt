@@ -18,7 +18,7 @@ use Rattle.cbor.specs.Valid.{Valid, ValidAll, ValidAll₂}
 use Rattle.cbor.proofs.DecodeEncode.{shortest-simple}
 use Rattle.notation.specs.Words.{falseWord, trueWord, nullWord, undefinedWord, simpleWord}
 use Rattle.notation.specs.Printing.{decimalOf, hexByteOf, hexOf, escapeOf, escapedOf, widthName, indicatorOf, printString, printChunks, printChunked, blankBehind, sizeOf, printSimple, printInt, print, printAll, printRest, printAll₂, printRest₂}
-use Rattle.printer.proofs.PrintLeaves.{decimal-one, decimal-more}
+use Rattle.text_output.proofs.PrintLeaves.{decimal-one, decimal-more}
 
 -- NUMBERS AND STRINGS
 

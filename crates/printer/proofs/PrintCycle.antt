@@ -17,19 +17,20 @@ use Rattle.cbor.specs.Heads.{Major, integers, strings, arrays, maps, tags, simp
 use Rattle.cbor.specs.Decode.{content, extent, tagged, elements, entries, chunks, itemBy, item}
 use Rattle.cbor.specs.TypedArrays.{mayTag}
 use Rattle.cbor.specs.Valid.{isText}
-use Rattle.cbor.specs.HeadAnswers.{head as toldHead, headTold, sizeInformation, headFrom, headAt}
-use Rattle.cbor.specs.declared.refusal.Refusal.{Refusal}
-use Rattle.cbor.specs.declared.head.HeadAt.{HeadAt}
-use Rattle.cbor.specs.declared.head.HeadRead.{HeadRead}
-use Rattle.cbor.specs.declared.head.HeadRead.the-variants.{Head as HeadV, Refused as RefusedV}
+use Rattle.head.specs.HeadAnswers.{head as toldHead, headTold, sizeInformation, headFrom, headAt}
+use Rattle.refusal.specs.declared.Refusal.{Refusal}
+use Rattle.head.specs.declared.HeadAt.{HeadAt}
+use Rattle.head.specs.declared.HeadRead.{HeadRead}
+use Rattle.head.specs.declared.HeadRead.the-variants.{Head as HeadV, Refused as RefusedV}
 use Rattle.cbor.proofs.Results.{refuse-not-ok}
 use Rattle.cbor.proofs.Table.{between}
 use Rattle.cbor.proofs.Heads.{major-back, major-most, taking-yes}
 use Rattle.cbor.proofs.DecodeEncode.{enterAt}
 use Rattle.notation.specs.Printing.{printString, printChunks, printChunked, print, printAll, printRest, printAll₂, printRest₂}
-use Rattle.cbor.specs.WalkAnswers.{below, Within}
-use Rattle.printer.specs.PrintAnswers.{widthBy, sizeBy, entryText, chunkText, separatorOf, joined, chunkedText, Headed}
-use Rattle.printer.proofs.PrintHeads.{width-low}
+use Rattle.walk.specs.WalkAnswers.{below, Within}
+use Rattle.text_output.specs.PrintParts.{widthBy, sizeBy}
+use Rattle.printer.specs.PrintAnswers.{entryText, chunkText, separatorOf, joined, chunkedText, Headed}
+use Rattle.leaf_printer.proofs.PrintHeads.{width-low}
 use Rattle.printer.proofs.PrintSeveral.{bind-ok}
 
 -- THE HEAD

@@ -14,12 +14,13 @@ use borrow.Author.Tests.{eq-eqb, ne-eqb, leb-true, leb-false, not-true, not-fals
 use Rattle.cbor.specs.Refusals.{Result, ok, refuse, bind}
 use Rattle.cbor.specs.Decode.{Until, counted, broken, ended, Step, over, another, stepAt, severalBy, severalWithin, several}
 use Rattle.cbor.proofs.Results.{refuse-not-ok}
-use Rattle.cbor.proofs.Lists.{front}
-use Rattle.cbor.specs.Sums.{capped}
-use Rattle.cbor.specs.WalkAnswers.{sized as mapped, Within}
-use Rattle.printer.specs.PrintAnswers.{Prints, oneOf, allOf, untilBy, modeBy, behindBy, stepBy, Turned, Moves, separatorOf, joined, openingBy, closingBy, Done, Told}
-use Rattle.printer.specs.declared.print.Printed.{Printed}
-use Rattle.printer.proofs.PrintLeaves.{prints-more, prints-as, prints-none}
+use Rattle.memory.proofs.Lists.{front}
+use Rattle.memory.specs.Sums.{capped}
+use Rattle.walk.specs.WalkAnswers.{sized as mapped, Within}
+use Rattle.text_output.specs.PrintParts.{Prints}
+use Rattle.printer.specs.PrintAnswers.{oneOf, allOf, untilBy, modeBy, behindBy, stepBy, Turned, Moves, separatorOf, joined, openingBy, closingBy, Done, Told}
+use Rattle.printer.specs.declared.Printed.{Printed}
+use Rattle.text_output.proofs.PrintLeaves.{prints-more, prints-as, prints-none}
 
 -- WHAT A RESULT COMES FROM
 

@@ -11,20 +11,21 @@ use mir.Syntax.{w8 as bits8}
 use mir.Val.{Fits}
 use Rattle.cbor.specs.Ascii.{ascii}
 use Rattle.cbor.specs.Refusals.{ok, refuse}
-use Rattle.cbor.specs.Buffer.{over}
+use Rattle.memory.specs.Buffer.{over}
 use Rattle.cbor.specs.Items.{Items, none, more}
 use Rattle.cbor.specs.Encode.{encodeAll}
 use Rattle.cbor.specs.Valid.{Bytes}
 use Rattle.cbor.specs.Decode.{ended, stepAt, severalBy, severalWithin, several, elements, item, decode, mostBytes, mostLevels}
 use Rattle.cbor.specs.Theorems.{Decoded}
-use Rattle.cbor.proofs.Buffer.{over-nil}
+use Rattle.memory.proofs.Buffer.{over-nil}
 use Rattle.cbor.proofs.Results.{refuse-not-ok}
 use Rattle.cbor.proofs.EncodeDecode.{encode-of-decode}
 use Rattle.notation.specs.Printing.{print, printText}
-use Rattle.cbor.specs.WalkAnswers.{sized as mapped, below}
-use Rattle.printer.specs.PrintAnswers.{Prints, oneOf, allOf, untilBy, joined, Told, PrintedAll}
-use Rattle.printer.specs.declared.print.Printed.{Printed}
-use Rattle.printer.proofs.PrintLeaves.{prints-more, prints-as}
+use Rattle.walk.specs.WalkAnswers.{sized as mapped, below}
+use Rattle.text_output.specs.PrintParts.{Prints}
+use Rattle.printer.specs.PrintAnswers.{oneOf, allOf, untilBy, joined, Told, PrintedAll}
+use Rattle.printer.specs.declared.Printed.{Printed}
+use Rattle.text_output.proofs.PrintLeaves.{prints-more, prints-as}
 use Rattle.printer.proofs.PrintSeveral.{mapped-is, several-as}
 use Rattle.printer.proofs.PrintCycle.{itemTexts, all-joined}
 use Rattle.printer.proofs.PrintBounds.{all-length}

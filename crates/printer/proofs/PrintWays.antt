@@ -14,19 +14,20 @@ use Rattle.cbor.specs.Refusals.{Result, ok, refuse, bind}
 use Rattle.cbor.specs.Items.{unsigned, Kind, Size, definite, indefinite, Chunk, Item, array, map, Items, none, more, Pairs, none₂, count, count₂}
 use Rattle.cbor.specs.Heads.{Major, integers, strings, arrays, maps, tags, simples, majorNumber, majorOf, Head, taking, nextHead}
 use Rattle.cbor.specs.Decode.{Until, broken, several, content, chunkBy, chunk, entry, extent, elements, pair, entries, chunks, itemBy, itemWith, item}
-use Rattle.cbor.specs.HeadAnswers.{headTold, headAt}
-use Rattle.cbor.specs.declared.refusal.Refusal.{Refusal}
-use Rattle.cbor.specs.declared.head.HeadAt.{HeadAt}
-use Rattle.cbor.specs.declared.head.HeadRead.{HeadRead}
-use Rattle.cbor.specs.declared.head.HeadRead.the-variants.{Head as HeadV, Refused as RefusedV}
+use Rattle.head.specs.HeadAnswers.{headTold, headAt}
+use Rattle.refusal.specs.declared.Refusal.{Refusal}
+use Rattle.head.specs.declared.HeadAt.{HeadAt}
+use Rattle.head.specs.declared.HeadRead.{HeadRead}
+use Rattle.head.specs.declared.HeadRead.the-variants.{Head as HeadV, Refused as RefusedV}
 use Rattle.cbor.proofs.Results.{refuse-not-ok}
 use Rattle.cbor.proofs.DecodeEncode.{enterAt, by-head}
 use Rattle.notation.specs.Printing.{sizeOf, printInt, printString, printChunked, print, printSimple}
-use Rattle.cbor.specs.Sums.{capped}
-use Rattle.cbor.specs.WalkAnswers.{kindOf, sized as mapped, below, Within}
-use Rattle.printer.specs.PrintAnswers.{Prints, widthBy, sizeBy, signOf, entryText, chunkText, oneOf, allOf, untilBy, modeBy, behindBy, stepBy, Turned, joined, openingBy, closingBy, containerText, chunkedText, tagText, Told, Headed}
-use Rattle.printer.specs.declared.print.Printed.{Printed}
-use Rattle.printer.proofs.PrintLeaves.{prints-more, prints-as}
+use Rattle.memory.specs.Sums.{capped}
+use Rattle.walk.specs.WalkAnswers.{kindOf, sized as mapped, below, Within}
+use Rattle.text_output.specs.PrintParts.{Prints, widthBy, sizeBy, signOf}
+use Rattle.printer.specs.PrintAnswers.{entryText, chunkText, oneOf, allOf, untilBy, modeBy, behindBy, stepBy, Turned, joined, openingBy, closingBy, containerText, chunkedText, tagText, Told, Headed}
+use Rattle.printer.specs.declared.Printed.{Printed}
+use Rattle.text_output.proofs.PrintLeaves.{prints-more, prints-as}
 use Rattle.printer.proofs.PrintSeveral.{bind-ok, ok-rest, mapped-ok, mapped-is, several-as, counted-all, last, next, told-via, told-none}
 use Rattle.printer.proofs.PrintCycle.{taking-ok, lost, headed, by-size, content-ok, int-of, simple-of, string-of, chunked-of, array-of, map-of, tag-of, itemTexts, pairTexts, chunkTexts, all-joined, all-joined₂, chunked-joined, count-texts, count-texts₂}
 

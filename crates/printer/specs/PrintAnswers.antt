@@ -1,59 +1,21 @@
 -- What the code that prints answers.
-use Prim.Native.Nat.{ℕ, _+_, _-_, _^_, _≤_, _<_}
+use Prim.Native.Nat.{ℕ, _+_, _-_, _≤_, _<_}
 use mathlib.Core.Path.{_≡_}
 use mathlib.Core.Bool.{Bool, true, false}
 use mathlib.Core.List.{List, [], _∷_, _++_}
 use lib.Dec.{eqb}
 use lib.ListN.{length, drop}
 use Rattle.cbor.specs.Ascii.{ascii}
-use Rattle.cbor.specs.Buffer.{over as overBuffer}
+use Rattle.memory.specs.Buffer.{over as overBuffer}
 use Rattle.cbor.specs.Refusals.{Result, ok}
-use Rattle.cbor.specs.Widths.{Width, w0, w1, w2, w4, w8}
-use Rattle.cbor.specs.Items.{Sign, unsigned, negative, Kind, Size, definite, indefinite, Chunk, Item, tag, Items}
+use Rattle.cbor.specs.Items.{Kind, Chunk, Item, tag, Items}
 use Rattle.cbor.specs.Heads.{majorOf, nextHead}
 use Rattle.cbor.specs.Decode.{Until, counted, broken, ended, Step, over, another, stepAt, several, chunk, Entry, entry, decode}
-use Rattle.cbor.specs.Sums.{capped}
-use Rattle.cbor.specs.WalkAnswers.{sized as mapped, below, kindOf}
-use Rattle.cbor.specs.declared.head.HeadAt.{HeadAt}
-use Rattle.notation.specs.Words.{simpleWord}
-use Rattle.notation.specs.Printing.{decimalOf, hexOf, escapedOf, printString, printChunked, sizeOf, print, printText}
-use Rattle.printer.specs.declared.print.Printed.{Printed}
-
--- from b to b′: ws was written at pos, if it fits; if not, nothing is said but that the buffer is as long. r is the place behind it
-pub record Prints (b b′ : List ℕ) (pos : ℕ) (ws : List ℕ) (r : ℕ) : Type 0 where
-  pub same : length b′ ≡ length b
-  pub short : length b < 2 ^ 64
-  pub next : r ≡ capped pos (length ws)
-  pub is : pos + length ws ≤ length b → b′ ≡ overBuffer b pos ws
-
--- the bytes of a string, as they stand between its quotes
-unfoldable pub contentOf : Bool → List ℕ → List ℕ
-contentOf true b = escapedOf b
-contentOf false b = hexOf b
-
--- BY NUMBERS: what the code has for a width, a size, a sign, a kind
-
--- the width that additional information stands for
-unfoldable pub widthBy : ℕ → Width
-widthBy i = elim (eqb i 24) [ true ↦ w1 | false ↦ elim (eqb i 25) [ true ↦ w2 | false ↦ elim (eqb i 26) [ true ↦ w4 | false ↦ elim (eqb i 27) [ true ↦ w8 | false ↦ w0 ] ] ] ]
-
-unfoldable pub sizeBy : ℕ → Size
-sizeBy i = elim (eqb i 31) [ true ↦ indefinite | false ↦ definite (widthBy i) ]
-
-unfoldable pub signOf : Bool → Sign
-signOf true = negative
-signOf false = unsigned
-
-unfoldable pub quoteOf : Bool → ℕ
-quoteOf true = 0x22
-quoteOf false = 0x27
-
-unfoldable pub openQuote : Bool → List ℕ
-openQuote true = 0x22 ∷ []
-openQuote false = ascii "h'"
-
-unfoldable pub otherSimple : ℕ → List ℕ
-otherSimple n = simpleWord ++ (0x28 ∷ (decimalOf n ++ 0x29 ∷ []))
+use Rattle.walk.specs.WalkAnswers.{sized as mapped, below, kindOf}
+use Rattle.head.specs.declared.HeadAt.{HeadAt}
+use Rattle.notation.specs.Printing.{printString, printChunked, sizeOf, print, printText}
+use Rattle.printer.specs.declared.Printed.{Printed}
+use Rattle.text_output.specs.PrintParts.{Prints, widthBy, sizeBy}
 
 -- WHAT IS READ, AS TEXT
 

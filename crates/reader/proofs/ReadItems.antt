@@ -14,29 +14,25 @@ use Rattle.cbor.specs.Items.{unsigned, negative, byteString, textString, Item, 
 use Rattle.cbor.specs.Heads.{Major, integers, tags, simples, majorNumber, initial, head}
 use Rattle.cbor.specs.Encode.{encode}
 use Rattle.cbor.specs.TypedArrays.{mayTag}
-use Rattle.cbor.specs.HeadAnswers.{headBytes}
-use Rattle.cbor.specs.declared.refusal.Refusal.{Refusal}
+use Rattle.head.specs.HeadAnswers.{headBytes}
 use Rattle.notation.specs.Indicators.{Indicator, absent, indefinitely, unknown, wide}
 use Rattle.notation.specs.Tokens.{Opener, bracket, brace, tagging, embedding, leaf, literal, chunking, opens, square, curly, round, angle, whole, Token, begins, closes, aComma, aColon}
 use Rattle.notation.specs.Cutting.{next, place}
-use Rattle.notation.specs.Form.{one, stray, strays, then, give, denyFirst, shapeNumber, closing, beginning, oneRule, inside, afterTag, obey, reads}
-use Rattle.notation.specs.Form.{tags as tagRule}
+use Rattle.notation.specs.Form.{one, stray, strays, then, give, denyFirst, shapeNumber, closing, beginning, oneRule, inside, afterTag, obey, reads, tags as tagRule}
 use Rattle.notation.specs.Reading.{marked}
-use Rattle.tokens.specs.Stands.{Stands}
-use Rattle.tokens.specs.TokenAnswers.{widthNumber, indicatorNumber, itemCode, openCode, kindCode, beginCode, shapeCode, codeOf, itemMark, openMark, beginMark, markOf, itemNumber, openNumber, beginNumber, numberOf, Seen, Took}
-use Rattle.reader.specs.ReadAnswers.{noteOf, ofItem, ofTagged, followBy, followed, chunkedRead, within, taggedRead, indicatorFor, infoBy, majorBy, initialBy, Room, Opened, Bracketed, Told, Strayed, Leafed}
-use Rattle.tokens.specs.declared.token.Token.{Token as Cut}
-use Rattle.reader.specs.declared.answer.Answer.{Answer}
-use Rattle.reader.specs.declared.answer.Answer.the-variants.{Made}
-use Rattle.cbor.proofs.HeadCode.{head-bytes}
+use Rattle.token.specs.TokenAnswers.{widthNumber, indicatorNumber, itemCode, openCode, kindCode, beginCode, shapeCode, codeOf, itemMark, openMark, beginMark, markOf, itemNumber, openNumber, beginNumber, numberOf, Seen, Took}
+use Rattle.encoding.specs.ReadAnswers.{noteOf, ofItem, ofTagged, followBy, followed, chunkedRead, within, taggedRead, indicatorFor, infoBy, majorBy, initialBy, Room, Opened, Bracketed, Told, Strayed, Leafed}
+use Rattle.token.specs.declared.Token.{Token as Cut}
+use Rattle.encoding.specs.declared.answer.ReadAnswer.{ReadAnswer}
+use Rattle.head.proofs.HeadCode.{head-bytes}
 use Rattle.notation.proofs.Equations.{bind-same, bind-assoc, obey-if}
-use Rattle.tokens.proofs.Marked.{stands-left}
-use Rattle.reader.proofs.ReadTokens.{LeafFine, OpenerFine, Fine, next-fine}
-use Rattle.reader.proofs.ReadSmall.{head-short, head-some}
-use Rattle.reader.proofs.ReadWriting.{info-width}
-use Rattle.reader.proofs.Telling.{bind-yes, bind-no, told-ok, told-more, told-map, told-stop, token, past, place-left}
-use Rattle.reader.proofs.ReadStrings.{item-literal}
-use Rattle.reader.proofs.ReadRules.{one-is, begin-not, shape-low, shape-shuts, opensBy, follow-yes, follow-no}
+use Rattle.scanning.proofs.Marked.{stands-left}
+use Rattle.encoding.proofs.ReadTokens.{LeafFine, OpenerFine, Fine, next-fine}
+use Rattle.encoding.proofs.ReadSmall.{head-short, head-some}
+use Rattle.encoding.proofs.ReadWriting.{info-width}
+use Rattle.encoding.proofs.Telling.{bind-yes, bind-no, told-ok, told-more, told-map, told-stop, token, past, place-left}
+use Rattle.string_reader.proofs.ReadStrings.{item-literal}
+use Rattle.encoding.proofs.ReadRules.{one-is, begin-not, shape-low, shape-shuts, opensBy, follow-yes, follow-no}
 
 -- A LEAF: its head
 int-head : (m : Major) (w : Width) (n : ℕ) → n ≤ limit w → headBytes (majorNumber m * 32 + infoBy (widthNumber w) n) n ≡ head m w n
@@ -215,7 +211,7 @@ fine-at : (u : List ℕ) (tok : Token) (r : List ℕ) → next u ≡ ok tok r �
 fine-at u tok r e = (rw e at (next-fine u)) .0
 
 -- AN ITEM, by its first token
-module _ {s b b′ : List ℕ} {pos at : ℕ} {t : Cut} {a : Answer} (d : ℕ) (tk : Took s at t) where
+module _ {s b b′ : List ℕ} {pos at : ℕ} {t : Cut} {a : ReadAnswer} (d : ℕ) (tk : Took s at t) where
   pub item-none : t .code ≡ 0 → Strayed d t a → Told ofItem s b b′ (length (marked s) - at) pos a (reads (one d) (drop at (marked s)))
   item-none e f = told-stop d _ _ tk f (one-is d (drop at (marked s))) (λ tok r c u. absurd (omega (arith, code-some tok, c)))
 
@@ -358,10 +354,10 @@ unfolding numberOf beginNumber
 opener-number o se = se .number
 
 -- what is told of the inside behind an opening token t
-abbrev Inner : List ℕ → List ℕ → List ℕ → ℕ → Answer → ℕ → Cut → Opener → Type 0
+abbrev Inner : List ℕ → List ℕ → List ℕ → ℕ → ReadAnswer → ℕ → Cut → Opener → Type 0
 Inner s b b′ pos a d t o = Told ofItem s b b′ (length (marked s) - t .next + 1) pos a (within (d - 1) o (length (marked s) - t .place) (drop (t .next) (marked s)))
 
-module _ {s b b′ : List ℕ} {pos at : ℕ} {t : Cut} {a : Answer} (d : ℕ) (tk : Took s at t) where
+module _ {s b b′ : List ℕ} {pos at : ℕ} {t : Cut} {a : ReadAnswer} (d : ℕ) (tk : Took s at t) where
   pub item-array : t .code ≡ 15 → (d ≡ 0 → ⊥) → Told ofItem s b b′ (length (marked s) - t .next + 1) pos a (within (d - 1) (bracket (indicatorFor (t .indicator))) (length (marked s) - t .place) (drop (t .next) (marked s)))
       → Told ofItem s b b′ (length (marked s) - at) pos a (reads (one d) (drop at (marked s)))
   unfolding openMark

@@ -8,10 +8,10 @@ use native.Mathlib.Omega.{arith}
 use lib.Dec.{leb, eqb}
 use lib.ListN.{length, drop, getD, length-drop, drop-of-length-le}
 use borrow.Author.Tests.{eq-eqb, leb-true, leb-false}
-use Rattle.cbor.specs.Refusals.{Result, ok, refuse, bind, noToken, dots, badIndicator, notAllowed}
-use Rattle.cbor.specs.Items.{unsigned, byteString, textString}
+use Rattle.cbor.specs.Refusals.{Result, ok, refuse, bind, noToken, badIndicator, notAllowed}
+use Rattle.cbor.specs.Items.{unsigned}
 use Rattle.notation.specs.Classes.{Class, other, blank, digit, letter, underscore, minus, dot, quote, apostrophe, slash, hash, comma, colon, openParen, closeParen, openBracket, closeBracket, openBrace, closeBrace, less, greater, endMark, classNumber, classOf, is}
-use Rattle.notation.specs.Scanning.{skip, fault, expect}
+use Rattle.notation.specs.Scanning.{skip, fault}
 use Rattle.notation.specs.Indicators.{Indicator, absent, indefinitely, unknown, wide, indicator}
 use Rattle.notation.specs.Numbers.{number}
 use Rattle.notation.specs.Literals.{quoted}
@@ -19,21 +19,20 @@ use Rattle.notation.specs.Words.{word}
 use Rattle.notation.specs.Tokens.{Opener, bracket, brace, embedding, chunking, opens, square, curly, round, angle, whole, Token, begins, closes, aComma, aColon}
 use Rattle.notation.specs.Cutting.{afterMinus, opening, cutBy, cut, place, placed, next}
 use Rattle.notation.specs.Reading.{marked}
-use Rattle.tokens.specs.Stands.{Stands}
-use Rattle.tokens.specs.ScanAnswers.{Skips, Peeked}
-use Rattle.tokens.specs.TokenAnswers.{indicatorNumber, openCode, beginCode, shapeCode, codeOf, openMark, beginMark, markOf, openNumber, beginNumber, numberOf, BeginsAs, Written, Seen, Failed, Shown, Says, Took, Refused, Made}
-use Rattle.tokens.specs.NumberAnswers.{Indicated, signOf}
-use Rattle.tokens.specs.WordAnswers.{frontClass, Stood}
+use Rattle.scanning.specs.ScanAnswers.{Skips, Peeked}
+use Rattle.token.specs.TokenAnswers.{indicatorNumber, openCode, beginCode, shapeCode, codeOf, openMark, beginMark, markOf, openNumber, beginNumber, numberOf, BeginsAs, Written, Shown, Says, Took, Refused, Made}
+use Rattle.numbers.specs.NumberAnswers.{Indicated, signOf}
+use Rattle.words.specs.WordAnswers.{frontClass, Stood}
 use Rattle.tokens.specs.CutAnswers.{kindOf, quoteOf, QuotedAt, Opens, Paired}
-use Rattle.tokens.specs.declared.indicator.Mark.{Mark}
-use Rattle.tokens.specs.declared.token.Token.{Token as Cut}
+use Rattle.numbers.specs.declared.indicator.Mark.{Mark}
+use Rattle.token.specs.declared.Token.{Token as Cut}
 use Rattle.notation.proofs.Good.{Below}
 use Rattle.notation.proofs.Locality.{cut-below}
 use Rattle.notation.proofs.ScanningElements.{class-is}
-use Rattle.tokens.proofs.Marked.{front, length-marked, byte-at, stands-at}
-use Rattle.tokens.proofs.ScanCode.{expect-yes, expect-no}
-use Rattle.tokens.proofs.IndicatorCode.{width-some}
-use Rattle.tokens.proofs.NumberCode.{says-as, says-refuse, says-made}
+use Rattle.scanning.proofs.Marked.{front, length-marked, byte-at, stands-at}
+use Rattle.scanning.proofs.ScanCode.{expect-yes, expect-no}
+use Rattle.numbers.proofs.IndicatorCode.{width-some}
+use Rattle.numbers.proofs.NumberCode.{says-as, says-refuse, says-made}
 
 -- `[` AND `{`
 opening-known : (o : Indicator → Opener) (i : Indicator) (r : List ℕ) → (indicatorNumber i ≡ 2 → ⊥) → opening o i r ≡ ok (begins (opens (o i))) r

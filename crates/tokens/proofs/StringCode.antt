@@ -8,33 +8,33 @@ use native.Mathlib.Omega.{arith}
 use lib.Dec.{leb, eqb}
 use lib.ListN.{length, take, drop, getD}
 use borrow.Author.Tests.{le-leb, lt-leb, ne-eqb}
-use Rattle.cbor.specs.Refusals.{Result, ok, refuse, bind, noToken, unknownWord, float, badContent, badIndicator}
-use Rattle.cbor.specs.Items.{Kind, byteString, textString, definite, indefinite}
+use Rattle.cbor.specs.Refusals.{Result, ok, bind, noToken, unknownWord, float, badIndicator}
+use Rattle.cbor.specs.Items.{Kind, byteString, definite, indefinite}
 use Rattle.notation.specs.Classes.{isWord}
-use Rattle.notation.specs.Scanning.{fault, run, whether}
+use Rattle.notation.specs.Scanning.{fault}
 use Rattle.notation.specs.Indicators.{Indicator, absent, indefinitely, unknown, wide, indicator, Chosen, chosen, misfit, choose}
 use Rattle.notation.specs.Quoted.{character, unquote}
 use Rattle.notation.specs.Literals.{literalToken, quotedToken, quoted, body, Content, content, bad, hexContent, base64Content, contained, encodedLiteral}
 use Rattle.notation.specs.Tokens.{Token, begins, literal}
 use Rattle.notation.specs.Words.{same, hexPrefix, base64Prefix, isFloatWord, worded, prefixed, word}
 use Rattle.notation.specs.Reading.{marked}
-use Rattle.tokens.specs.Stands.{span}
-use Rattle.tokens.specs.ScanAnswers.{Ran, Peeked}
-use Rattle.tokens.specs.LiteralAnswers.{Found, scannedBy, Scans, Raw, decodedBy, Decodes}
-use Rattle.tokens.specs.TokenAnswers.{widthNumber, indicatorNumber, sizeNumber, kindCode, beginCode, codeOf, beginMark, markOf, beginNumber, numberOf, Quotes, Encodes, Spelled, BeginsAs, Written, Shown, Says, Refused}
-use Rattle.tokens.specs.NumberAnswers.{Indicated, chooseBy, chosenNumber}
-use Rattle.tokens.specs.WordAnswers.{Part, Enclosed, otherWord, prefixWord}
+use Rattle.scanning.specs.Stands.{span}
+use Rattle.scanning.specs.ScanAnswers.{Ran, Peeked}
+use Rattle.literal_body.specs.LiteralAnswers.{Scans, Raw, decodedBy, Decodes}
+use Rattle.token.specs.TokenAnswers.{indicatorNumber, sizeNumber, kindCode, beginCode, codeOf, beginMark, markOf, beginNumber, numberOf, Quotes, Spelled, BeginsAs, Written, Shown, Says, Refused}
+use Rattle.numbers.specs.NumberAnswers.{Indicated, chooseBy, chosenNumber}
+use Rattle.words.specs.WordAnswers.{Part, Enclosed, otherWord, prefixWord}
 use Rattle.tokens.specs.CutAnswers.{kindOf, quoteOf, contentOf, QuotedAt, EncodedAt, Spells, Literally, Quotedly}
-use Rattle.tokens.specs.declared.literal.Scanned.{Scanned}
-use Rattle.tokens.specs.declared.indicator.Mark.{Mark}
-use Rattle.tokens.specs.declared.token.Token.{Token as Cut}
+use Rattle.literal_body.specs.declared.Scanned.{Scanned}
+use Rattle.numbers.specs.declared.indicator.Mark.{Mark}
+use Rattle.token.specs.declared.Token.{Token as Cut}
 use Rattle.notation.proofs.ScanningElements.{clash}
-use Rattle.tokens.proofs.Marked.{here}
-use Rattle.tokens.proofs.ScanCode.{whether-yes, whether-no}
-use Rattle.tokens.proofs.LiteralViews.{scan-good, raw-good, quoted-bad, raw-bad, decodes-bad}
-use Rattle.tokens.proofs.IndicatorCode.{choose-is, width-some, chosen-none, chosen-some}
-use Rattle.tokens.proofs.NumberCode.{says-as, says-refuse}
-use Rattle.tokens.proofs.WordCode.{part-cons}
+use Rattle.scanning.proofs.Marked.{here}
+use Rattle.scanning.proofs.ScanCode.{whether-yes, whether-no}
+use Rattle.literal_body.proofs.LiteralViews.{scan-good, raw-good, quoted-bad, raw-bad, decodes-bad}
+use Rattle.numbers.proofs.IndicatorCode.{choose-is, width-some, chosen-none, chosen-some}
+use Rattle.numbers.proofs.NumberCode.{says-as, says-refuse}
+use Rattle.words.proofs.WordCode.{part-cons}
 
 -- FORMS
 module _ (form : ℕ) where

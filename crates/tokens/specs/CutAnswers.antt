@@ -5,7 +5,7 @@ use mathlib.Core.Bool.{Bool, true, false}
 use mathlib.Core.List.{List, [], _∷_}
 use lib.Dec.{eqb}
 use lib.ListN.{length, drop}
-use Rattle.cbor.specs.Refusals.{Result, ok, refuse, bind, noToken}
+use Rattle.cbor.specs.Refusals.{ok, bind, noToken}
 use Rattle.cbor.specs.Items.{Kind, byteString, textString}
 use Rattle.notation.specs.Scanning.{expect}
 use Rattle.notation.specs.Indicators.{Indicator, indicator}
@@ -13,10 +13,10 @@ use Rattle.notation.specs.Literals.{Content, hexContent, base64Content, literal
 use Rattle.notation.specs.Tokens.{bracket, brace, Token}
 use Rattle.notation.specs.Cutting.{opening}
 use Rattle.notation.specs.Reading.{marked}
-use Rattle.tokens.specs.TokenAnswers.{indicatorNumber, kindCode, codeOf, markOf, numberOf, Written, Spelled, Says}
-use Rattle.tokens.specs.NumberAnswers.{Indicated}
-use Rattle.tokens.specs.declared.indicator.Mark.{Mark}
-use Rattle.tokens.specs.declared.token.Token.{Token as Cut}
+use Rattle.token.specs.TokenAnswers.{indicatorNumber, codeOf, markOf, numberOf, Written, Spelled, Says}
+use Rattle.numbers.specs.NumberAnswers.{Indicated}
+use Rattle.numbers.specs.declared.indicator.Mark.{Mark}
+use Rattle.token.specs.declared.Token.{Token as Cut}
 
 -- STRINGS, by their form
 unfoldable pub kindOf : ℕ → Kind

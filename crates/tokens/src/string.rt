@@ -1,28 +1,28 @@
 // String literals as tokens. Their forms: 0 "..", 1 '..', 2 h'..', 3 b64'..'.
-use crate::base64::scan_base64;
-use crate::hex::scan_hex;
-use crate::indicator::Mark;
-use crate::indicator::choose;
-use crate::indicator::indicator_at;
-use crate::literal::Scanned;
-use crate::literal::scan_body;
-use crate::quoted::scan_quoted;
-use crate::scan::Cursor;
-use crate::scan::next_is;
-use crate::token::Token;
-use crate::token::refuse;
-use crate::word::prefix_word;
-use crate::word::worded;
+use base64::scan_base64;
+use hex::scan_hex;
+use literal_body::Scanned;
+use literal_body::scan_body;
+use numbers::indicator::Mark;
+use numbers::indicator::choose;
+use numbers::indicator::indicator_at;
+use quoted::scan_quoted;
+use scanning::scan::Cursor;
+use scanning::scan::next_is;
+use token::Token;
+use token::refuse;
+use words::prefix_word;
+use words::worded;
 ghost use mathlib.Core.Path.{_≡_};
 ghost use Prim.Native.Nat.{_+_, _-_, _≤_, _<_};
 ghost use lib.ListN.{length, take, drop, getD};
 ghost use Rattle.notation.specs.Literals.{quoted, encodedLiteral};
 ghost use Rattle.notation.specs.Words.{prefixed, word};
 ghost use Rattle.notation.specs.Reading.{marked};
-ghost use Rattle.tokens.specs.Stands.{span};
-ghost use Rattle.tokens.specs.LiteralAnswers.{Decodes};
-ghost use Rattle.tokens.specs.TokenAnswers.{Says, kindCode};
-ghost use Rattle.tokens.specs.WordAnswers.{Enclosed};
+ghost use Rattle.scanning.specs.Stands.{span};
+ghost use Rattle.literal_body.specs.LiteralAnswers.{Decodes};
+ghost use Rattle.token.specs.TokenAnswers.{Says, kindCode};
+ghost use Rattle.words.specs.WordAnswers.{Enclosed};
 ghost use Rattle.tokens.specs.CutAnswers.{kindOf, quoteOf, contentOf, QuotedAt, EncodedAt, Literally, Quotedly};
 
 fn code_of(form: u8) -> u8
