@@ -26,6 +26,6 @@ laid b w = written b (λ v. v) (fitting b w)
 -- READING
 
 -- m begins with w, which has n bytes, if those are not more than a result may have
-pub record Made (m : List ℕ) (n : ℕ) (w : List ℕ) : Type 0 where
+pub record Holds (m : List ℕ) (n : ℕ) (w : List ℕ) : Type 0 where
   pub sized : n ≡ length w
   pub held : n ≤ mostBytes → take n m ≡ w

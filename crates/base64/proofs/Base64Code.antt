@@ -13,9 +13,9 @@ use Rattle.memory.specs.Buffer.{over}
 use Rattle.cbor.proofs.Table.{every, between, byte}
 use Rattle.cbor.proofs.Utf8Laws.{both-true}
 use Rattle.notation.specs.Classes.{blank, is}
-use Rattle.notation.specs.Literals.{Content, content, bad, after, sextet, sextets, lastTwo, lastThree, lastFour, fullFour, base64From, base64Content}
+use Rattle.notation.specs.Literals.{Content, standsFor, bad, after, sextet, sextets, lastTwo, lastThree, lastFour, fullFour, base64From, base64Content}
 use Rattle.literal_body.specs.LiteralAnswers.{decodedBy, Decodes, Put, Fills}
-use Rattle.base64.specs.Base64Answers.{sign, lettered, Letter, waits, waitingOf, Pushed, allSextets, firstOf, secondOf, thirdOf, bytesOf, flowing, Steps, fullSize, lastTwoSize, lastThreeSize, lastFourSize, Last}
+use Rattle.base64.specs.Base64Answers.{sign, lettered, Letter, waits, waitingOf, Pushed, allSextets, firstByte, secondOf, thirdOf, base64Bytes, flowing, Steps, fullSize, lastTwoSize, lastThreeSize, lastFourSize, Last}
 use Rattle.base64.specs.declared.Group.{Group}
 use Rattle.literal_body.proofs.LiteralCode.{take-none, front-part, part-end, put-none, put-more, after-nil, after-after, decodes, content-is}
 
@@ -169,8 +169,8 @@ module _ (g : Group) where
   unfolding fullSize
   full-four x e = sym (rw (sym x ∙ e, fullSize))
 
-  pub first-is : g .a % 64 * 4 + g .b % 64 / 16 ≡ firstOf g
-  unfolding firstOf
+  pub first-is : g .a % 64 * 4 + g .b % 64 / 16 ≡ firstByte g
+  unfolding firstByte
   first-is = refl
 
   pub second-is : g .b % 16 * 16 + g .c % 64 / 4 ≡ secondOf g
@@ -255,7 +255,7 @@ flow-none g c = after-nil c
 
 -- four letters with what follows
 full-is : (g : Group) (k : Content) → fullFour (g .a) (g .b) (g .c) (g .d) k ≡ flowing (fullSize g) g k
-unfolding fullFour fullSize allSextets flowing bytesOf firstOf secondOf thirdOf
+unfolding fullFour fullSize allSextets flowing base64Bytes firstByte secondOf thirdOf
 full-is g k = go (leb (g .a) 63 && (leb (g .b) 63 && (leb (g .c) 63 && leb (g .d) 63))) refl
   where
     go : (t : Bool) → leb (g .a) 63 && (leb (g .b) 63 && (leb (g .c) 63 && leb (g .d) 63)) ≡ t
@@ -270,33 +270,33 @@ full-is g k = go (leb (g .a) 63 && (leb (g .b) 63 && (leb (g .c) 63 && leb (g .d
         let hb = leb-true (g .b) 63 (q .0) in
         let hc = leb-true (g .c) 63 (r .0) in
         let hd = leb-true (g .d) 63 (r .1) in
-        let e₁ : g .a * 4 + g .b / 16 ≡ firstOf g = omega arith in
+        let e₁ : g .a * 4 + g .b / 16 ≡ firstByte g = omega arith in
         let e₂ : g .b % 16 * 16 + g .c / 4 ≡ secondOf g = omega arith in
         let e₃ : g .c % 4 * 64 + g .d ≡ thirdOf g = omega arith in
         λ j. after (e₁ j ∷ e₂ j ∷ e₃ j ∷ []) k
 
-two-is : (g : Group) → lastTwo (g .a) (g .b) ≡ flowing (lastTwoSize (g .a) (g .b)) g (content [])
-unfolding lastTwo lastTwoSize flowing bytesOf firstOf after
+two-is : (g : Group) → lastTwo (g .a) (g .b) ≡ flowing (lastTwoSize (g .a) (g .b)) g (standsFor [])
+unfolding lastTwo lastTwoSize flowing base64Bytes firstByte after
 two-is g = go (leb (g .a) 63 && (leb (g .b) 63 && eqb (g .b % 16) 0)) refl
   where
     go : (t : Bool) → leb (g .a) 63 && (leb (g .b) 63 && eqb (g .b % 16) 0) ≡ t
-        → _≡_ {A = Content} (elim t [ true ↦ content ((g .a * 4 + g .b / 16) ∷ []) | false ↦ bad ]) (flowing (elim t [ true ↦ 1 | false ↦ 4 ]) g (content []))
+        → _≡_ {A = Content} (elim t [ true ↦ standsFor ((g .a * 4 + g .b / 16) ∷ []) | false ↦ bad ]) (flowing (elim t [ true ↦ 1 | false ↦ 4 ]) g (standsFor []))
     go false e = refl
     go true e =
         let p = both-true (leb (g .a) 63) _ e in
         let q = both-true (leb (g .b) 63) _ (p .1) in
         let ha = leb-true (g .a) 63 (p .0) in
         let hb = leb-true (g .b) 63 (q .0) in
-        let e₁ : g .a * 4 + g .b / 16 ≡ firstOf g = omega arith in
-        λ j. content (e₁ j ∷ [])
+        let e₁ : g .a * 4 + g .b / 16 ≡ firstByte g = omega arith in
+        λ j. standsFor (e₁ j ∷ [])
 
-three-is : (g : Group) → lastThree (g .a) (g .b) (g .c) ≡ flowing (lastThreeSize (g .a) (g .b) (g .c)) g (content [])
-unfolding lastThree lastThreeSize flowing bytesOf firstOf secondOf after
+three-is : (g : Group) → lastThree (g .a) (g .b) (g .c) ≡ flowing (lastThreeSize (g .a) (g .b) (g .c)) g (standsFor [])
+unfolding lastThree lastThreeSize flowing base64Bytes firstByte secondOf after
 three-is g = go (leb (g .a) 63 && (leb (g .b) 63 && (leb (g .c) 63 && eqb (g .c % 4) 0))) refl
   where
     go : (t : Bool) → leb (g .a) 63 && (leb (g .b) 63 && (leb (g .c) 63 && eqb (g .c % 4) 0)) ≡ t
-        → _≡_ {A = Content} (elim t [ true ↦ content ((g .a * 4 + g .b / 16) ∷ (g .b % 16 * 16 + g .c / 4) ∷ []) | false ↦ bad ])
-        (flowing (elim t [ true ↦ 2 | false ↦ 4 ]) g (content []))
+        → _≡_ {A = Content} (elim t [ true ↦ standsFor ((g .a * 4 + g .b / 16) ∷ (g .b % 16 * 16 + g .c / 4) ∷ []) | false ↦ bad ])
+        (flowing (elim t [ true ↦ 2 | false ↦ 4 ]) g (standsFor []))
     go false e = refl
     go true e =
         let p = both-true (leb (g .a) 63) _ e in
@@ -305,20 +305,20 @@ three-is g = go (leb (g .a) 63 && (leb (g .b) 63 && (leb (g .c) 63 && eqb (g .c 
         let ha = leb-true (g .a) 63 (p .0) in
         let hb = leb-true (g .b) 63 (q .0) in
         let hc = leb-true (g .c) 63 (r .0) in
-        let e₁ : g .a * 4 + g .b / 16 ≡ firstOf g = omega arith in
+        let e₁ : g .a * 4 + g .b / 16 ≡ firstByte g = omega arith in
         let e₂ : g .b % 16 * 16 + g .c / 4 ≡ secondOf g = omega arith in
-        λ j. content (e₁ j ∷ e₂ j ∷ [])
+        λ j. standsFor (e₁ j ∷ e₂ j ∷ [])
 
-four-is : (g : Group) → base64From (g .a ∷ g .b ∷ g .c ∷ g .d ∷ []) ≡ flowing (lastFourSize g) g (content [])
+four-is : (g : Group) → base64From (g .a ∷ g .b ∷ g .c ∷ g .d ∷ []) ≡ flowing (lastFourSize g) g (standsFor [])
 unfolding base64From lastFour lastFourSize
 four-is g = go (eqb (g .d) 64) (eqb (g .c) 64)
   where
     go : (t u : Bool) → _≡_ {A = Content}
-        (elim t [ true ↦ elim u [ true ↦ lastTwo (g .a) (g .b) | false ↦ lastThree (g .a) (g .b) (g .c) ] | false ↦ fullFour (g .a) (g .b) (g .c) (g .d) (content []) ])
-        (flowing (elim t [ true ↦ elim u [ true ↦ lastTwoSize (g .a) (g .b) | false ↦ lastThreeSize (g .a) (g .b) (g .c) ] | false ↦ fullSize g ]) g (content []))
+        (elim t [ true ↦ elim u [ true ↦ lastTwo (g .a) (g .b) | false ↦ lastThree (g .a) (g .b) (g .c) ] | false ↦ fullFour (g .a) (g .b) (g .c) (g .d) (standsFor []) ])
+        (flowing (elim t [ true ↦ elim u [ true ↦ lastTwoSize (g .a) (g .b) | false ↦ lastThreeSize (g .a) (g .b) (g .c) ] | false ↦ fullSize g ]) g (standsFor []))
     go true true = two-is g
     go true false = three-is g
-    go false u = full-is g (content [])
+    go false u = full-is g (standsFor [])
 
 picked : (P : ℕ → Type 0) (t : Bool) (x y : ℕ) → P x → P y → P (elim t [ true ↦ x | false ↦ y ])
 picked P true x y p q = p
@@ -357,18 +357,18 @@ module _ (g : Group) where
   pub last-pair : {r : ℕ} → g .count ≡ 2 → r ≡ lastTwoSize (g .a) (g .b) → Last g r
   unfolding waits base64From
   last-pair {r} e p =
-      record { is = λ h. last-by 2 e ∙ two-is g ∙ ap (λ (k : ℕ). flowing k g (content [])) (sym p); most = omega (arith, two-most (g .a) (g .b)) }
+      record { is = λ h. last-by 2 e ∙ two-is g ∙ ap (λ (k : ℕ). flowing k g (standsFor [])) (sym p); most = omega (arith, two-most (g .a) (g .b)) }
 
   pub last-triple : {r : ℕ} → g .count ≡ 3 → r ≡ lastThreeSize (g .a) (g .b) (g .c) → Last g r
   unfolding waits base64From
   last-triple {r} e p =
-      record { is = λ h. last-by 3 e ∙ three-is g ∙ ap (λ (k : ℕ). flowing k g (content [])) (sym p); most = omega (arith, three-most (g .a) (g .b) (g .c)) }
+      record { is = λ h. last-by 3 e ∙ three-is g ∙ ap (λ (k : ℕ). flowing k g (standsFor [])) (sym p); most = omega (arith, three-most (g .a) (g .b) (g .c)) }
 
   pub last-whole : {r : ℕ} → (g .count ≡ 0 → ⊥) → (g .count ≡ 1 → ⊥) → (g .count ≡ 2 → ⊥) → (g .count ≡ 3 → ⊥) → r ≡ lastFourSize g → Last g r
   unfolding waits
   last-whole {r} n₀ n₁ n₂ n₃ p =
       record {
-        is = λ h. let e : g .count ≡ 4 = omega arith in last-by 4 e ∙ four-is g ∙ ap (λ (k : ℕ). flowing k g (content [])) (sym p);
+        is = λ h. let e : g .count ≡ 4 = omega arith in last-by 4 e ∙ four-is g ∙ ap (λ (k : ℕ). flowing k g (standsFor [])) (sym p);
         most = omega (arith, four-most g);
       }
 
@@ -431,33 +431,33 @@ take-three (suc zero) x y z h = absurd (omega arith)
 take-three (suc (suc zero)) x y z h = absurd (omega arith)
 take-three (suc (suc (suc n))) x y z h = ap (λ (u : List ℕ). x ∷ y ∷ z ∷ u) (take-none n)
 
-length-some : (n : ℕ) (g : Group) → n ≤ 3 → length (take n (bytesOf g)) ≡ n
-unfolding bytesOf
+length-some : (n : ℕ) (g : Group) → n ≤ 3 → length (take n (base64Bytes g)) ≡ n
+unfolding base64Bytes
 length-some zero g h = refl
 length-some (suc zero) g h = refl
 length-some (suc (suc zero)) g h = refl
 length-some (suc (suc (suc zero))) g h = refl
 length-some (suc (suc (suc (suc n)))) g h = absurd (omega arith)
 
-pub bytes-none : (b : List ℕ) (p n : ℕ) (g : Group) → n ≡ 0 → Put b b p p (take n (bytesOf g))
-unfolding bytesOf
+pub bytes-none : (b : List ℕ) (p n : ℕ) (g : Group) → n ≡ 0 → Put b b p p (take n (base64Bytes g))
+unfolding base64Bytes
 bytes-none b p n g e = rw e (put-none b p)
 
-module _ {b b₁ : List ℕ} {p p₁ v₁ : ℕ} (n : ℕ) (g : Group) (e₁ : v₁ ≡ firstOf g) (x₁ : Put b b₁ p p₁ (v₁ ∷ [])) where
-  pub bytes-one : n ≡ 1 → Put b b₁ p p₁ (take n (bytesOf g))
-  unfolding bytesOf
+module _ {b b₁ : List ℕ} {p p₁ v₁ : ℕ} (n : ℕ) (g : Group) (e₁ : v₁ ≡ firstByte g) (x₁ : Put b b₁ p p₁ (v₁ ∷ [])) where
+  pub bytes-one : n ≡ 1 → Put b b₁ p p₁ (take n (base64Bytes g))
+  unfolding base64Bytes
   bytes-one e = rw (e, ← e₁) x₁
 
   module _ {b₂ : List ℕ} {p₂ v₂ : ℕ} (e₂ : v₂ ≡ secondOf g) (x₂ : Put b₁ b₂ p₁ p₂ (v₂ ∷ [])) where
-    pub bytes-two : n ≡ 2 → Put b b₂ p p₂ (take n (bytesOf g))
-    unfolding bytesOf
+    pub bytes-two : n ≡ 2 → Put b b₂ p p₂ (take n (base64Bytes g))
+    unfolding base64Bytes
     bytes-two e = rw (e, ← e₁, ← e₂) (put-more x₁ x₂)
 
-    pub bytes-three : {b₃ : List ℕ} {p₃ v₃ : ℕ} → (n ≡ 0 → ⊥) → (n ≡ 1 → ⊥) → (n ≡ 2 → ⊥) → v₃ ≡ thirdOf g → Put b₂ b₃ p₂ p₃ (v₃ ∷ []) → Put b b₃ p p₃ (take n (bytesOf g))
-    unfolding bytesOf
+    pub bytes-three : {b₃ : List ℕ} {p₃ v₃ : ℕ} → (n ≡ 0 → ⊥) → (n ≡ 1 → ⊥) → (n ≡ 2 → ⊥) → v₃ ≡ thirdOf g → Put b₂ b₃ p₂ p₃ (v₃ ∷ []) → Put b b₃ p p₃ (take n (base64Bytes g))
+    unfolding base64Bytes
     bytes-three n₀ n₁ n₂ e₃ x₃ =
         let l : 3 ≤ n = omega arith in
-        rw (take-three n (firstOf g) (secondOf g) (thirdOf g) l, ← e₁, ← e₂, ← e₃) (put-more (put-more x₁ x₂) x₃)
+        rw (take-three n (firstByte g) (secondOf g) (thirdOf g) l, ← e₁, ← e₂, ← e₃) (put-more (put-more x₁ x₂) x₃)
 
 pub ruleset bytes-ways = (bytes-none, bytes-one, bytes-two, bytes-three)
 
@@ -479,7 +479,7 @@ flow-bad : (n : ℕ) (g : Group) (c : Content) → 3 < n → flowing n g c ≡ b
 unfolding flowing
 flow-bad n g c h = rw (lt-ltb 3 n h, flowing)
 
-flow-on : (n : ℕ) (g : Group) (c : Content) → n ≤ 3 → flowing n g c ≡ after (take n (bytesOf g)) c
+flow-on : (n : ℕ) (g : Group) (c : Content) → n ≤ 3 → flowing n g c ≡ after (take n (base64Bytes g)) c
 unfolding flowing
 flow-on n g c h = rw (le-ltb 3 n h, flowing)
 
@@ -499,19 +499,19 @@ module _ {s : List ℕ} {at end i stop : ℕ} {g : Group} {done : List ℕ} (inv
     unfolding after
     run-wrong h = run-here ∙ ap (after done) (flow-bad (r .flows) g rest h)
 
-    run-on : r .flows ≤ 3 → GroupRun s at end (i + 1) r (done ++ take (r .flows) (bytesOf g))
+    run-on : r .flows ≤ 3 → GroupRun s at end (i + 1) r (done ++ take (r .flows) (base64Bytes g))
     run-on h =
-        let e = length-append done (take (r .flows) (bytesOf g)) in
+        let e = length-append done (take (r .flows) (base64Bytes g)) in
         let e₂ = length-some (r .flows) g h in
         record {
           from = omega (arith, inv .from);
-          left = run-here ∙ ap (after done) (flow-on (r .flows) g rest h) ∙ after-after done (take (r .flows) (bytesOf g)) rest;
+          left = run-here ∙ ap (after done) (flow-on (r .flows) g rest h) ∙ after-after done (take (r .flows) (base64Bytes g)) rest;
           count = x .count (inv .count);
           short = omega (arith, inv .short, inv .from, x .short (inv .count) h);
         }
 
   module _ {n : ℕ} (l : stop ≤ i) (x : Last g n) where
-    run-end : base64Content (take (end - at) (drop at s)) ≡ after done (flowing n g (content []))
+    run-end : base64Content (take (end - at) (drop at s)) ≡ after done (flowing n g (standsFor []))
     unfolding sextets
     run-end =
         let l′ : min end (length s) ≤ i = omega arith in
@@ -522,14 +522,14 @@ module _ {s : List ℕ} {at end i stop : ℕ} {g : Group} {done : List ℕ} (inv
 
     run-none : 3 < n → base64Content (take (end - at) (drop at s)) ≡ bad
     unfolding after
-    run-none h = run-end ∙ ap (after done) (flow-bad n g (content []) h)
+    run-none h = run-end ∙ ap (after done) (flow-bad n g (standsFor []) h)
 
-    run-whole : n ≤ 3 → base64Content (take (end - at) (drop at s)) ≡ content (done ++ take n (bytesOf g))
+    run-whole : n ≤ 3 → base64Content (take (end - at) (drop at s)) ≡ standsFor (done ++ take n (base64Bytes g))
     unfolding after
     run-whole h =
         run-end
-        ∙ ap (after done) (flow-on n g (content []) h)
-        ∙ ap (λ (u : List ℕ). content (done ++ u)) (append-nil (take n (bytesOf g)))
+        ∙ ap (after done) (flow-on n g (standsFor []) h)
+        ∙ ap (λ (u : List ℕ). standsFor (done ++ u)) (append-nil (take n (base64Bytes g)))
 
 -- counting
 pub record GroupScan (s : List ℕ) (at end stop i size : ℕ) (g : Group) : Type 0 where
@@ -551,10 +551,10 @@ module _ {s : List ℕ} {at end stop i size : ℕ} {g : Group} (inv : GroupScan 
     pub group-on : r .flows ≤ 3 → GroupScan s at end stop (i + 1) (size + r .flows) r
     group-on h =
         let y = run-on (inv .run) (inv .stops) l x h in
-        let e = length-append (inv .done) (take (r .flows) (bytesOf g)) in
+        let e = length-append (inv .done) (take (r .flows) (base64Bytes g)) in
         let e₂ = length-some (r .flows) g h in
         record {
-          done = inv .done ++ take (r .flows) (bytesOf g);
+          done = inv .done ++ take (r .flows) (base64Bytes g);
           run = y;
           stops = inv .stops;
           sized = omega (arith, inv .sized);
@@ -569,8 +569,8 @@ module _ {s : List ℕ} {at end stop i size : ℕ} {g : Group} (inv : GroupScan 
     pub group-end : n ≤ 3 → Decodes (record { good = true; next = end; size = size + n }) (base64Content (take (end - at) (drop at s)))
     unfolding decodedBy
     group-end h =
-        let e : size + n ≡ length (inv .done ++ take n (bytesOf g)) = omega (arith, inv .sized, length-append (inv .done) (take n (bytesOf g)), length-some n g h) in
-        decodes (content (inv .done ++ take n (bytesOf g))) (run-whole (inv .run) (inv .stops) l x h) (refl, e)
+        let e : size + n ≡ length (inv .done ++ take n (base64Bytes g)) = omega (arith, inv .sized, length-append (inv .done) (take n (base64Bytes g)), length-some n g h) in
+        decodes (standsFor (inv .done ++ take n (base64Bytes g))) (run-whole (inv .run) (inv .stops) l x h) (refl, e)
 
 -- writing
 pub record GroupPut (s b : List ℕ) (at end pos stop i p : ℕ) (g : Group) (b′ : List ℕ) : Type 0 where
@@ -591,16 +591,16 @@ module _ {s b b′ : List ℕ} {at end pos stop i p : ℕ} {g : Group} (inv : Gr
         let f = run-wrong (inv .run) (inv .stops) l x h in
         record { same = inv .same; is = λ c q. let w : _≡_ {A = ℕ} 0 1 = cc in absurd (omega arith) }
 
-    pub group-put-on : {b″ : List ℕ} {p′ : ℕ} → r .flows ≤ 3 → Put b′ b″ p p′ (take (r .flows) (bytesOf g)) → GroupPut s b at end pos stop (i + 1) p′ r b″
+    pub group-put-on : {b″ : List ℕ} {p′ : ℕ} → r .flows ≤ 3 → Put b′ b″ p p′ (take (r .flows) (base64Bytes g)) → GroupPut s b at end pos stop (i + 1) p′ r b″
     group-put-on h y =
         let w = put-more (inv .wrote) y in
-        record { done = inv .done ++ take (r .flows) (bytesOf g); run = run-on (inv .run) (inv .stops) l x h; stops = inv .stops; wrote = w; same = w .same }
+        record { done = inv .done ++ take (r .flows) (base64Bytes g); run = run-on (inv .run) (inv .stops) l x h; stops = inv .stops; wrote = w; same = w .same }
 
   module _ {n : ℕ} (l : stop ≤ i) (x : Last g n) where
-    pub group-put-end : {b″ : List ℕ} {p′ : ℕ} → Put b′ b″ p p′ (take n (bytesOf g)) → Fills b b″ pos (base64Content (take (end - at) (drop at s)))
+    pub group-put-end : {b″ : List ℕ} {p′ : ℕ} → Put b′ b″ p p′ (take n (base64Bytes g)) → Fills b b″ pos (base64Content (take (end - at) (drop at s)))
     group-put-end {b″} {p′} y = go (leb n 3) refl
       where
-        w : Put b b″ pos p′ (inv .done ++ take n (bytesOf g))
+        w : Put b b″ pos p′ (inv .done ++ take n (base64Bytes g))
         w = put-more (inv .wrote) y
 
         go : (t : Bool) → leb n 3 ≡ t → Fills b b″ pos (base64Content (take (end - at) (drop at s)))
@@ -609,8 +609,8 @@ module _ {s b b′ : List ℕ} {at end pos stop i p : ℕ} {g : Group} (inv : Gr
             record {
               same = w .same;
               is = λ c q k.
-                  let d : c ≡ inv .done ++ take n (bytesOf g) = content-is (sym q ∙ f) in
-                  let k′ : pos + length (inv .done ++ take n (bytesOf g)) ≤ length b = rw d at k in
+                  let d : c ≡ inv .done ++ take n (base64Bytes g) = content-is (sym q ∙ f) in
+                  let k′ : pos + length (inv .done ++ take n (base64Bytes g)) ≤ length b = rw d at k in
                   w .is k′ ∙ ap (over b pos) (sym d);
             }
         go false e =

@@ -5,7 +5,7 @@ use mathlib.Core.List.{List, [], _∷_, _++_}
 use mathlib.Core.Bool.{Bool, true, false, _&&_, _||_}
 use lib.Dec.{eqb, leb, ltb}
 use lib.ListN.{take}
-use Rattle.notation.specs.Literals.{Content, content, bad, after, sextets, base64From}
+use Rattle.notation.specs.Literals.{Content, standsFor, bad, after, sextets, base64From}
 use Rattle.base64.specs.declared.Group.{Group}
 
 -- the sextet of what is no letter and no digit
@@ -39,8 +39,8 @@ unfoldable pub allSextets : Group → Bool
 allSextets g = leb (g .a) 63 && (leb (g .b) 63 && (leb (g .c) 63 && leb (g .d) 63))
 
 -- the bytes of a group
-unfoldable pub firstOf : Group → ℕ
-firstOf g = g .a % 64 * 4 + g .b % 64 / 16
+unfoldable pub firstByte : Group → ℕ
+firstByte g = g .a % 64 * 4 + g .b % 64 / 16
 
 unfoldable pub secondOf : Group → ℕ
 secondOf g = g .b % 16 * 16 + g .c % 64 / 4
@@ -48,12 +48,12 @@ secondOf g = g .b % 16 * 16 + g .c % 64 / 4
 unfoldable pub thirdOf : Group → ℕ
 thirdOf g = g .c % 4 * 64 + g .d % 64
 
-unfoldable pub bytesOf : Group → List ℕ
-bytesOf g = firstOf g ∷ secondOf g ∷ thirdOf g ∷ []
+unfoldable pub base64Bytes : Group → List ℕ
+base64Bytes g = firstByte g ∷ secondOf g ∷ thirdOf g ∷ []
 
 -- so many bytes of a group go before what follows; more than 3: nothing does
 unfoldable pub flowing : ℕ → Group → Content → Content
-flowing n g c = elim (ltb 3 n) [ true ↦ bad | false ↦ after (take n (bytesOf g)) c ]
+flowing n g c = elim (ltb 3 n) [ true ↦ bad | false ↦ after (take n (base64Bytes g)) c ]
 
 -- a step at the byte b
 pub record Steps (g : Group) (b : ℕ) (r : Group) : Type 0 where
@@ -76,5 +76,5 @@ lastFourSize g = elim (eqb (g .d) 64) [ true ↦ elim (eqb (g .c) 64) [ true ↦
 
 -- the letters that wait are the last
 pub record Last (g : Group) (r : ℕ) : Type 0 where
-  pub is : g .count ≤ 4 → base64From (waitingOf g) ≡ flowing r g (content [])
+  pub is : g .count ≤ 4 → base64From (waitingOf g) ≡ flowing r g (standsFor [])
   pub most : r ≤ 4

@@ -1,5 +1,5 @@
 // Base64 text: what stands between the quotes of b64'..'.
-use literal_body::Scanned;
+use literal_body::LiteralScan;
 use literal_body::is_blank;
 use literal_body::least;
 use literal_body::put;
@@ -8,7 +8,7 @@ ghost use Prim.Native.Nat.{_-_};
 ghost use lib.ListN.{take, drop};
 ghost use Rattle.notation.specs.Literals.{sextet, base64Content};
 ghost use Rattle.literal_body.specs.LiteralAnswers.{Decodes, Fills, Put};
-ghost use Rattle.base64.specs.Base64Answers.{sign, Letter, Pushed, allSextets, firstOf, secondOf, thirdOf, bytesOf, Steps, Last, lastTwoSize, lastThreeSize, lastFourSize, fullSize};
+ghost use Rattle.base64.specs.Base64Answers.{sign, Letter, Pushed, allSextets, firstByte, secondOf, thirdOf, base64Bytes, Steps, Last, lastTwoSize, lastThreeSize, lastFourSize, fullSize};
 
 // Up to four letters that wait for the next one, and how many bytes those before them made; 4: they make none.
 struct Group {
@@ -140,7 +140,7 @@ fn base64_step(g: Group, b: u8) -> Group
 }
 
 fn first_byte(g: Group) -> u8
-    ensures { λ r. ⌜ r ≡ firstOf g ⌝ }
+    ensures { λ r. ⌜ r ≡ firstByte g ⌝ }
 {
     g.a % 64 * 4 + g.b % 64 / 16
 }
@@ -218,7 +218,7 @@ fn last_size(g: Group) -> usize
 }
 
 // Whether the text from `at` to `end` stands for bytes, and for how many.
-pub fn scan_base64(text: &[u8], at: usize, end: usize) -> Scanned
+pub fn scan_base64(text: &[u8], at: usize, end: usize) -> LiteralScan
     ensures { λ r. ⌜ Decodes r (base64Content (take (end - at) (drop at (now (text .entry))))) ⌝ }
 {
     let stop = least(end, text.len());
@@ -228,7 +228,7 @@ pub fn scan_base64(text: &[u8], at: usize, end: usize) -> Scanned
     while i < stop {
         let m = base64_step(g, text[i]);
         if 3 < m.flows {
-            return Scanned {
+            return LiteralScan {
                 good: false,
                 next: end,
                 size: 0,
@@ -240,13 +240,13 @@ pub fn scan_base64(text: &[u8], at: usize, end: usize) -> Scanned
     }
     let n = last_size(g);
     if 3 < n {
-        return Scanned {
+        return LiteralScan {
             good: false,
             next: end,
             size: 0,
         };
     }
-    Scanned {
+    LiteralScan {
         good: true,
         next: end,
         size: size + n,
@@ -255,7 +255,7 @@ pub fn scan_base64(text: &[u8], at: usize, end: usize) -> Scanned
 
 // Writes the first bytes of a group.
 fn put_bytes(out: &mut [u8], p: usize, g: Group, n: usize) -> usize
-    ensures { λ r. ⌜ Put (now (out .entry)) (now (out .exit)) p r (take n (bytesOf g)) ⌝ }
+    ensures { λ r. ⌜ Put (now (out .entry)) (now (out .exit)) p r (take n (base64Bytes g)) ⌝ }
 {
     if n == 0 {
         return p;

@@ -13,12 +13,12 @@ use lib.Seq.{take-suc, drop-cons, take-all, length-take-le, getD-drop}
 use mir.Syntax.{w64 as bits64}
 use mir.Val.{Fits}
 use borrow.Author.Tests.{le-leb, lt-leb, leb-true, leb-false}
-use Rattle.memory.specs.Buffer.{over, written, fitting, movedUp, movedDown, moved, closed, copied}
+use Rattle.memory.specs.Buffer.{over, overIfFits, ifFits, movedUp, movedDown, moved, headPut, copied}
 use Rattle.head.specs.HeadAnswers.{argumentSize, headBytes}
 use Rattle.head.proofs.HeadCode.{size-most, length-headBytes}
 use Rattle.memory.proofs.Buffer.{over-nil, over-set, over-snoc, over-before, over-keep, getD-front, getD-behind, length-part, written-fits, written-not, written-one, fitting-yes, fitting-no, fitting-both, length-movedUp, copied-yes, copied-no, closed-over}
 
-pub put-not : (b : List ℕ) (p v : ℕ) → length b ≤ p → b ≡ written b p (v ∷ [])
+pub put-not : (b : List ℕ) (p v : ℕ) → length b ≤ p → b ≡ overIfFits b p (v ∷ [])
 put-not b p v h = sym (written-not b p (v ∷ []) (omega arith))
 
 pub ruleset put-ways = (written-one, put-not)
@@ -231,12 +231,12 @@ module _ (b : List ℕ) (from size : ℕ) where
   pub zero-step : {i : ℕ} {l : List ℕ} → Upward (replicate size 0) 0 b from size i l → i < size → Upward (replicate size 0) 0 b from size (i + 1) (set l (from + i) 0)
   zero-step {i} inv h = let f : 0 + i < size = omega arith in upward-step 0 inv h (sym (getD-replicate size (0 + i) 0 0 f))
 
-  pub zero-end : {i : ℕ} {l : List ℕ} → Upward (replicate size 0) 0 b from size i l → size ≤ i → l ≡ written b from (replicate size 0)
+  pub zero-end : {i : ℕ} {l : List ℕ} → Upward (replicate size 0) 0 b from size i l → size ≤ i → l ≡ overIfFits b from (replicate size 0)
   zero-end inv h =
       let f : from + length {A = ℕ} (replicate size 0) ≤ length b = rw as-many (inv .room) in
       upward-end inv h ∙ ap (over b from) (take-all size (replicate size 0) (omega (arith, as-many))) ∙ sym (written-fits b from (replicate size 0) f)
 
-  pub zero-not : {t : Bool} → t ≡ leb (from + 0 + size) (length b) → not t ≡ true → b ≡ written b from (replicate size 0)
+  pub zero-not : {t : Bool} → t ≡ leb (from + 0 + size) (length b) → not t ≡ true → b ≡ overIfFits b from (replicate size 0)
   zero-not e h =
       let u : length b < from + 0 + size = unfit e h in
       let f : length b < from + length {A = ℕ} (replicate size 0) = rw as-many (omega arith) in
@@ -252,14 +252,14 @@ module _ (b : List ℕ) {l : List ℕ} (from to size : ℕ) where
   part-up h q =
       let e : from + (to - from) ≡ to = omega arith in
       let m : to ≡ max from to = omega arith in
-      q ∙ ap (λ (x : ℕ). fitting (x + size) b (over b x (take size (drop from b)))) e ∙ ap (λ (x : ℕ). fitting (x + size) b (over b to (take size (drop from b)))) m
+      q ∙ ap (λ (x : ℕ). ifFits (x + size) b (over b x (take size (drop from b)))) e ∙ ap (λ (x : ℕ). ifFits (x + size) b (over b to (take size (drop from b)))) m
 
   pub part-down : to < from → l ≡ movedDown b to (from - to) size → l ≡ moved b from to size
   unfolding movedDown moved
   part-down h q =
       let e : to + (from - to) ≡ from = omega arith in
       let m : from ≡ max from to = omega arith in
-      q ∙ ap (λ (x : ℕ). fitting (x + size) b (over b to (take size (drop x b)))) e ∙ ap (λ (x : ℕ). fitting (x + size) b (over b to (take size (drop from b)))) m
+      q ∙ ap (λ (x : ℕ). ifFits (x + size) b (over b to (take size (drop x b)))) e ∙ ap (λ (x : ℕ). ifFits (x + size) b (over b to (take size (drop from b)))) m
 
 -- A HEAD IN FRONT
 
@@ -270,14 +270,14 @@ pub close-place : (b : List ℕ) (pos by size : ℕ) {t : Bool} → t ≡ leb (p
 close-place b pos by size e h lim = let u : pos + (by + 1) + size ≤ length b = fit e h in record { fits = omega arith }
 
 module _ (b : List ℕ) (pos i n size : ℕ) {by : ℕ} {t : Bool} (s : by ≡ argumentSize (i % 32)) (e : t ≡ leb (pos + (by + 1) + size) (length b)) where
-  pub close-not : not t ≡ true → b ≡ closed b pos (headBytes i n) size
-  unfolding closed
+  pub close-not : not t ≡ true → b ≡ headPut b pos (headBytes i n) size
+  unfolding headPut
   close-not h =
       let u : length b < pos + (by + 1) + size = unfit e h in
       sym (fitting-no (pos + length (headBytes i n) + size) b (over b pos (headBytes i n ++ take size (drop (pos + 1) b))) (omega (arith, length-headBytes i n)))
 
-  pub close-done : {l r : List ℕ} → not t ≡ false → l ≡ movedUp b (pos + 1) by size → r ≡ written l pos (headBytes i n) → r ≡ closed b pos (headBytes i n) size
-  unfolding closed movedUp
+  pub close-done : {l r : List ℕ} → not t ≡ false → l ≡ movedUp b (pos + 1) by size → r ≡ overIfFits l pos (headBytes i n) → r ≡ headPut b pos (headBytes i n) size
+  unfolding headPut movedUp
   close-done {l} {r} h p q =
       let hs : List ℕ = headBytes i n in
       let ws : List ℕ = take size (drop (pos + 1) b) in
@@ -296,5 +296,5 @@ module _ (b : List ℕ) (pos i n size : ℕ) {by : ℕ} {t : Bool} (s : by ≡ a
 
 -- a content that was written behind one byte of room gets its head
 pub close-content : (b : List ℕ) (pos i n : ℕ) (ws : List ℕ) → pos + length (headBytes i n) + length ws ≤ length b
-    → closed (over b (pos + 1) ws) pos (headBytes i n) (length ws) ≡ over b pos (headBytes i n ++ ws)
+    → headPut (over b (pos + 1) ws) pos (headBytes i n) (length ws) ≡ over b pos (headBytes i n ++ ws)
 close-content b pos i n ws h = closed-over b pos (headBytes i n) ws (omega (arith, length-headBytes i n)) h

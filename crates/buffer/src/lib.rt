@@ -6,12 +6,12 @@ ghost use mathlib.Core.List.{[], _∷_};
 ghost use Prim.Native.Nat.{_+_};
 ghost use lib.Dec.{leb};
 ghost use lib.ListN.{replicate};
-ghost use Rattle.memory.specs.Buffer.{written, movedUp, movedDown, moved, closed, copied};
+ghost use Rattle.memory.specs.Buffer.{overIfFits, movedUp, movedDown, moved, headPut, copied};
 ghost use Rattle.head.specs.HeadAnswers.{headBytes};
 
 // One byte.
 pub fn put(out: &mut [u8], pos: usize, v: u8)
-    ensures { λ _. ⌜ now (out .exit) ≡ written (now (out .entry)) pos (v ∷ []) ⌝ }
+    ensures { λ _. ⌜ now (out .exit) ≡ overIfFits (now (out .entry)) pos (v ∷ []) ⌝ }
 {
     if pos < out.len() {
         out[pos] = v;
@@ -146,7 +146,7 @@ pub fn move_part(out: &mut [u8], from: usize, to: usize, size: usize)
 
 // Puts a head in front of the `size` bytes that stand behind one byte of room for it.
 pub fn close(out: &mut [u8], pos: usize, initial: u8, argument: u64, size: usize)
-    ensures { λ _. ⌜ now (out .exit) ≡ closed (now (out .entry)) pos (headBytes initial argument) size ⌝ }
+    ensures { λ _. ⌜ now (out .exit) ≡ headPut (now (out .entry)) pos (headBytes initial argument) size ⌝ }
 {
     let by = argument_size(initial % 32);
     if !fits(out.len(), pos, by + 1, size) {
@@ -183,7 +183,7 @@ pub fn copy(from: &[u8], n: usize, out: &mut [u8])
 
 // Zero bytes.
 pub fn zero(out: &mut [u8], from: usize, size: usize)
-    ensures { λ _. ⌜ now (out .exit) ≡ written (now (out .entry)) from (replicate size 0) ⌝ }
+    ensures { λ _. ⌜ now (out .exit) ≡ overIfFits (now (out .entry)) from (replicate size 0) ⌝ }
 {
     if !fits(out.len(), from, 0, size) {
         return;

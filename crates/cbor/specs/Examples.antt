@@ -8,11 +8,11 @@ use Rattle.cbor.specs.Refusals.{Result, ok, refuse, bind}
 use Rattle.cbor.specs.Widths.{w0, w1, w2, w8, argumentBytes, limit, fits, shortest, information, bigEndian, valueFrom}
 use Rattle.cbor.specs.Items.{unsigned, negative, byteString, textString, Size, definite, indefinite, Item, int, string, chunked, array, map, tag, simple, Items, none, more, none₂, more₂, count, count₂}
 use Rattle.cbor.specs.Heads.{majorNumber, majorOf, initial, head, informationOf, isFloat, isAllowed, isIndefinite, taking, started, argued, headBy, nextHead}
-use Rattle.cbor.specs.Encode.{encodeString, opening, closing, enclosed, encodeChunks, encode, encodeAll}
+use Rattle.cbor.specs.Encode.{encodeString, openingHead, closingBreak, enclosed, encodeChunks, encode, encodeAll}
 use Rattle.cbor.specs.Utf8.{isIn, rows, followIn, follow, areIn, sequenceBy, firstBadFrom, firstBad, isUtf8}
 use Rattle.cbor.specs.TypedArrays.{elementSize, chunksLength, divides, isTypedArray, mayTag}
 use Rattle.cbor.specs.Valid.{isText}
-use Rattle.cbor.specs.Decode.{stepAt, severalBy, severalWithin, several, content, chunkBy, chunk, entry, extent, tagged, elements, entries, chunks, itemBy, itemWith, item, decode}
+use Rattle.cbor.specs.Decode.{stepAt, severalBy, severalWithin, several, contentAt, chunkBy, chunkAt, entryAt, extent, tagged, elements, entries, chunksOf, itemBy, itemWith, item, decode}
 use Rattle.cbor.specs.Paths.{Spot, Found, found, nowhere, within, nth, nth₂, child, onward, descend, locate, start, end}
 
 -- what is asked, and what is answered
@@ -147,5 +147,5 @@ pub examples : List Example
 examples = fromAppendixA ++ ofDocument01 ++ ofUtf8
 
 pub examples-hold : L.map (λ (e : Example). answer (e .question)) examples ≡ L.map (λ (e : Example). e .expected) examples
-unfolding examples fromAppendixA ofDocument01 ofUtf8 accepts refuses utf8 finds sequence uint short answer decoded looked spotted bind argumentBytes limit fits shortest information bigEndian valueFrom count count₂ majorNumber majorOf initial head informationOf isFloat isAllowed isIndefinite taking started argued headBy nextHead encodeString opening closing enclosed encodeChunks encode isIn rows followIn follow areIn sequenceBy firstBadFrom firstBad isUtf8 elementSize chunksLength divides isTypedArray mayTag isText stepAt severalBy severalWithin several content chunkBy chunk entry extent tagged elements entries chunks itemBy itemWith item decode within nth nth₂ child onward descend locate start end
+unfolding examples fromAppendixA ofDocument01 ofUtf8 accepts refuses utf8 finds sequence uint short answer decoded looked spotted bind argumentBytes limit fits shortest information bigEndian valueFrom count count₂ majorNumber majorOf initial head informationOf isFloat isAllowed isIndefinite taking started argued headBy nextHead encodeString openingHead closingBreak enclosed encodeChunks encode isIn rows followIn follow areIn sequenceBy firstBadFrom firstBad isUtf8 elementSize chunksLength divides isTypedArray mayTag isText stepAt severalBy severalWithin several contentAt chunkBy chunkAt entryAt extent tagged elements entries chunksOf itemBy itemWith item decode within nth nth₂ child onward descend locate start end
 examples-hold = refl

@@ -10,5 +10,6 @@ pub mod Decode
 pub mod Encode
 pub mod Paths
 pub mod Examples
+pub mod Flags
 pub mod Sequences
 pub mod Theorems

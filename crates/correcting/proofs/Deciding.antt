@@ -23,12 +23,12 @@ use Rattle.cbor.proofs.Results.{refused-not-accepted}
 use Rattle.cbor.proofs.Paths.{part-at-path}
 use Rattle.notation.specs.Reading.{single, readItem}
 use Rattle.notation.specs.Alone.{plus}
-use Rattle.encoding.specs.ReadAnswers.{Told, ofItem}
+use Rattle.encoding.specs.ReadAnswers.{ReadTold, ofItem}
 use Rattle.one_item.proofs.ReadOne.{one-accepted, one-denied}
 use Rattle.encoding.specs.declared.answer.MadeItem.{MadeItem as MadeS}
 use Rattle.encoding.specs.declared.answer.ReadAnswer.{ReadAnswer}
 use Rattle.encoding.specs.declared.answer.ReadAnswer.the-variants.{Made as ReadMade, Refused as ReadRefused}
-use Rattle.operations.specs.Operations.{onward, room, fitting, written, itemsOf, spotOf, lookUp, level, replaced, correction, zeroed, correct}
+use Rattle.operations.specs.Operations.{andThen, room, fitting, written, itemsOf, spotOf, lookUp, level, replaced, correction, zeroed, correct}
 use Rattle.looking.specs.Answers.{locateTold, locateOf}
 use Rattle.answer.specs.Outcomes.{outcomeOf}
 use Rattle.text_check.specs.TextAnswers.{textTold, passing}
@@ -64,7 +64,7 @@ module _ (s : List ℕ) {t : Text} (h : textTold t ≡ passing s) where
       let p : passing s ≡ refused (kindNumber (e .kind)) (e .place) = sym h ∙ rw i in
       newly s levels item (ReadRefused e) _ (fails s (verdictOf (length s) (single levels s)) p) (e, refl, refl, refl)
 
-  pub new-read : {levels most : ℕ} {item item′ : List ℕ} {a : ReadAnswer} → t ≡ Good → length item ≡ mostBytes → Told ofItem s item item′ most 0 a (plus (single levels s)) → Newly s levels item′ a
+  pub new-read : {levels most : ℕ} {item item′ : List ℕ} {a : ReadAnswer} → t ≡ Good → length item ≡ mostBytes → ReadTold ofItem s item item′ most 0 a (plus (single levels s)) → Newly s levels item′ a
   unfolding textTold readItem NewRead
   new-read {levels} {most} {item} {item′} {a} i l told = go a told
     where
@@ -74,7 +74,7 @@ module _ (s : List ℕ) {t : Text} (h : textTold t ≡ passing s) where
       held-of : {n : ℕ} (y : Item) → n ≡ length (encode y) → item′ ≡ over item 0 (encode y) → take n item′ ≡ encode y
       held-of y e f = rw (e, f) (front-all item (encode y))
 
-      go : (a : ReadAnswer) → Told ofItem s item item′ most 0 a (plus (single levels s)) → Newly s levels item′ a
+      go : (a : ReadAnswer) → ReadTold ofItem s item item′ most 0 a (plus (single levels s)) → Newly s levels item′ a
       go (ReadMade m) x =
           let o = one-accepted levels (ReadMade m) x refl in
           let w : m .size ≤ mostBytes → take (m .size) item′ ≡ encode (o .item) = λ n. held-of (o .item) (o .size) (o .wrote .is (omega (arith, o .size))) in
@@ -95,7 +95,7 @@ module _ (b : List ℕ) (p : Part) (used room : ℕ) (w : List ℕ) where
 
 replace-new : (p : Part) (used room levels : ℕ) (s item : List ℕ) (d : Decision) {a : ReadAnswer} {m : MadeS} (v : Verdict Item) → readItem levels s ≡ v → NewRead item a v → a ≡ ReadMade m → Bounded p used
     → PlanFor p used (m .size) room d → Replaces p used room levels s item d
-unfolding NewRead onward decisionOf Planned kindNumber
+unfolding NewRead andThen decisionOf Planned kindNumber
 replace-new p used room levels s item d {m = m} (accepted y) e (m′, i, w, l) j k f = go (leb (lengthFor p used (m .size)) (min room mostBytes)) refl
   where
     same : m′ ≡ m
@@ -128,7 +128,7 @@ replace-new p used room levels s item d (refused n q) e (x, i, j, k′) g k f = 
 
 replace-no : (p : Part) (used room levels : ℕ) (s item : List ℕ) {a : ReadAnswer} {x : Refusal} (v : Verdict Item) → readItem levels s ≡ v → NewRead item a v → a ≡ ReadRefused x
     → Replaces p used room levels s item (Refused x)
-unfolding NewRead onward decisionOf Planned
+unfolding NewRead andThen decisionOf Planned
 replace-no p used room levels s item (accepted y) e (m, i, w, l) g = let z : _≡_ {A = ℕ} 0 1 = cc (i, g) in absurd (omega arith)
 replace-no p used room levels s item {x = x} (refused n q) e (x′, i, j, k) g =
     let same : x′ ≡ x = cc (i, g) in
@@ -198,8 +198,8 @@ module _ (b : List ℕ) (used : ℕ) (path : List ℕ) (p : Part) (l : used ≤ 
   unfolding roomFor fitting room
   room-is y = λ j. elim (leb (length-is y j) (min (length b) mostBytes)) [ true ↦ accepted (splice-is y j) | false ↦ refused noRoom 0 ]
 
-  onward-room : (v : Verdict Item) → onward v (λ y. roomFor b p used (length b) (encode y)) ≡ onward v (λ y. fitting b (replaced z y))
-  unfolding onward
+  onward-room : (v : Verdict Item) → andThen v (λ y. roomFor b p used (length b) (encode y)) ≡ andThen v (λ y. fitting b (replaced z y))
+  unfolding andThen
   onward-room (accepted y) = room-is y
   onward-room (refused n q) = refl
 
@@ -222,7 +222,7 @@ module _ (b : List ℕ) (used : ℕ) (path text : List ℕ) {v : Bool} (f : v �
   pub decide-inside : v ≡ true → used ≤ length b
   decide-inside t = omega (arith, inside t)
 
-  onward-of : v ≡ true → correction b used path text ≡ onward (lookUp (take used b) path) (λ z. onward (readItem (level path) text) (λ y. fitting b (replaced z y)))
+  onward-of : v ≡ true → correction b used path text ≡ andThen (lookUp (take used b) path) (λ z. andThen (readItem (level path) text) (λ y. fitting b (replaced z y)))
   unfolding correction room
   onward-of t = let i : leb used (min (length b) mostBytes) ≡ true = sym f ∙ t in rw (i, correction)
 
@@ -245,7 +245,7 @@ module _ (b : List ℕ) (used : ℕ) (path text : List ℕ) {v : Bool} (f : v �
         let s = found-at i in
         let l : used ≤ length b = omega (arith, inside t) in
         record {
-          is = x .is b ∙ ap (λ (k : ℕ). onward (readItem k text) (λ y. roomFor b p used (length b) (encode y))) e ∙ onward-room b used path p l s (readItem (level path) text) ∙ sym (onward-of t ∙ onward-is _ (s .is));
+          is = x .is b ∙ ap (λ (k : ℕ). andThen (readItem k text) (λ y. roomFor b p used (length b) (encode y))) e ∙ onward-room b used path p l s (readItem (level path) text) ∙ sym (onward-of t ∙ onward-is _ (s .is));
           planned = x .planned b refl l;
         }
 

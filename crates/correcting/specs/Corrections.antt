@@ -16,9 +16,9 @@ use Rattle.notation.specs.Reading.{readItem}
 use Rattle.encoding.specs.declared.answer.MadeItem.{MadeItem as MadeS}
 use Rattle.encoding.specs.declared.answer.ReadAnswer.{ReadAnswer}
 use Rattle.encoding.specs.declared.answer.ReadAnswer.the-variants.{Made as ReadMade, Refused as ReadRefused}
-use Rattle.operations.specs.Operations.{onward, lookUp, correction, correct}
+use Rattle.operations.specs.Operations.{andThen, lookUp, correction, correct}
 use Rattle.looking.specs.Answers.{locateTold, locateOf}
-use Rattle.answer.specs.Outcomes.{outcomeOf, Made}
+use Rattle.answer.specs.Outcomes.{outcomeOf, Holds}
 use Rattle.answer.specs.declared.Answer.{Answer}
 use Rattle.looking.specs.declared.Located.{Located}
 use Rattle.looking.specs.declared.Part.{Part}
@@ -33,7 +33,7 @@ pub record Spots (s path : List ℕ) (r : Located) : Type 0 where
 
 -- the new item's bytes, or why its text is refused
 unfoldable pub NewRead : List ℕ → ReadAnswer → Verdict Item → Type 0
-NewRead item a (accepted y) = (m : MadeS) × (a ≡ ReadMade m) × (Made item (m .size) (encode y)) × (length item ≡ mostBytes)
+NewRead item a (accepted y) = (m : MadeS) × (a ≡ ReadMade m) × (Holds item (m .size) (encode y)) × (length item ≡ mostBytes)
 NewRead item a (refused n q) = (e : Refusal) × (a ≡ ReadRefused e) × (kindNumber (e .kind) ≡ n) × (e .place ≡ q)
 
 pub record Newly (s : List ℕ) (levels : ℕ) (item : List ℕ) (a : ReadAnswer) : Type 0 where
@@ -53,7 +53,7 @@ unfoldable pub roomFor : List ℕ → Part → ℕ → ℕ → List ℕ → Verd
 roomFor b p used room w = elim (leb (lengthFor p used (length w)) (min room mostBytes)) [ true ↦ accepted (splice b used (p .start) (p .end) w) | false ↦ refused noRoom 0 ]
 
 pub record Replaces (p : Part) (used room levels : ℕ) (s item : List ℕ) (d : Decision) : Type 0 where
-  pub is : (b : List ℕ) → decisionOf b used item d ≡ onward (readItem levels s) (λ y. roomFor b p used room (encode y))
+  pub is : (b : List ℕ) → decisionOf b used item d ≡ andThen (readItem levels s) (λ y. roomFor b p used room (encode y))
   pub planned : (b : List ℕ) → length b ≡ room → used ≤ room → Planned b used item d
 
 pub record Decides (b : List ℕ) (used : ℕ) (path text item : List ℕ) (d : Decision) : Type 0 where

@@ -12,9 +12,10 @@ use Rattle.cbor.specs.Items.{unsigned, negative, byteString, textString, Item, 
 use Rattle.notation.specs.Indicators.{Indicator, absent}
 use Rattle.notation.specs.Tokens.{bracket, brace, tagging, embedding, Beginning, leaf, literal, chunking, opens, Shape, square, curly, round, angle, whole, Token, begins, closes, aComma, aColon}
 use Rattle.notation.specs.Cutting.{next, place}
-use Rattle.notation.specs.Form.{only, one, items, pairs, Closed, Rule, give, take, then, stray, strays, shapeNumber, closing, beginning, oneRule, addItem, afterItem, itemsRule, afterValue, afterKey, pairsRule, rules, obey, reads}
+use Rattle.notation.specs.Form.{only, one, items, pairs, Closed, Rule, give, take, then, stray, strays, shapeNumber, closingRule, beginning, oneRule, addItem, afterItem, itemsRule, afterValue, afterKey, pairsRule, rules, obey, reads}
 use Rattle.token.specs.TokenAnswers.{itemCode, openCode, kindCode, beginCode, shapeCode, codeOf}
-use Rattle.encoding.specs.ReadAnswers.{Entry, followBy, followed, entry}
+use Rattle.encoding.specs.ReadAnswers.{followBy, followed, entryRead}
+use Rattle.cbor.specs.Decode.{Entry}
 use Rattle.notation.proofs.ByName.{bind-ok, bind-refuse, reads-is}
 use Rattle.notation.proofs.Equations.{bind-same, bind-assoc, first-is, obey-if}
 
@@ -132,13 +133,13 @@ module _ {E A : Type 0} (rd : List ℕ → Result A) (add : E → A → A) (last
   step-stray aColon n m = refl
 
 -- a closing token, of the shape that is open or of another
-closing-on : {A : Type 0} (d : ℕ) (h h′ : Shape) (i : Indicator) (x : A) (p q : ℕ) (r : List ℕ) → shapeCode h′ ≡ shapeCode h → obey reads (closing d h h′ i x) p q r ≡ ok x r
-unfolding closing obey
+closing-on : {A : Type 0} (d : ℕ) (h h′ : Shape) (i : Indicator) (x : A) (p q : ℕ) (r : List ℕ) → shapeCode h′ ≡ shapeCode h → obey reads (closingRule d h h′ i x) p q r ≡ ok x r
+unfolding closingRule obey
 closing-on d h h′ i x p q r e = obey-if (eqb (shapeNumber h) (shapeNumber h′)) (give x) (strays d (closes h′ i)) p q r ∙ rw (same-shape h h′ e)
 
 closing-off : {A : Type 0} (d : ℕ) (h h′ : Shape) (i : Indicator) (x : A) (p q : ℕ) (r : List ℕ) → (shapeCode h′ ≡ shapeCode h → ⊥)
-    → obey reads (closing d h h′ i x) p q r ≡ refuse (stray d (closes h′ i)) q
-unfolding closing obey strays
+    → obey reads (closingRule d h h′ i x) p q r ≡ refuse (stray d (closes h′ i)) q
+unfolding closingRule obey strays
 closing-off d h h′ i x p q r n = obey-if (eqb (shapeNumber h) (shapeNumber h′)) (give x) (strays d (closes h′ i)) p q r ∙ rw (other-shape h h′ n)
 
 -- READERS THAT BEGIN WITH AN ITEM
@@ -170,7 +171,7 @@ unfoldable pub lastItem : Item → Indicator → Closed
 lastItem x i = record { all = more x none; indicator = i }
 
 item-step : (h : Shape) (d : ℕ) (x : Item) (u : Token) (p q : ℕ) (r : List ℕ) → obey reads (afterItem h d x u) p q r ≡ step (reads (items h false d)) addItem lastItem d h x u q r
-unfolding obey afterItem step strays closing lastItem
+unfolding obey afterItem step strays closingRule lastItem
 item-step h d x (begins g) p q r = refl
 item-step h d x (closes h′ i) p q r = obey-if (eqb (shapeNumber h) (shapeNumber h′)) (give (lastItem x i)) (strays d (closes h′ i)) p q r
 item-step h d x aComma p q r = refl
@@ -224,7 +225,7 @@ unfolding followBy
 follow-no code d x tok p r n = rw (ne-eqb (codeOf tok) code n, followBy)
 
 value-step : (d : ℕ) (k x : Item) (u : Token) (p q : ℕ) (r : List ℕ) → obey reads (afterValue d k x u) p q r ≡ step (reads (pairs false d)) addPair lastPair d curly (record { key = k; value = x }) u q r
-unfolding obey afterValue step strays closing addPair lastPair
+unfolding obey afterValue step strays closingRule addPair lastPair
 value-step d k x (begins g) p q r = refl
 value-step d k x (closes h′ i) p q r = obey-if (eqb (shapeNumber curly) (shapeNumber h′)) (give (more₂ k x none₂)) (strays d (closes h′ i)) p q r
 value-step d k x aComma p q r = refl
@@ -242,8 +243,8 @@ key-step d k aComma p q r = sym (bind-refuse _ (follow-no 12 d k aComma q r (λ 
 key-step d k aColon p q r =
     bind-same (reads (one d) r) _ _ (λ x r′ e. bind-same (next r′) _ _ (λ u r″ e′. value-step d k x u p (place r′) r″)) ∙ sym (bind-ok _ (follow-yes 12 d k aColon q r refl))
 
-pub pairs-more : (d : ℕ) (s : List ℕ) → reads (pairs false d) s ≡ bind (entry d s) (λ e r. bind (next r) (λ u r′. step (reads (pairs false d)) addPair lastPair d curly e u (place r) r′))
-unfolding rules pairsRule entry followed bind
+pub pairs-more : (d : ℕ) (s : List ℕ) → reads (pairs false d) s ≡ bind (entryRead d s) (λ e r. bind (next r) (λ u r′. step (reads (pairs false d)) addPair lastPair d curly e u (place r) r′))
+unfolding rules pairsRule entryRead followed bind
 pairs-more d s =
     reads-is (pairs false d) s ∙ after-one (pairsRule false d) (afterKey d) d (λ g. refl) (λ h′ i. refl) refl refl s
     ∙ bind-same (reads (one d) s) _ _ (λ k r e. bind-same (next r) _ _ (λ u r′ e′. key-step d k u (place s) (place r) r′) ∙ sym (bind-assoc (next r) _ _))

@@ -14,7 +14,7 @@ use Rattle.cbor.specs.Refusals.{badIndicator, badTypedArray}
 use Rattle.cbor.specs.Widths.{w0, w1, w2, w4, w8, limit, fits, shortest, information}
 use Rattle.typed_array.specs.TypedArrayAnswers.{mayTagBy}
 use Rattle.refusal.specs.RefusalKinds.{kindNumber, Kinded}
-use Rattle.memory.specs.Buffer.{closed}
+use Rattle.memory.specs.Buffer.{headPut}
 use Rattle.head.specs.HeadAnswers.{argumentSize, headBytes}
 use Rattle.refusal.specs.declared.Refusal.{Refusal}
 use Rattle.refusal.specs.declared.RefusalKind.{RefusalKind}
@@ -223,14 +223,14 @@ module _ {b : List ℕ} {pos major width n : ℕ} {m : MadeS} {place note : ℕ}
   pub finish-none : width ≡ 0 → Denies badIndicator place a → Finished b b pos major width n m place note a
   finish-none e f = record { refused = λ z. f; made = λ k. absurd (k e); closed = λ k. absurd (k e) }
 
-  pub finish-done : {b′ : List ℕ} {info size : ℕ} → (width ≡ 0 → ⊥) → Informed width n info → HeadSize (major * 32 + info) size → b′ ≡ closed b pos (headBytes (major * 32 + info) n) (m .size)
+  pub finish-done : {b′ : List ℕ} {info size : ℕ} → (width ≡ 0 → ⊥) → Informed width n info → HeadSize (major * 32 + info) size → b′ ≡ headPut b pos (headBytes (major * 32 + info) n) (m .size)
       → a ≡ Made (record { next = m .next; size = size + m .size; count = 1; note = note }) → Finished b b′ pos major width n m place note a
   finish-done {b′} {info} {size} k i h e f =
       let q : size ≡ length (headBytes (major * 32 + infoBy width n) n) = h .is n ∙ ap (λ (x : ℕ). length (headBytes (major * 32 + x) n)) (i .is) in
       record {
         refused = λ z. absurd (k z);
         made = λ z. f ∙ ap (λ (x : ℕ). Made (record { next = m .next; size = x + m .size; count = 1; note = note })) q;
-        closed = λ z. e ∙ ap (λ (x : ℕ). closed b pos (headBytes (major * 32 + x) n) (m .size)) (i .is);
+        closed = λ z. e ∙ ap (λ (x : ℕ). headPut b pos (headBytes (major * 32 + x) n) (m .size)) (i .is);
       }
 
 pub ruleset finish-ways = (finish-none, finish-done)

@@ -20,10 +20,10 @@ use Rattle.notation.specs.Scanning.{skip, fault, run, whether, expect}
 use Rattle.notation.specs.Indicators.{Indicator, absent, indefinitely, unknown, wide, indicator, Chosen, chosen, misfit, choose}
 use Rattle.notation.specs.Numbers.{digitValue, isDigit, numberFrom, digits, isFloating, radixOf, judged, integerToken, integer, otherInteger, decimal, based, afterZero, number}
 use Rattle.notation.specs.Quoted.{utf8Of, Quoting, character, escape, unicode, paired, Move, gives, closed, wrong, Escape, escapes, escapedIn, wholeUnit, unit, moveAt, unquote}
-use Rattle.notation.specs.Literals.{literalToken, quotedToken, quoted, isBody, body, Content, content, bad, hexContent, base64Content, contained, encodedLiteral}
+use Rattle.notation.specs.Literals.{literalToken, quotedToken, quoted, isBody, body, Content, standsFor, bad, hexContent, base64Content, contained, encodedLiteral}
 use Rattle.notation.specs.Words.{same, falseWord, trueWord, nullWord, undefinedWord, simpleWord, infinityWord, hexPrefix, base64Prefix, isFloatWord, isPlainDecimal, simpleBy, simpleToken, value, worded, prefixed, word}
 use Rattle.notation.specs.Tokens.{Opener, bracket, brace, tagging, embedding, Beginning, leaf, literal, chunking, opens, Token, begins, closes, aComma, aColon}
-use Rattle.notation.specs.Cutting.{startsWith, afterMinus, opening, cutBy, cut, place, placed, next}
+use Rattle.notation.specs.Cutting.{startsWith, afterMinus, openingToken, cutBy, cut, place, placed, next}
 use Rattle.notation.proofs.TextScan.{tested}
 use Rattle.notation.proofs.SoundContent.{Holds, hex-content, base64-content}
 use Rattle.notation.proofs.SoundToken.{Chose, choose-fits}
@@ -249,7 +249,7 @@ module _ (n : ℕ) where
 
   contained-keeps : (c : Content) (m : ℕ) (i : Indicator) (r : List ℕ) → Holds m c → m + length r ≤ n → Keeps (Fine n) (contained c i r)
   unfolding contained
-  contained-keeps (content b) m i r h l = literal-keeps byteString b i r (omega (arith, h .1))
+  contained-keeps (standsFor b) m i r h l = literal-keeps byteString b i r (omega (arith, h .1))
   contained-keeps bad m i r h l = record { low = omega arith; high = omega arith }
 
   encoded-keeps : (read : List ℕ → Content) → ((b : List ℕ) → Holds (length b) (read b)) → (s : List ℕ) → length s ≤ n → Keeps (Fine n) (encodedLiteral read s)
@@ -302,11 +302,11 @@ module _ (n : ℕ) where
       tested (Keeps (Fine n)) (is digit b) _ _ (λ e. number-keeps n negative b s (omega arith))
       (λ e. tested (Keeps (Fine n)) (startsWith infinityWord (b ∷ s)) _ _ (λ e. record { low = omega arith; high = omega arith }) (λ e. record { low = omega arith; high = omega arith }))
 
-  opening-keeps : (o : Indicator → Opener) → ((i : Indicator) → OpenerFine (o i)) → (s : List ℕ) → length s ≤ n → Keeps (Fine n) (bind (indicator s) (opening o))
-  unfolding opening
+  opening-keeps : (o : Indicator → Opener) → ((i : Indicator) → OpenerFine (o i)) → (s : List ℕ) → length s ≤ n → Keeps (Fine n) (bind (indicator s) (openingToken o))
+  unfolding openingToken
   opening-keeps o h s l = keeps-bind (Upto n) (Fine n) (indicator s) _ (indicator-keeps n s l) go
     where
-      go : (i : Indicator) (r : List ℕ) → length r ≤ n → Keeps (Fine n) (opening o i r)
+      go : (i : Indicator) (r : List ℕ) → length r ≤ n → Keeps (Fine n) (openingToken o i r)
       go absent r k = h absent
       go indefinitely r k = h indefinitely
       go (wide w) r k = h (wide w)

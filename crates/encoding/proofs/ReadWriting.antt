@@ -11,9 +11,9 @@ use mir.Val.{Fits}
 use Rattle.cbor.specs.Widths.{Width, w0, w1, w2, w4, w8, limit, information}
 use Rattle.cbor.specs.Items.{Kind, byteString, textString, Size, definite, indefinite, string, chunked}
 use Rattle.cbor.specs.Heads.{strings, majorNumber, initial, head}
-use Rattle.cbor.specs.Encode.{encodeString, encode, encodeChunks, enclosed, opening, closing}
+use Rattle.cbor.specs.Encode.{encodeString, encode, encodeChunks, enclosed, openingHead, closingBreak}
 use Rattle.cbor.specs.TypedArrays.{chunksLength}
-use Rattle.memory.specs.Buffer.{over, written, closed}
+use Rattle.memory.specs.Buffer.{over, overIfFits, headPut}
 use Rattle.head.specs.HeadAnswers.{headBytes}
 use Rattle.memory.proofs.Buffer.{over-nil, over-more, over-before, written-fits, length-written, length-closed, closed-over}
 use Rattle.head.proofs.HeadCode.{head-bytes}
@@ -22,7 +22,7 @@ use Rattle.notation.specs.Literals.{Content, hexContent, base64Content}
 use Rattle.notation.specs.Form.{literalItem}
 use Rattle.notation.specs.Reading.{marked}
 use Rattle.literal_body.specs.LiteralAnswers.{Fills, Quotes as Quoting}
-use Rattle.token.specs.TokenAnswers.{widthNumber, kindCode, sizeNumber, Quotes, Encodes, Spelled}
+use Rattle.token.specs.TokenAnswers.{widthNumber, kindCode, sizeNumber, QuotedAs, EncodedAs, Spelled}
 use Rattle.encoding.specs.ReadAnswers.{noteOf, ofItem, infoBy, majorBy, initialBy, HeadSize, noteBy, Light, Wrote, Filled, Gave, Leafed, Stringed, LiteralIs, LiteralTold, Ended}
 use Rattle.token.specs.declared.Token.{Token as Cut}
 use Rattle.encoding.specs.declared.answer.MadeItem.{MadeItem as MadeS}
@@ -33,7 +33,7 @@ use Rattle.encoding.specs.declared.answer.ReadAnswer.the-variants.{Made}
 pub wrote-nothing : (b : List ℕ) (p : ℕ) → Wrote b b p []
 wrote-nothing b p = record { same = refl; is = λ f. sym (over-nil b p) }
 
-pub wrote-written : {b b′ : List ℕ} {p : ℕ} {ws : List ℕ} → b′ ≡ written b p ws → Wrote b b′ p ws
+pub wrote-written : {b b′ : List ℕ} {p : ℕ} {ws : List ℕ} → b′ ≡ overIfFits b p ws → Wrote b b′ p ws
 wrote-written {b} {b′} {p} {ws} e = record { same = ap length e ∙ length-written b p ws; is = λ f. e ∙ written-fits b p ws f }
 
 -- a second part behind the first
@@ -62,7 +62,7 @@ wrote-front {b} {b₁} {b₂} {p} {v} {ws} h k =
     }
 
 -- a head before what stands behind one byte of room for it
-pub wrote-closed : {b b₁ b₂ : List ℕ} {p size : ℕ} {ws : List ℕ} (hs : List ℕ) → 0 < length hs → Wrote b b₁ (p + 1) ws → size ≡ length ws → b₂ ≡ closed b₁ p hs size → Wrote b b₂ p (hs ++ ws)
+pub wrote-closed : {b b₁ b₂ : List ℕ} {p size : ℕ} {ws : List ℕ} (hs : List ℕ) → 0 < length hs → Wrote b b₁ (p + 1) ws → size ≡ length ws → b₂ ≡ headPut b₁ p hs size → Wrote b b₂ p (hs ++ ws)
 wrote-closed {b} {b₁} {b₂} {p} {size} {ws} hs z h e k =
     record {
       same = ap length k ∙ length-closed b₁ p hs size z ∙ h .same;
@@ -70,7 +70,7 @@ wrote-closed {b} {b₁} {b₂} {p} {size} {ws} hs z h e k =
           let l : length (hs ++ ws) ≡ length hs + length ws = length-append hs ws in
           let f₁ : p + 1 + length ws ≤ length b = omega (arith, l) in
           let g : p + length hs + length ws ≤ length b = omega (arith, l) in
-          k ∙ ap (λ (x : ℕ). closed b₁ p hs x) e ∙ ap (λ (x : List ℕ). closed x p hs (length ws)) (h .is f₁) ∙ closed-over b p hs ws z g;
+          k ∙ ap (λ (x : ℕ). headPut b₁ p hs x) e ∙ ap (λ (x : List ℕ). headPut x p hs (length ws)) (h .is f₁) ∙ closed-over b p hs ws z g;
     }
 
 -- HEADS of tokens
@@ -88,21 +88,21 @@ kind-major byteString = refl
 kind-major textString = refl
 
 -- A LEAF
-pub leafed-is : {b b′ : List ℕ} {pos first size : ℕ} {a : ReadAnswer} (t : Cut) → first ≡ initialBy t → b′ ≡ written b pos (headBytes first (t .number)) → HeadSize first size
+pub leafed-is : {b b′ : List ℕ} {pos first size : ℕ} {a : ReadAnswer} (t : Cut) → first ≡ initialBy t → b′ ≡ overIfFits b pos (headBytes first (t .number)) → HeadSize first size
     → a ≡ Made (record { next = t .next; size = size; count = 1; note = 0 }) → Leafed t b b′ pos a
 leafed-is {b} {b′} {pos} {first} {size} {a} t e w h f =
     let q : size ≡ length (headBytes (initialBy t) (t .number)) = h .is (t .number) ∙ ap (λ (x : ℕ). length (headBytes x (t .number))) e in
     record {
       is = f ∙ ap (λ (x : ℕ). Made (record { next = t .next; size = x; count = 1; note = 0 })) q;
-      wrote = wrote-written (w ∙ ap (λ (x : ℕ). written b pos (headBytes x (t .number))) e);
+      wrote = wrote-written (w ∙ ap (λ (x : ℕ). overIfFits b pos (headBytes x (t .number))) e);
     }
 
 -- WHAT A LITERAL HOLDS
 module _ (s : List ℕ) (t : Cut) {b b′ : List ℕ} {pos : ℕ} where
-  by-quotes : (q : ℕ) → Quoting b b′ pos (unquote q character (drop (t .start) (marked s))) → ((c : List ℕ) → Spelled s (t .form) (t .start) (t .stop) c → Quotes s q (t .start) c) → Filled s t b b′ pos
+  by-quotes : (q : ℕ) → Quoting b b′ pos (unquote q character (drop (t .start) (marked s))) → ((c : List ℕ) → Spelled s (t .form) (t .start) (t .stop) c → QuotedAs s q (t .start) c) → Filled s t b b′ pos
   by-quotes q h g = record { is = λ c sp. record { same = h .same; is = h .is c (g c sp .rest) (g c sp .is) }; same = h .same }
 
-  by-encodes : (read : List ℕ → Content) → Fills b b′ pos (read (take (t .stop - t .start) (drop (t .start) s))) → ((c : List ℕ) → Spelled s (t .form) (t .start) (t .stop) c → Encodes s read (t .start) (t .stop) c)
+  by-encodes : (read : List ℕ → Content) → Fills b b′ pos (read (take (t .stop - t .start) (drop (t .start) s))) → ((c : List ℕ) → Spelled s (t .form) (t .start) (t .stop) c → EncodedAs s read (t .start) (t .stop) c)
       → Filled s t b b′ pos
   by-encodes read h g = record { is = λ c sp. record { same = h .same; is = h .is c (g c sp .is) }; same = h .same }
 
@@ -122,7 +122,7 @@ module _ (s : List ℕ) (t : Cut) {b b′ : List ℕ} {pos : ℕ} where
   unfolding Spelled
   fill-3 n0 n1 n2 h = by-encodes base64Content h (λ c sp. go (t .form) n0 n1 n2 c sp)
     where
-      go : (f : ℕ) → (f ≡ 0 → ⊥) → (f ≡ 1 → ⊥) → (f ≡ 2 → ⊥) → (c : List ℕ) → Spelled s f (t .start) (t .stop) c → Encodes s base64Content (t .start) (t .stop) c
+      go : (f : ℕ) → (f ≡ 0 → ⊥) → (f ≡ 1 → ⊥) → (f ≡ 2 → ⊥) → (c : List ℕ) → Spelled s f (t .start) (t .stop) c → EncodedAs s base64Content (t .start) (t .stop) c
       go zero n0 n1 n2 c sp = absurd (n0 refl)
       go (suc zero) n0 n1 n2 c sp = absurd (n1 refl)
       go (suc (suc zero)) n0 n1 n2 c sp = absurd (n2 refl)
@@ -138,11 +138,11 @@ module _ (pos n : ℕ) (l : Light (pos + n)) where
   pub string-size : {i r : ℕ} → HeadSize i r → Fits bits64 (r + n)
   string-size h = record { fits = omega (arith, l .fits, h .most) }
 
-pub string-is : {s b b₁ b₂ : List ℕ} {pos first size : ℕ} (t : Cut) → first ≡ initialBy t → HeadSize first size → b₁ ≡ written b pos (headBytes first (t .number)) → Filled s t b₁ b₂ (pos + size)
+pub string-is : {s b b₁ b₂ : List ℕ} {pos first size : ℕ} (t : Cut) → first ≡ initialBy t → HeadSize first size → b₁ ≡ overIfFits b pos (headBytes first (t .number)) → Filled s t b₁ b₂ (pos + size)
     → Stringed s t b b₂ pos (size + t .number)
 string-is {s} {b} {b₁} {b₂} {pos} {first} {size} t e h w f =
     let q : size ≡ length (headBytes (initialBy t) (t .number)) = h .is (t .number) ∙ ap (λ (x : ℕ). length (headBytes x (t .number))) e in
-    let wr : Wrote b b₁ pos (headBytes (initialBy t) (t .number)) = wrote-written (w ∙ ap (λ (x : ℕ). written b pos (headBytes x (t .number))) e) in
+    let wr : Wrote b b₁ pos (headBytes (initialBy t) (t .number)) = wrote-written (w ∙ ap (λ (x : ℕ). overIfFits b pos (headBytes x (t .number))) e) in
     record {
       size-is = ap (λ (x : ℕ). x + t .number) q;
       wrote = λ c n sp. wrote-more wr (f .is c sp) (ap (λ (x : ℕ). pos + x) q);
@@ -160,7 +160,7 @@ module _ (pos size : ℕ) (l : Light (pos + size)) where
   pub ended-size : Fits bits64 (size + 2)
   ended-size = record { fits = omega (arith, l .fits) }
 
-pub ended-is : {b b₁ b₂ : List ℕ} {pos first note : ℕ} {m : MadeS} {a : ReadAnswer} → b₁ ≡ written b pos (first ∷ []) → b₂ ≡ written b₁ (pos + m .size + 1) (255 ∷ [])
+pub ended-is : {b b₁ b₂ : List ℕ} {pos first note : ℕ} {m : MadeS} {a : ReadAnswer} → b₁ ≡ overIfFits b pos (first ∷ []) → b₂ ≡ overIfFits b₁ (pos + m .size + 1) (255 ∷ [])
     → a ≡ Made (record { next = m .next; size = m .size + 2; count = 1; note = note }) → Ended b b₂ pos first m note a
 ended-is {b₁ = b₁} e f g = record { mid = b₁; front = wrote-written e; back = wrote-written f; is = g }
 
@@ -194,7 +194,7 @@ string-head {t = t} {k = k} {w = w} {c = c} l =
 module _ (s : List ℕ) (t : Cut) {b b′ : List ℕ} {pos : ℕ} {a : ReadAnswer} where
   literal-open-by : {note first : ℕ} {m : MadeS} → m .size ≡ 0 → m .next ≡ t .next → first ≡ initialBy t → t .indicator ≡ 1 → note ≡ noteBy (t .code) 0 → Ended b b′ pos first m note a
       → (k : Kind) (z : Size) (c : List ℕ) → LiteralIs s t k z c → Gave b b′ pos (t .next) a (ofItem (literalItem k z c))
-  unfolding ofItem literalItem encode enclosed opening closing encodeChunks initialBy initial sizeNumber infoBy
+  unfolding ofItem literalItem encode enclosed openingHead closingBreak encodeChunks initialBy initial sizeNumber infoBy
   literal-open-by zs ns fe e ne en k (definite w) c l = absurd (omega (arith, l .size, width-some w))
   literal-open-by {note} {first} {m} zs ns fe e ne en k indefinite c l =
       let q : first ≡ initial (strings k) 31 = fe ∙ rw (l .code, e, kind-major k) in

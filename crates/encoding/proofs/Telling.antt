@@ -19,7 +19,7 @@ use Rattle.notation.specs.Cutting.{next, place}
 use Rattle.notation.specs.Form.{stray, strayClosing, strayIndicator}
 use Rattle.notation.specs.Reading.{marked}
 use Rattle.token.specs.TokenAnswers.{widthNumber, indicatorNumber, itemCode, openCode, kindCode, beginCode, shapeCode, codeOf, openMark, itemMark, beginMark, markOf, Seen, Shown, Took}
-use Rattle.encoding.specs.ReadAnswers.{View, strayBy, Moved, Denied, After, Told, Strayed, Denies}
+use Rattle.encoding.specs.ReadAnswers.{View, strayBy, MovedOn, Denied, After, ReadTold, Strayed, Denies}
 use Rattle.token.specs.declared.Token.{Token as Cut}
 use Rattle.encoding.specs.declared.answer.MadeItem.{MadeItem as MadeS}
 use Rattle.encoding.specs.declared.answer.ReadAnswer.{ReadAnswer}
@@ -47,11 +47,11 @@ bind-yes u f x r e = rw e
 
 -- ANSWERS of the two kinds
 module _ {A : Type 0} {v : A → View} {s b b′ : List ℕ} {most pos : ℕ} {a : ReadAnswer} where
-  pub told-no : (k q : ℕ) (res : Result A) → res ≡ refuse k q → Denied s a k q → Told v s b b′ most pos a res
+  pub told-no : (k q : ℕ) (res : Result A) → res ≡ refuse k q → Denied s a k q → ReadTold v s b b′ most pos a res
   unfolding After
   told-no k q res e f = rw e (record { after = f })
 
-  pub told-ok : {m : MadeS} {r : List ℕ} (x : A) (res : Result A) → res ≡ ok x r → a ≡ Made m → Moved s b b′ most pos m (v x) r → Told v s b b′ most pos a res
+  pub told-ok : {m : MadeS} {r : List ℕ} (x : A) (res : Result A) → res ≡ ok x r → a ≡ Made m → MovedOn s b b′ most pos m (v x) r → ReadTold v s b b′ most pos a res
   unfolding After
   told-ok {m} {r} x res e f mv = rw e (record { after = record { made = m; is = f; moved = mv } })
 
@@ -63,7 +63,7 @@ pub record Got {A : Type 0} (v : A → View) (s b b′ : List ℕ) (most pos : �
   pub thing : A
   pub rest : List ℕ
   pub is : res ≡ ok thing rest
-  pub moved : Moved s b b′ most pos m (v thing) rest
+  pub moved : MovedOn s b b′ most pos m (v thing) rest
 
 made-same : (a : ReadAnswer) (m m′ : MadeS) → a ≡ Made m → a ≡ Made m′ → m ≡ m′
 made-same a m m′ e f = cc
@@ -76,10 +76,10 @@ unfolding After
 got-of v s b b′ most pos a m (ok x r) e f = record { thing = x; rest = r; is = refl; moved = rw (made-same a m (f .made) e (f .is)) (f .moved) }
 got-of v s b b′ most pos a m (refuse k q) e f = let i = f .is in let z : _≡_ {A = ℕ} 0 1 = cc in absurd (omega arith)
 
-pub got : {A : Type 0} {v : A → View} {s b b′ : List ℕ} {most pos : ℕ} {m : MadeS} {res : Result A} (a : ReadAnswer) → Told v s b b′ most pos a res → a ≡ Made m → Got v s b b′ most pos m res
+pub got : {A : Type 0} {v : A → View} {s b b′ : List ℕ} {most pos : ℕ} {m : MadeS} {res : Result A} (a : ReadAnswer) → ReadTold v s b b′ most pos a res → a ≡ Made m → Got v s b b′ most pos m res
 got {A} {v} {s} {b} {b′} {most} {pos} {m} {res} a h e = got-of v s b b′ most pos a m res e (h .after)
 
-pub made-inside : {A : Type 0} {v : A → View} {s b b′ : List ℕ} {most pos : ℕ} {m : MadeS} {res : Result A} (a : ReadAnswer) → Told v s b b′ most pos a res → a ≡ Made m → m .next ≤ length (marked s)
+pub made-inside : {A : Type 0} {v : A → View} {s b b′ : List ℕ} {most pos : ℕ} {m : MadeS} {res : Result A} (a : ReadAnswer) → ReadTold v s b b′ most pos a res → a ≡ Made m → m .next ≤ length (marked s)
 made-inside a h e = got a h e .moved .stands .inside
 
 -- an answer that is a refusal
@@ -97,12 +97,12 @@ lost-of v s b b′ most pos a e (refuse k l) h f =
     let q : f .refusal ≡ e = refused-same a e (f .refusal) h (f .is) in
     record { number = k; left = l; is = refl; kind = ap (λ (x : Refusal). kindNumber (x .kind)) (sym q) ∙ f .number; place = ap (λ (x : Refusal). x .place) (sym q) ∙ f .place }
 
-pub lost : {A : Type 0} {v : A → View} {s b b′ : List ℕ} {most pos : ℕ} {e : Refusal} {res : Result A} (a : ReadAnswer) → Told v s b b′ most pos a res → a ≡ Refused e → Lost s e res
+pub lost : {A : Type 0} {v : A → View} {s b b′ : List ℕ} {most pos : ℕ} {e : Refusal} {res : Result A} (a : ReadAnswer) → ReadTold v s b b′ most pos a res → a ≡ Refused e → Lost s e res
 lost {A} {v} {s} {b} {b′} {most} {pos} {e} {res} a h f = lost-of v s b b′ most pos a e res f (h .after)
 
 -- a reader that begins with a part that is refused
 pub told-lost : {A B : Type 0} {v : B → View} {s b b′ : List ℕ} {most pos : ℕ} {e : Refusal} {res : Result A} (res′ : Result B) (f : A → List ℕ → Result B) → Lost s e res → res′ ≡ bind res f
-    → Told v s b b′ most pos (Refused e) res′
+    → ReadTold v s b b′ most pos (Refused e) res′
 told-lost {e = e} {res = res} res′ f l q =
     told-no (l .number) (l .left) res′ (q ∙ bind-no res f _ _ (l .is)) (record { refusal = e; is = refl; number = l .kind; place = l .place })
 
@@ -117,7 +117,7 @@ after-more v s b b′ m m′ pos a (ok x r) le f =
     }
 after-more v s b b′ m m′ pos a (refuse k left) le f = f
 
-pub told-more : {A : Type 0} {v : A → View} {s b b′ : List ℕ} {m m′ pos : ℕ} {a : ReadAnswer} {res : Result A} → m ≤ m′ → Told v s b b′ m pos a res → Told v s b b′ m′ pos a res
+pub told-more : {A : Type 0} {v : A → View} {s b b′ : List ℕ} {m m′ pos : ℕ} {a : ReadAnswer} {res : Result A} → m ≤ m′ → ReadTold v s b b′ m pos a res → ReadTold v s b b′ m′ pos a res
 told-more le h = record { after = after-more _ _ _ _ _ _ _ _ _ le (h .after) }
 
 -- a thing that something else is made of, with the same view
@@ -127,8 +127,8 @@ unfolding After bind
 after-map v v′ f h s b b′ most pos a (ok x r) g = record { made = g .made; is = g .is; moved = rw (h x) at (g .moved) }
 after-map v v′ f h s b b′ most pos a (refuse k q) g = g
 
-pub told-map : {A B : Type 0} {v : A → View} {v′ : B → View} {s b b′ : List ℕ} {most pos : ℕ} {a : ReadAnswer} {res : Result A} (f : A → B) → ((x : A) → v x ≡ v′ (f x)) → Told v s b b′ most pos a res
-    → Told v′ s b b′ most pos a (bind res (λ x r. ok (f x) r))
+pub told-map : {A B : Type 0} {v : A → View} {v′ : B → View} {s b b′ : List ℕ} {most pos : ℕ} {a : ReadAnswer} {res : Result A} (f : A → B) → ((x : A) → v x ≡ v′ (f x)) → ReadTold v s b b′ most pos a res
+    → ReadTold v′ s b b′ most pos a (bind res (λ x r. ok (f x) r))
 told-map {v = v} {v′ = v′} f h g = record { after = after-map v v′ f h _ _ _ _ _ _ _ (g .after) }
 
 -- TOKENS
@@ -254,7 +254,7 @@ stray-known n d aColon k f = eleven
 -- a reader that comes to a token which its rule denies, or to none
 stop-of : {A : Type 0} (v : A → View) (s b b′ : List ℕ) (most pos d at : ℕ) (a : ReadAnswer) (t : Cut) (f : Token → List ℕ → Result A) (u : Result Token)
     → Shown s t u → Cuts (place (drop at (marked s))) u → t .place ≡ length (marked s) - place (drop at (marked s)) → Strayed d t a
-    → ((tok : Token) (r : List ℕ) → t .code ≡ codeOf tok → u ≡ ok tok r → f tok r ≡ refuse (stray d tok) (place (drop at (marked s)))) → Told v s b b′ most pos a (bind u f)
+    → ((tok : Token) (r : List ℕ) → t .code ≡ codeOf tok → u ≡ ok tok r → f tok r ≡ refuse (stray d tok) (place (drop at (marked s)))) → ReadTold v s b b′ most pos a (bind u f)
 unfolding Shown bind strayBy
 stop-of v s b b′ most pos d at a t f (ok tok r) h c p st g =
     let e : strayBy d (t .code) (t .indicator) ≡ stray d tok = rw (h .code, h .indicator) (stray-is (place (drop at (marked s)) - 1) d tok (length r) (c .0)) in
@@ -273,6 +273,6 @@ stop-of v s b b′ most pos d at a t f (refuse k q) h c p st g =
 
 pub told-stop : {A : Type 0} {v : A → View} {s b b′ : List ℕ} {most pos at : ℕ} {a : ReadAnswer} {t : Cut} (d : ℕ) (f : Token → List ℕ → Result A) (res : Result A)
     → Took s at t → Strayed d t a → res ≡ bind (next (drop at (marked s))) f
-    → ((tok : Token) (r : List ℕ) → t .code ≡ codeOf tok → next (drop at (marked s)) ≡ ok tok r → f tok r ≡ refuse (stray d tok) (place (drop at (marked s)))) → Told v s b b′ most pos a res
+    → ((tok : Token) (r : List ℕ) → t .code ≡ codeOf tok → next (drop at (marked s)) ≡ ok tok r → f tok r ≡ refuse (stray d tok) (place (drop at (marked s)))) → ReadTold v s b b′ most pos a res
 told-stop {A} {v} {s} {b} {b′} {most} {pos} {at} {a} {t} d f res tk st q g =
     rw q (stop-of v s b b′ most pos d at a t f _ (tk .shown) (next-fine (drop at (marked s))) (place-at tk) st g)

@@ -10,8 +10,9 @@ use Rattle.cbor.specs.Widths.{Width, w0, w1, w2, w4, w8, limit, shortest, infor
 use Rattle.cbor.specs.Items.{Kind, byteString, textString, Size, definite, indefinite, Chunk, Item, int, string, chunked, array, map, tag, simple, Pairs, count, count₂}
 use Rattle.cbor.specs.Encode.{encodeString, encodeChunks, encode, encodeAll, encodeAll₂}
 use Rattle.cbor.specs.TypedArrays.{chunksLength, mayTag}
+use Rattle.cbor.specs.Decode.{Entry}
 use Rattle.typed_array.specs.TypedArrayAnswers.{mayTagBy}
-use Rattle.memory.specs.Buffer.{over, written, closed}
+use Rattle.memory.specs.Buffer.{over, headPut}
 use Rattle.refusal.specs.RefusalKinds.{kindNumber}
 use Rattle.head.specs.HeadAnswers.{headBytes}
 use Rattle.refusal.specs.declared.Refusal.{Refusal}
@@ -52,10 +53,6 @@ ofItem x = record { bytes = encode x; count = 1; note = noteOf x }
 unfoldable pub ofClosed : Closed → View
 ofClosed c = record { bytes = encodeAll (c .all); count = count (c .all); note = indicatorNumber (c .indicator) }
 
-pub record Entry : Type 0 where
-  pub key : Item
-  pub value : Item
-
 unfoldable pub ofEntry : Entry → View
 ofEntry e = record { bytes = encode (e .key) ++ encode (e .value); count = 1; note = 0 }
 
@@ -83,33 +80,33 @@ unfoldable pub followed : ℕ → ℕ → List ℕ → Result Item
 followed code d s = bind (reads (one d) s) (λ x r. bind (next r) (λ t r′. followBy code d x t (place r) r′))
 
 -- a key, a colon and a value
-unfoldable pub entry : ℕ → List ℕ → Result Entry
-entry d s = bind (followed 12 d s) (λ k r. bind (reads (one d) r) (λ x r′. ok (record { key = k; value = x }) r′))
+unfoldable pub entryRead : ℕ → List ℕ → Result Entry
+entryRead d s = bind (followed 12 d s) (λ k r. bind (reads (one d) r) (λ x r′. ok (record { key = k; value = x }) r′))
 
 -- a chunk of a kind
 unfoldable pub chunkOf : Kind → Kind → Size → List ℕ → ℕ → List ℕ → Result Chunk
 chunkOf k k′ (definite w) b p r = elim (isWanted (only k) k′) [ true ↦ ok (record { width = w; content = b }) r | false ↦ refuse mixedChunks p ]
 chunkOf k k′ indefinite b p r = refuse badIndicator p
 
-unfoldable pub chunkBy : Kind → ℕ → Token → ℕ → List ℕ → Result Chunk
-chunkBy k d (begins (leaf x)) p r = refuse (stray d (begins (leaf x))) p
-chunkBy k d (begins (literal k′ z b)) p r = chunkOf k k′ z b p r
-chunkBy k d (begins chunking) p r = refuse (stray d (begins chunking)) p
-chunkBy k d (begins (opens o)) p r = refuse (stray d (begins (opens o))) p
-chunkBy k d (closes h i) p r = refuse (stray d (closes h i)) p
-chunkBy k d aComma p r = refuse (stray d aComma) p
-chunkBy k d aColon p r = refuse (stray d aColon) p
+unfoldable pub chunkReadBy : Kind → ℕ → Token → ℕ → List ℕ → Result Chunk
+chunkReadBy k d (begins (leaf x)) p r = refuse (stray d (begins (leaf x))) p
+chunkReadBy k d (begins (literal k′ z b)) p r = chunkOf k k′ z b p r
+chunkReadBy k d (begins chunking) p r = refuse (stray d (begins chunking)) p
+chunkReadBy k d (begins (opens o)) p r = refuse (stray d (begins (opens o))) p
+chunkReadBy k d (closes h i) p r = refuse (stray d (closes h i)) p
+chunkReadBy k d aComma p r = refuse (stray d aComma) p
+chunkReadBy k d aColon p r = refuse (stray d aColon) p
 
 unfoldable pub chunkRead : Kind → ℕ → List ℕ → Result Chunk
-chunkRead k d s = bind (next s) (λ t r. chunkBy k d t (place s) r)
+chunkRead k d s = bind (next s) (λ t r. chunkReadBy k d t (place s) r)
 
 -- a string in chunks
 unfoldable pub chunkedRead : ℕ → List ℕ → Result Item
 chunkedRead d s = bind (reads (chunks either d) s) (λ c r. ok (chunked (c .kind) (c .all)) r)
 
 -- what stands behind an opening token at a place p, and the item of a tag with the check of typed arrays
-unfoldable pub within : ℕ → Opener → ℕ → List ℕ → Result Item
-within d o p s = obey reads (inside d o) p p s
+unfoldable pub behindOpener : ℕ → Opener → ℕ → List ℕ → Result Item
+behindOpener d o p s = obey reads (inside d o) p p s
 
 unfoldable pub taggedRead : ℕ → ℕ → ℕ → List ℕ → Result Item
 taggedRead d n p s = bind (followed 14 d s) (λ x r. elim (mayTag n x) [ true ↦ ok x r | false ↦ refuse badTypedArray p ])
@@ -253,7 +250,7 @@ pub record Heavy (major size : ℕ) : Type 0 where
 
 -- a reader's answer m, at pos: a thing x was read, and r is left. Its bytes are at most nine for each byte of the text, of which there
 -- were `most`, and they are in the buffer from pos on, if they fit
-pub record Moved (s b b′ : List ℕ) (most pos : ℕ) (m : MadeS) (x : View) (r : List ℕ) : Type 0 where
+pub record MovedOn (s b b′ : List ℕ) (most pos : ℕ) (m : MadeS) (x : View) (r : List ℕ) : Type 0 where
   pub stands : Stands (marked s) (m .next) r
   pub sized : m .size ≡ length (x .bytes)
   pub counted : m .count ≡ x .count
@@ -265,7 +262,7 @@ pub record Moved (s b b′ : List ℕ) (most pos : ℕ) (m : MadeS) (x : View) (
 pub record Became {A : Type 0} (v : A → View) (s b b′ : List ℕ) (most pos : ℕ) (a : ReadAnswer) (x : A) (r : List ℕ) : Type 0 where
   pub made : MadeS
   pub is : a ≡ Made made
-  pub moved : Moved s b b′ most pos made (v x) r
+  pub moved : MovedOn s b b′ most pos made (v x) r
 
 -- a refusal by the number k where q is left
 pub record Denied (s : List ℕ) (a : ReadAnswer) (k q : ℕ) : Type 0 where
@@ -279,12 +276,12 @@ After v s b b′ most pos a (ok x r) = Became v s b b′ most pos a x r
 After v s b b′ most pos a (refuse k q) = Denied s a k q
 
 -- what a reader at pos tells of the result that the definitions have
-pub record Told {A : Type 0} (v : A → View) (s b b′ : List ℕ) (most pos : ℕ) (a : ReadAnswer) (res : Result A) : Type 0 where
+pub record ReadTold {A : Type 0} (v : A → View) (s b b′ : List ℕ) (most pos : ℕ) (a : ReadAnswer) (res : Result A) : Type 0 where
   pub after : After v s b b′ most pos a res
 
 -- the same of chunks, whose note is their kind
 pub record ChunksTold (kind : ℕ) (s b b′ : List ℕ) (most pos : ℕ) (a : ReadAnswer) (res : Result Chunks) : Type 0 where
-  pub told : Told (ofChunks (kindFor kind)) s b b′ most pos a res
+  pub told : ReadTold (ofChunks (kindFor kind)) s b b′ most pos a res
   pub kept : (m : MadeS) → a ≡ Made m → m .note ≡ kind
 
 -- a refusal at a token that may not stand where it does
@@ -332,7 +329,7 @@ pub record LiteralTold (s : List ℕ) (t : Cut) (b b′ : List ℕ) (pos : ℕ) 
 pub record Finished (b b′ : List ℕ) (pos major width n : ℕ) (m : MadeS) (place note : ℕ) (a : ReadAnswer) : Type 0 where
   pub refused : width ≡ 0 → Denies badIndicator place a
   pub made : (width ≡ 0 → ⊥) → a ≡ Made (record { next = m .next; size = length (headBytes (major * 32 + infoBy width n) n) + m .size; count = 1; note = note })
-  pub closed : (width ≡ 0 → ⊥) → b′ ≡ closed b pos (headBytes (major * 32 + infoBy width n) n) (m .size)
+  pub closed : (width ≡ 0 → ⊥) → b′ ≡ headPut b pos (headBytes (major * 32 + infoBy width n) n) (m .size)
 
 -- a thing of indefinite length: the byte `first` was put before what m has, and a break behind it
 pub record Ended (b b′ : List ℕ) (pos first : ℕ) (m : MadeS) (note : ℕ) (a : ReadAnswer) : Type 0 where

@@ -16,10 +16,10 @@ use borrow.Author.Tests.{le-leb, lt-leb, eq-eqb, ne-eqb}
 use Rattle.cbor.specs.Refusals.{Result, ok, refuse, bind, float, endsInside, notWellFormed}
 use Rattle.cbor.specs.Widths.{Width, w0, w1, w2, w4, w8, argumentBytes, limit, fits, shortest, information, bigEndian, valueFrom}
 use Rattle.cbor.specs.Items.{Size, definite, indefinite}
-use Rattle.cbor.specs.Heads.{Major, integers, strings, arrays, maps, tags, simples, majorNumber, majorOf, initial, head, Head, Information, argument, reserved, indefinitely, informationOf, isFloat, isAllowed, isIndefinite, taking, started, argued, headBy, nextHead}
+use Rattle.cbor.specs.Heads.{Major, integers, strings, arrays, maps, tags, simples, majorNumber, majorOf, initial, head, Head, Information, argument, reserved, openEnded, informationOf, isFloat, isAllowed, isIndefinite, taking, started, argued, headBy, nextHead}
 use Rattle.refusal.specs.RefusalKinds.{kindNumber}
-use Rattle.memory.specs.Buffer.{over, written}
-use Rattle.head.specs.HeadAnswers.{HeadTold, head as toldHead, refused, headTold, sizeInformation, headFrom, headAt, formBy, formOf, Formed, Widened, Inside, argumentBy, leastArgument, argumentSize, headBytes}
+use Rattle.memory.specs.Buffer.{over, overIfFits}
+use Rattle.head.specs.HeadAnswers.{HeadTold, headFound as toldHead, headRefused, headTold, sizeInformation, headFrom, headAt, formBy, formOf, Formed, Widened, Inside, argumentBy, leastArgument, argumentSize, headBytes}
 use Rattle.head.specs.declared.HeadRead.the-variants as HeadRead
 use Rattle.refusal.specs.declared.RefusalKind.{RefusalKind}
 use Rattle.refusal.specs.declared.RefusalKind.the-variants.{Float, EndsInside, NotWellFormed}
@@ -34,12 +34,12 @@ use Rattle.memory.proofs.Buffer.{over-nil, over-set, written-fits, written-not,
 sizeBy : Information → ℕ
 sizeBy (argument w) = argumentBytes w
 sizeBy reserved = 0
-sizeBy indefinitely = 0
+sizeBy openEnded = 0
 
 infoBy : Information → ℕ → ℕ
 infoBy (argument w) i = information w i
 infoBy reserved i = i
-infoBy indefinitely i = 31
+infoBy openEnded i = 31
 
 leastBy : Major → Information → ℕ
 leastBy (integers g) i = 0
@@ -53,7 +53,7 @@ leastBy simples (argument w2) = 0
 leastBy simples (argument w4) = 0
 leastBy simples (argument w8) = 0
 leastBy simples reserved = 0
-leastBy simples indefinitely = 0
+leastBy simples openEnded = 0
 
 -- the tests of the code's `form`
 formCode : ℕ → ℕ → ℕ
@@ -273,7 +273,7 @@ pub ruleset argument-ways = (argument-none, argument-some)
 
 -- HEADS, READ
 
-pub told-refused : (kind : RefusalKind) (place : ℕ) → headTold (HeadRead.Refused (record { kind = kind; place = place })) ≡ refused (kindNumber kind) place
+pub told-refused : (kind : RefusalKind) (place : ℕ) → headTold (HeadRead.Refused (record { kind = kind; place = place })) ≡ headRefused (kindNumber kind) place
 unfolding headTold
 told-refused kind place = refl
 
@@ -284,7 +284,7 @@ told-head major info n end = refl
 -- what an initial byte may say, with its number f
 data Form (m : Major) (x : Information) (f : ℕ) : Type 0 where
   isArgument : (w : Width) → x ≡ argument w → isFloat m w ≡ false → f ≡ 0 → Form m x f
-  isOpen : x ≡ indefinitely → isIndefinite m ≡ true → f ≡ 31 → Form m x f
+  isOpen : x ≡ openEnded → isIndefinite m ≡ true → f ≡ 31 → Form m x f
   isRefused : (n : ℕ) → ((i left : ℕ) (s : List ℕ) → headBy m x i left s ≡ refuse n left) → f ≡ n → 0 < n → n < 31 → ((n ≡ 6 → ⊥) → n ≡ 16) → Form m x f
 
 formView : (m : Major) (x : Information) → Form m x (formBy m x)
@@ -295,9 +295,9 @@ formView m (argument w) = go (isFloat m w) refl
     go true e = isRefused 6 (λ i left s. rw (e, headBy)) refl (omega arith) (omega arith) (λ n. absurd (n refl))
     go false e = isArgument w refl e refl
 formView m reserved = isRefused 16 (λ i left s. refl) refl (omega arith) (omega arith) (λ n. refl)
-formView m indefinitely = go (isIndefinite m) refl
+formView m openEnded = go (isIndefinite m) refl
   where
-    go : (t : Bool) → isIndefinite m ≡ t → Form m indefinitely (elim t [ true ↦ 31 | false ↦ notWellFormed ])
+    go : (t : Bool) → isIndefinite m ≡ t → Form m openEnded (elim t [ true ↦ 31 | false ↦ notWellFormed ])
     go true e = isOpen refl e refl
     go false e = isRefused 16 (λ i left s. rw (e, headBy)) refl (omega arith) (omega arith) (λ n. refl)
 
@@ -353,9 +353,9 @@ module _ (m : Major) (w : Width) (i left : ℕ) (s : List ℕ) (e : isFloat m w 
     whole l = value ∙ rw (allowed m w n ∙ le-leb (leastBy m (argument w)) n l, argued)
 
 -- `read_head`: a way to each of its returns
-pub head-end : {t : HeadTold} (s : List ℕ) (at : ℕ) → length s ≤ at → t ≡ refused (kindNumber EndsInside) (length s) → t ≡ headAt s at
+pub head-end : {t : HeadTold} (s : List ℕ) (at : ℕ) → length s ≤ at → t ≡ headRefused (kindNumber EndsInside) (length s) → t ≡ headAt s at
 unfolding headAt headFrom nextHead kindNumber
-head-end s at h e = e ∙ ap (refused endsInside) (sym (sub-zero (length s))) ∙ rw (drop-of-length-le s h)
+head-end s at h e = e ∙ ap (headRefused endsInside) (sym (sub-zero (length s))) ∙ rw (drop-of-length-le s h)
 
 -- the parts of the initial byte at a place: major type, additional information and what it says
 abbrev majorAt : List ℕ → ℕ → Major
@@ -381,32 +381,32 @@ module _ (s : List ℕ) (at : ℕ) (h : at < length s) where
       let e : suc (length (drop (at + 1) s)) ≡ length s - at = rw (length-drop (at + 1) s) (omega arith) in
       rw (front s at h) (ap (λ (k : ℕ). headBy (majorAt s at) (saysAt s at) (lowAt s at) k (drop (at + 1) s)) e)
 
-  refusal : (n : ℕ) → here ≡ refuse n (length s - at) → refused n at ≡ headAt s at
+  refusal : (n : ℕ) → here ≡ refuse n (length s - at) → headRefused n at ≡ headAt s at
   unfolding headAt headFrom
   refusal n e =
       let p : at ≡ length s - (length s - at) = omega arith in
-      ap (refused n) p ∙ sym (ap (headFrom (length s)) (next ∙ e))
+      ap (headRefused n) p ∙ sym (ap (headFrom (length s)) (next ∙ e))
 
   module _ (f : ℕ) (k : Formed (getD s at 0) f) where
     facts : Initial (getD s at 0)
     facts = initials (getD s at 0) (k .byte)
 
-    refusedBy : (n : ℕ) → 0 < n → n < 31 → f ≡ n → refused n at ≡ headAt s at
+    refusedBy : (n : ℕ) → 0 < n → n < 31 → f ≡ n → headRefused n at ≡ headAt s at
     unfolding formOf here headHere
     refusedBy n l u e = go (formView (majorAt s at) (saysAt s at))
       where
-        go : Form (majorAt s at) (saysAt s at) (formBy (majorAt s at) (saysAt s at)) → refused n at ≡ headAt s at
+        go : Form (majorAt s at) (saysAt s at) (formBy (majorAt s at) (saysAt s at)) → headRefused n at ≡ headAt s at
         go (isArgument w x y z) = absurd (omega (arith, k .is))
         go (isOpen x y z) = absurd (omega (arith, k .is))
         go (isRefused c y z l′ u′ o) =
             let e′ : c ≡ n = omega (arith, k .is) in
             refusal n (y (lowAt s at) (length s - at) (drop (at + 1) s) ∙ ap (λ (x : ℕ). refuse x (length s - at)) e′)
 
-    pub head-float : {t : HeadTold} → f ≡ 6 → t ≡ refused (kindNumber Float) at → t ≡ headAt s at
+    pub head-float : {t : HeadTold} → f ≡ 6 → t ≡ headRefused (kindNumber Float) at → t ≡ headAt s at
     unfolding kindNumber
     head-float e q = q ∙ refusedBy 6 (omega arith) (omega arith) e
 
-    pub head-bad : {t : HeadTold} → f ≡ 16 → t ≡ refused (kindNumber NotWellFormed) at → t ≡ headAt s at
+    pub head-bad : {t : HeadTold} → f ≡ 16 → t ≡ headRefused (kindNumber NotWellFormed) at → t ≡ headAt s at
     unfolding kindNumber
     head-bad e q = q ∙ refusedBy 16 (omega arith) (omega arith) e
 
@@ -428,7 +428,7 @@ module _ (s : List ℕ) (at : ℕ) (h : at < length s) where
         go (isOpen x y z) =
             let p : at + 1 ≡ length s - length (drop (at + 1) s) = rw (length-drop (at + 1) s) (omega arith) in
             let i : 31 ≡ lowAt s at = sym (ap (λ (c : Information). infoBy c (lowAt s at)) x) ∙ facts .info in
-            let o : headHere (majorAt s at) indefinitely (lowAt s at) ≡ ok (record { major = majorAt s at; size = indefinite; argument = 0 }) (drop (at + 1) s) = rw (y, headBy) in
+            let o : headHere (majorAt s at) openEnded (lowAt s at) ≡ ok (record { major = majorAt s at; size = indefinite; argument = 0 }) (drop (at + 1) s) = rw (y, headBy) in
             let r = ap (λ (c : Information). headHere (majorAt s at) c (lowAt s at)) x ∙ o in
             q ∙ telling (majorAt s at) indefinite 0 (drop (at + 1) s) r refl i (at + 1) p
         go (isRefused c y z l′ u′ o) = absurd (omega (arith, k .is))
@@ -459,7 +459,7 @@ module _ (s : List ℕ) (at : ℕ) (h : at < length s) where
           go (isOpen x y z) = absurd (n₃ (k .is ∙ z))
           go (isRefused c y z l′ u′ o) = let q : c ≡ 16 = o (λ v. n₁ (k .is ∙ z ∙ v)) in absurd (n₂ (k .is ∙ z ∙ q))
 
-      pub head-short : {t : HeadTold} → length s - at ≤ size → t ≡ refused (kindNumber EndsInside) at → t ≡ headAt s at
+      pub head-short : {t : HeadTold} → length s - at ≤ size → t ≡ headRefused (kindNumber EndsInside) at → t ≡ headAt s at
       unfolding kindNumber headHere
       head-short l q =
           let g = given in
@@ -467,7 +467,7 @@ module _ (s : List ℕ) (at : ℕ) (h : at < length s) where
           q ∙ refusal endsInside (g .reads ∙ short (majorAt s at) (g .width) (lowAt s at) (length s - at) (drop (at + 1) s) (g .exact) b)
 
       module _ (l : size < length s - at) {n : ℕ} (en : n ≡ argumentBy size (getD s at 0 % 32) (take size (drop (at + 1) s))) where
-        pub head-little : {t : HeadTold} {x : ℕ} → x ≡ leastArgument (getD s at 0) → n < x → t ≡ refused (kindNumber NotWellFormed) at → t ≡ headAt s at
+        pub head-little : {t : HeadTold} {x : ℕ} → x ≡ leastArgument (getD s at 0) → n < x → t ≡ headRefused (kindNumber NotWellFormed) at → t ≡ headAt s at
         unfolding kindNumber headHere
         head-little ex lt q =
             let g = given in
@@ -539,19 +539,19 @@ module _ {b : List ℕ} {from size n : ℕ} where
         split = inv .split ∙ ap (λ (x : ℕ). bigEndian x m ++ inv .done) e₁ ∙ last-byte (k - 1) m (inv .done);
       }
 
-  pub fill-end : {k m : ℕ} {l : List ℕ} → Filling b from size n k m l → k ≤ 0 → l ≡ written b from (bigEndian size n)
+  pub fill-end : {k m : ℕ} {l : List ℕ} → Filling b from size n k m l → k ≤ 0 → l ≡ overIfFits b from (bigEndian size n)
   unfolding bigEndian
   fill-end {k} {m} {l} inv h =
       let e : k ≡ 0 = omega arith in
       let p : from + k ≡ from = omega arith in
       let q : bigEndian size n ≡ inv .done = inv .split ∙ ap (λ (x : ℕ). bigEndian x m ++ inv .done) e in
       let f : from + length (inv .done) ≤ length b = omega (arith, inv .room, inv .sized) in
-      inv .is ∙ ap (λ (x : ℕ). over b x (inv .done)) p ∙ sym (written-fits b from (inv .done) f) ∙ ap (written b from) (sym q)
+      inv .is ∙ ap (λ (x : ℕ). over b x (inv .done)) p ∙ sym (written-fits b from (inv .done) f) ∙ ap (overIfFits b from) (sym q)
 
-pub fill-long : (b : List ℕ) (from size n : ℕ) → length b < size → b ≡ written b from (bigEndian size n)
+pub fill-long : (b : List ℕ) (from size n : ℕ) → length b < size → b ≡ overIfFits b from (bigEndian size n)
 fill-long b from size n h = sym (written-not b from (bigEndian size n) (rw (length-big size n) (omega arith)))
 
-pub fill-late : (b : List ℕ) (from size n : ℕ) → size ≤ length b → length b - size < from → b ≡ written b from (bigEndian size n)
+pub fill-late : (b : List ℕ) (from size n : ℕ) → size ≤ length b → length b - size < from → b ≡ overIfFits b from (bigEndian size n)
 fill-late b from size n h g = sym (written-not b from (bigEndian size n) (rw (length-big size n) (omega arith)))
 
 pub ruleset fill-ways = (fill-long, fill-late, fill-end)
@@ -561,20 +561,20 @@ unfolding headBytes
 length-headBytes i n = ap suc (length-big (argumentSize (i % 32)) n)
 
 module _ (b : List ℕ) (at i n : ℕ) where
-  pub write-past : length b ≤ at → b ≡ written b at (headBytes i n)
+  pub write-past : length b ≤ at → b ≡ overIfFits b at (headBytes i n)
   write-past h = sym (written-not b at (headBytes i n) (omega (arith, length-headBytes i n)))
 
   module _ {size : ℕ} (e : size ≡ argumentSize (i % 32)) (h : at < length b) where
-    pub write-late : length b - at ≤ size → b ≡ written b at (headBytes i n)
+    pub write-late : length b - at ≤ size → b ≡ overIfFits b at (headBytes i n)
     write-late g = sym (written-not b at (headBytes i n) (omega (arith, length-headBytes i n)))
 
-    pub write-done : {l : List ℕ} → size < length b - at → l ≡ written (set b at i) (at + 1) (bigEndian size n) → l ≡ written b at (headBytes i n)
+    pub write-done : {l : List ℕ} → size < length b - at → l ≡ overIfFits (set b at i) (at + 1) (bigEndian size n) → l ≡ overIfFits b at (headBytes i n)
     unfolding headBytes
     write-done g q =
         let f : at + suc (length (bigEndian size n)) ≤ length b = rw (length-big size n) (omega arith) in
-        q ∙ written-behind b at i (bigEndian size n) f ∙ ap (λ (k : ℕ). written b at (i ∷ bigEndian k n)) e
+        q ∙ written-behind b at i (bigEndian size n) f ∙ ap (λ (k : ℕ). overIfFits b at (i ∷ bigEndian k n)) e
 
-pub write-same : {l : List ℕ} (b ws : List ℕ) (at v p : ℕ) → l ≡ written (set b at v) p ws → length l ≡ length b
+pub write-same : {l : List ℕ} (b ws : List ℕ) (at v p : ℕ) → l ≡ overIfFits (set b at v) p ws → length l ≡ length b
 write-same b ws at v p e = ap length e ∙ length-written (set b at v) p ws ∙ length-set b at v
 
 pub ruleset write-ways = (write-past, write-late, write-done)

@@ -8,7 +8,7 @@ use lib.ListN.{length, drop}
 use Rattle.cbor.specs.Refusals.{Result, ok, refuse, float, notWellFormed}
 use Rattle.cbor.specs.Widths.{information, bigEndian, valueFrom}
 use Rattle.cbor.specs.Items.{Size, definite, indefinite}
-use Rattle.cbor.specs.Heads.{Major, majorNumber, majorOf, Head, Information, argument, reserved, indefinitely, informationOf, isFloat, isIndefinite, nextHead}
+use Rattle.cbor.specs.Heads.{Major, majorNumber, majorOf, Head, Information, argument, reserved, openEnded, informationOf, isFloat, isIndefinite, nextHead}
 use Rattle.refusal.specs.RefusalKinds.{kindNumber}
 use Rattle.head.specs.declared.HeadRead.{HeadRead}
 use Rattle.head.specs.declared.HeadRead.the-variants.{Head as HeadV, Refused as RefusedV}
@@ -17,12 +17,12 @@ use Rattle.head.specs.declared.HeadRead.the-variants.{Head as HeadV, Ref
 
 -- what is told of a head: major type, additional information, argument and where it ends; or a refusal's number and place
 pub data HeadTold : Type 0 where
-  head : ℕ → ℕ → ℕ → ℕ → HeadTold
-  refused : ℕ → ℕ → HeadTold
+  headFound : ℕ → ℕ → ℕ → ℕ → HeadTold
+  headRefused : ℕ → ℕ → HeadTold
 
 unfoldable pub headTold : HeadRead → HeadTold
-headTold (HeadV h) = head (h .major) (h .info) (h .argument) (h .end)
-headTold (RefusedV e) = refused (kindNumber (e .kind)) (e .place)
+headTold (HeadV h) = headFound (h .major) (h .info) (h .argument) (h .end)
+headTold (RefusedV e) = headRefused (kindNumber (e .kind)) (e .place)
 
 -- the additional information of a size whose argument is n
 unfoldable pub sizeInformation : Size → ℕ → ℕ
@@ -31,8 +31,8 @@ sizeInformation indefinite n = 31
 
 -- the same of what was read from bytes of some length
 unfoldable pub headFrom : ℕ → Result Head → HeadTold
-headFrom size (ok h r) = head (majorNumber (h .major)) (sizeInformation (h .size) (h .argument)) (h .argument) (size - length r)
-headFrom size (refuse n left) = refused n (size - left)
+headFrom size (ok h r) = headFound (majorNumber (h .major)) (sizeInformation (h .size) (h .argument)) (h .argument) (size - length r)
+headFrom size (refuse n left) = headRefused n (size - left)
 
 unfoldable pub headAt : List ℕ → ℕ → HeadTold
 headAt s at = headFrom (length s) (nextHead (drop at s))
@@ -41,7 +41,7 @@ headAt s at = headFrom (length s) (nextHead (drop at s))
 unfoldable pub formBy : Major → Information → ℕ
 formBy m (argument w) = elim (isFloat m w) [ true ↦ float | false ↦ 0 ]
 formBy m reserved = notWellFormed
-formBy m indefinitely = elim (isIndefinite m) [ true ↦ 31 | false ↦ notWellFormed ]
+formBy m openEnded = elim (isIndefinite m) [ true ↦ 31 | false ↦ notWellFormed ]
 
 unfoldable pub formOf : ℕ → ℕ
 formOf b = formBy (majorOf (b / 32)) (informationOf (b % 32))

@@ -5,9 +5,9 @@ ghost use mathlib.Core.Path.{_≡_};
 ghost use Prim.Native.Nat.{_/_, _%_};
 ghost use lib.ListN.{take, drop};
 ghost use Rattle.cbor.specs.Widths.{shortest, information, bigEndian, valueFrom};
-ghost use Rattle.memory.specs.Buffer.{written};
+ghost use Rattle.memory.specs.Buffer.{overIfFits};
 ghost use Rattle.refusal.specs.RefusalKinds.{kindNumber};
-ghost use Rattle.head.specs.HeadAnswers.{head, refused, headTold, headAt, argumentSize, headBytes, Formed, Widened, Inside, argumentBy, leastArgument};
+ghost use Rattle.head.specs.HeadAnswers.{headFound, headRefused, headTold, headAt, argumentSize, headBytes, Formed, Widened, Inside, argumentBy, leastArgument};
 
 // A head that was read. Its additional information is the argument itself up to 23, 24 to 27 where the argument is in the
 // bytes behind it, and 31 where the length is indefinite, or at a break; the argument is 0 there. It ends before `end`.
@@ -24,13 +24,13 @@ pub enum HeadRead {
 }
 
 fn refuse(kind: RefusalKind, place: usize) -> HeadRead
-    ensures { λ r. ⌜ headTold r ≡ refused (kindNumber kind) place ⌝ }
+    ensures { λ r. ⌜ headTold r ≡ headRefused (kindNumber kind) place ⌝ }
 {
     HeadRead::Refused(Refusal { kind, place })
 }
 
 fn found(initial: u8, argument: u64, end: usize) -> HeadRead
-    ensures { λ r. ⌜ headTold r ≡ head (initial / 32) (initial % 32) argument end ⌝ }
+    ensures { λ r. ⌜ headTold r ≡ headFound (initial / 32) (initial % 32) argument end ⌝ }
 {
     HeadRead::Head(HeadAt {
         major: initial / 32,
@@ -165,7 +165,7 @@ pub fn shortest_info(n: u64) -> u8
 
 // Writes a number in `size` bytes from a place on, high byte first, if they fit.
 pub fn write_number(out: &mut [u8], from: usize, size: usize, n: u64)
-    ensures { λ _. ⌜ now (out .exit) ≡ written (now (out .entry)) from (bigEndian size n) ⌝ }
+    ensures { λ _. ⌜ now (out .exit) ≡ overIfFits (now (out .entry)) from (bigEndian size n) ⌝ }
 {
     if out.len() < size {
         return;
@@ -184,7 +184,7 @@ pub fn write_number(out: &mut [u8], from: usize, size: usize, n: u64)
 
 // Writes an initial byte and the bytes of the argument that its additional information asks for, if they all fit.
 pub fn write_head(out: &mut [u8], at: usize, initial: u8, argument: u64)
-    ensures { λ _. ⌜ now (out .exit) ≡ written (now (out .entry)) at (headBytes initial argument) ⌝ }
+    ensures { λ _. ⌜ now (out .exit) ≡ overIfFits (now (out .entry)) at (headBytes initial argument) ⌝ }
 {
     let size = argument_size(initial % 32);
     if out.len() <= at {

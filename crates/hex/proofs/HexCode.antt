@@ -11,7 +11,7 @@ use borrow.Author.Tests.{eq-eqb, ne-eqb, lt-ltb, le-ltb, leb-true, leb-false}
 use Rattle.memory.specs.Buffer.{over}
 use Rattle.notation.specs.Classes.{blank, is}
 use Rattle.notation.specs.Numbers.{digitValue, isDigit}
-use Rattle.notation.specs.Literals.{Content, content, bad, after, Commenting, outside, inSlash, inHash, Half, none, high, halfEnd, hexDigit, hexFrom, hexContent}
+use Rattle.notation.specs.Literals.{Content, standsFor, bad, after, Commenting, noComment, inSlash, inHash, Half, noHalf, high, halfEnd, hexDigit, hexFrom, hexContent}
 use Rattle.literal_body.specs.LiteralAnswers.{decodedBy, Decodes, Put, Fills, few}
 use Rattle.hex.specs.HexAnswers.{commentingOf, halfOf, hexNext, HexMoved, hexEndedBy, HexEnded}
 use Rattle.hex.specs.declared.HexStep.{HexStep}
@@ -21,7 +21,7 @@ use Rattle.literal_body.proofs.LiteralCode.{slash-is, hash-is, front-part, part
 
 -- A STEP
 
-commenting : (m : ℕ) → (m ≡ 1 → ⊥) → (m ≡ 2 → ⊥) → commentingOf m ≡ outside
+commenting : (m : ℕ) → (m ≡ 1 → ⊥) → (m ≡ 2 → ⊥) → commentingOf m ≡ noComment
 unfolding commentingOf
 commenting m n₁ n₂ = simp (commentingOf, ne-eqb m 1 n₁, ne-eqb m 2 n₂)
 
@@ -33,7 +33,7 @@ stay m h b k h′ n e f =
     subst⁻¹ (HexMoved m h b) e
     (record { is = λ s. f s ∙ sym (rw (n, hexNext) (after-nil (hexFrom (commentingOf k) (halfOf h′) s))); most = omega arith })
 
-half-none : (h : ℕ) → 16 ≤ h → halfOf h ≡ none
+half-none : (h : ℕ) → 16 ≤ h → halfOf h ≡ noHalf
 unfolding halfOf
 half-none h g = rw (le-ltb h 16 g, halfOf)
 
@@ -41,7 +41,7 @@ half-high : (h : ℕ) → h < 16 → halfOf h ≡ high h
 unfolding halfOf
 half-high h g = rw (lt-ltb h 16 g, halfOf)
 
-hash-ends : (b : ℕ) (h : Half) (s : List ℕ) → eqb b 0x0a ≡ true → hexFrom inHash h (b ∷ s) ≡ hexFrom outside h s
+hash-ends : (b : ℕ) (h : Half) (s : List ℕ) → eqb b 0x0a ≡ true → hexFrom inHash h (b ∷ s) ≡ hexFrom noComment h s
 unfolding hexFrom
 hash-ends b h s e = rw (e, hexFrom)
 
@@ -85,7 +85,7 @@ module _ (m h b : ℕ) where
 
         module _ (q₂ : b ≡ 0x23 → ⊥) {v : ℕ} (d : v ≡ digitValue b) where
           digit : (s : List ℕ) → hexFrom (commentingOf m) (halfOf h) (b ∷ s)
-              ≡ elim (isDigit 16 b) [ true ↦ hexDigit (halfOf h) (digitValue b) (λ h′. hexFrom outside h′ s) | false ↦ bad ]
+              ≡ elim (isDigit 16 b) [ true ↦ hexDigit (halfOf h) (digitValue b) (λ h′. hexFrom noComment h′ s) | false ↦ bad ]
           unfolding hexFrom
           digit s = rw (commenting m n₁ n₂, sym x ∙ q, slash-is b u ∙ ne-eqb b 0x2f q₁, hash-is b u ∙ ne-eqb b 0x23 q₂, hexFrom)
 
@@ -105,15 +105,15 @@ module _ (m h b : ℕ) where
             hex-high g p =
                 stay m h b 0 v refl p
                 (λ s. digit s ∙ rw isIt
-                (ap (λ (x : Half). hexDigit x (digitValue b) (λ h′. hexFrom outside h′ s)) (half-none h g) ∙ ap (λ (x : Half). hexFrom outside x s) (ap high (sym d) ∙ sym (half-high v l))))
+                (ap (λ (x : Half). hexDigit x (digitValue b) (λ h′. hexFrom noComment h′ s)) (half-none h g) ∙ ap (λ (x : Half). hexFrom noComment x s) (ap high (sym d) ∙ sym (half-high v l))))
 
             pub hex-low : h < 16 → HexMoved m h b (record { mode = 0; half = 16; count = 1; byte = h * 16 + v })
             unfolding commentingOf hexDigit hexNext few
             hex-low g =
                 record {
                   is = λ s. digit s ∙ rw isIt
-                      (ap (λ (x : Half). hexDigit x (digitValue b) (λ h′. hexFrom outside h′ s)) (half-high h g)
-                      ∙ (λ j. after ((h * 16 + sym d j) ∷ []) (hexFrom outside (sym (half-none 16 (omega arith)) j) s)));
+                      (ap (λ (x : Half). hexDigit x (digitValue b) (λ h′. hexFrom noComment h′ s)) (half-high h g)
+                      ∙ (λ j. after ((h * 16 + sym d j) ∷ []) (hexFrom noComment (sym (half-none 16 (omega arith)) j) s)));
                   most = omega arith;
                 }
 
@@ -149,7 +149,7 @@ pub record HexRun (s : List ℕ) (at end i m h : ℕ) (done : List ℕ) : Type 0
 
 run-start : (s : List ℕ) (at end : ℕ) → HexRun s at end at 0 16 []
 unfolding hexContent commentingOf halfOf
-run-start s at end = record { from = omega arith; left = sym (after-nil (hexFrom outside none (take (end - at) (drop at s)))); short = omega arith }
+run-start s at end = record { from = omega arith; left = sym (after-nil (hexFrom noComment noHalf (take (end - at) (drop at s)))); short = omega arith }
 
 hex-bad : (r : HexStep) (s : List ℕ) → r .mode ≡ 3 → hexNext r s ≡ bad
 unfolding hexNext
@@ -227,13 +227,13 @@ module _ {s : List ℕ} {at end stop i size m h : ℕ} (inv : HexScan s at end s
     where
       go : (t : Bool) → hexContent (take (end - at) (drop at s)) ≡ after (inv .done) (hexEndedBy t)
           → Decodes (record { good = t; next = end; size = size }) (hexContent (take (end - at) (drop at s)))
-      go true e = decodes (content (inv .done ++ [])) e (refl, inv .sized ∙ sym (ap length (append-nil (inv .done))))
+      go true e = decodes (standsFor (inv .done ++ [])) e (refl, inv .sized ∙ sym (ap length (append-nil (inv .done))))
       go false e = decodes bad e refl
 
-ends : (k : Commenting) (h : Half) (w c : List ℕ) → after w (hexFrom k h []) ≡ content c → hexFrom k h [] ≡ content []
+ends : (k : Commenting) (h : Half) (w c : List ℕ) → after w (hexFrom k h []) ≡ standsFor c → hexFrom k h [] ≡ standsFor []
 unfolding hexFrom halfEnd after
-ends outside none w c e = refl
-ends outside (high v) w c e = let z : _≡_ {A = ℕ} 0 1 = cc in absurd (omega arith)
+ends noComment noHalf w c e = refl
+ends noComment (high v) w c e = let z : _≡_ {A = ℕ} 0 1 = cc in absurd (omega arith)
 ends inSlash h w c e = let z : _≡_ {A = ℕ} 0 1 = cc in absurd (omega arith)
 ends inHash h w c e = let z : _≡_ {A = ℕ} 0 1 = cc in absurd (omega arith)
 
@@ -260,9 +260,9 @@ module _ {s b b′ : List ℕ} {at end pos stop i p m h : ℕ} (inv : HexPut s b
         let w = put-more (inv .wrote) y in
         record { done = inv .done ++ few (r .count) (r .byte); run = run-on (inv .run) (inv .stops) l x n; stops = inv .stops; wrote = w; same = w .same }
 
-  whole : (t : Content) (c : List ℕ) → after (inv .done) t ≡ content c → t ≡ content [] → c ≡ inv .done
+  whole : (t : Content) (c : List ℕ) → after (inv .done) t ≡ standsFor c → t ≡ standsFor [] → c ≡ inv .done
   unfolding after
-  whole t c e f = let g : content c ≡ content (inv .done ++ []) = sym e ∙ ap (after (inv .done)) f in content-is g ∙ append-nil (inv .done)
+  whole t c e f = let g : standsFor c ≡ standsFor (inv .done ++ []) = sym e ∙ ap (after (inv .done)) f in content-is g ∙ append-nil (inv .done)
 
   pub put-end : stop ≤ i → Fills b b′ pos (hexContent (take (end - at) (drop at s)))
   put-end l =

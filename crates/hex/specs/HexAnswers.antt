@@ -4,16 +4,16 @@ use mathlib.Core.Path.{_≡_}
 use mathlib.Core.List.{List, [], _∷_}
 use mathlib.Core.Bool.{Bool, true, false}
 use lib.Dec.{eqb, ltb}
-use Rattle.notation.specs.Literals.{Content, content, bad, after, Commenting, outside, inSlash, inHash, Half, none, high, hexFrom}
+use Rattle.notation.specs.Literals.{Content, standsFor, bad, after, Commenting, noComment, inSlash, inHash, Half, noHalf, high, hexFrom}
 use Rattle.literal_body.specs.LiteralAnswers.{few}
 use Rattle.hex.specs.declared.HexStep.{HexStep}
 
 -- THE STATES OF HEXADECIMAL TEXT: 1 in a comment of slashes, 2 in one behind a hash, else outside; 3: wrong. A half of 16 is none.
 unfoldable pub commentingOf : ℕ → Commenting
-commentingOf m = elim (eqb m 1) [ true ↦ inSlash | false ↦ elim (eqb m 2) [ true ↦ inHash | false ↦ outside ] ]
+commentingOf m = elim (eqb m 1) [ true ↦ inSlash | false ↦ elim (eqb m 2) [ true ↦ inHash | false ↦ noComment ] ]
 
 unfoldable pub halfOf : ℕ → Half
-halfOf h = elim (ltb h 16) [ true ↦ high h | false ↦ none ]
+halfOf h = elim (ltb h 16) [ true ↦ high h | false ↦ noHalf ]
 
 unfoldable pub hexNext : HexStep → List ℕ → Content
 hexNext r s = elim (eqb (r .mode) 3) [ true ↦ bad | false ↦ after (few (r .count) (r .byte)) (hexFrom (commentingOf (r .mode)) (halfOf (r .half)) s) ]
@@ -25,7 +25,7 @@ pub record HexMoved (m h b : ℕ) (r : HexStep) : Type 0 where
 
 -- whether a text may end there
 unfoldable pub hexEndedBy : Bool → Content
-hexEndedBy true = content []
+hexEndedBy true = standsFor []
 hexEndedBy false = bad
 
 pub record HexEnded (m h : ℕ) (t : Bool) : Type 0 where

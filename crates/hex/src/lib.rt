@@ -1,5 +1,5 @@
 // Hexadecimal text: what stands between the quotes of h'..'.
-use literal_body::Scanned;
+use literal_body::LiteralScan;
 use literal_body::hex_value;
 use literal_body::is_blank;
 use literal_body::least;
@@ -84,7 +84,7 @@ fn hex_end(mode: u8, half: u8) -> bool
 }
 
 // Whether the text from `at` to `end` stands for bytes, and for how many.
-pub fn scan_hex(text: &[u8], at: usize, end: usize) -> Scanned
+pub fn scan_hex(text: &[u8], at: usize, end: usize) -> LiteralScan
     ensures { λ r. ⌜ Decodes r (hexContent (take (end - at) (drop at (now (text .entry))))) ⌝ }
 {
     let stop = least(end, text.len());
@@ -95,7 +95,7 @@ pub fn scan_hex(text: &[u8], at: usize, end: usize) -> Scanned
     while i < stop {
         let m = hex_step(mode, half, text[i]);
         if m.mode == 3 {
-            return Scanned {
+            return LiteralScan {
                 good: false,
                 next: end,
                 size: 0,
@@ -106,7 +106,7 @@ pub fn scan_hex(text: &[u8], at: usize, end: usize) -> Scanned
         size += m.count;
         i += 1;
     }
-    Scanned {
+    LiteralScan {
         good: hex_end(mode, half),
         next: end,
         size,

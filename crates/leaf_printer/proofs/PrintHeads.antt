@@ -15,8 +15,8 @@ use Rattle.cbor.specs.Widths.{Width, w0, w1, w2, w4, w8, argumentBytes, limit, 
 use Rattle.cbor.specs.Items.{Size, definite}
 use Rattle.head.specs.HeadAnswers.{argumentSize}
 use Rattle.notation.specs.Printing.{decimalOf, widthName, indicatorOf, blankBehind, sizeOf, printSimple, printInt, printString, printChunked}
-use Rattle.walk.specs.WalkAnswers.{kindOf}
-use Rattle.text_output.specs.PrintParts.{Prints, contentOf, widthBy, sizeBy, signOf, quoteOf, openQuote, otherSimple}
+use Rattle.cbor.specs.Flags.{kindOf, signOf}
+use Rattle.text_output.specs.PrintParts.{Prints, contentOf, widthBy, sizeBy, quoteOf, openQuote, otherSimple}
 use Rattle.text_output.proofs.PrintLeaves.{prints-more, prints-as, prints-none}
 
 -- WIDTHS

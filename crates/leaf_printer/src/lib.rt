@@ -4,8 +4,8 @@ ghost use mathlib.Core.List.{[]};
 ghost use lib.Dec.{eqb};
 ghost use Rattle.cbor.specs.Widths.{argumentBytes, shortest};
 ghost use Rattle.notation.specs.Printing.{widthName, indicatorOf, sizeOf, printSimple, printInt, printString, printChunked};
-ghost use Rattle.walk.specs.WalkAnswers.{kindOf};
-ghost use Rattle.text_output.specs.PrintParts.{Prints, widthBy, sizeBy, signOf, quoteOf, openQuote, otherSimple};
+ghost use Rattle.cbor.specs.Flags.{kindOf, signOf};
+ghost use Rattle.text_output.specs.PrintParts.{Prints, widthBy, sizeBy, quoteOf, openQuote, otherSimple};
 
 // Whether the head with this argument is the shortest.
 fn is_shortest(info: u8, n: u64) -> bool

@@ -19,10 +19,10 @@ use Rattle.cbor.proofs.Table.{every, between, byte}
 use Rattle.notation.specs.Classes.{blank, slash, hash, classNumber, classRows, classIn, classOf, is}
 use Rattle.notation.specs.Numbers.{digitValue}
 use Rattle.notation.specs.Scanning.{fault}
-use Rattle.notation.specs.Literals.{isBody, body, Content, content, bad, after}
+use Rattle.notation.specs.Literals.{isBody, body, Content, standsFor, bad, after}
 use Rattle.notation.specs.Reading.{marked}
 use Rattle.literal_body.specs.LiteralAnswers.{scannedBy, Raw, decodedBy, Decodes, Put, bodyByte, BodyByte, few}
-use Rattle.literal_body.specs.declared.Scanned.{Scanned}
+use Rattle.literal_body.specs.declared.LiteralScan.{LiteralScan}
 
 -- BYTES
 
@@ -378,16 +378,16 @@ pub ruleset raw-ways = (body-close, body-wrong, body-end)
 
 pub after-nil : (c : Content) → after [] c ≡ c
 unfolding after
-after-nil (content c) = refl
+after-nil (standsFor c) = refl
 after-nil bad = refl
 
 pub after-after : (u w : List ℕ) (c : Content) → after u (after w c) ≡ after (u ++ w) c
 unfolding after
-after-after u w (content c) = ap content (sym (append-assoc u w c))
+after-after u w (standsFor c) = ap standsFor (sym (append-assoc u w c))
 after-after u w bad = refl
 
-pub content-is : {c d : List ℕ} → content c ≡ content d → c ≡ d
+pub content-is : {c d : List ℕ} → standsFor c ≡ standsFor d → c ≡ d
 content-is e = cc
 
-pub decodes : {r : Scanned} {res : Content} (res′ : Content) → res ≡ res′ → decodedBy r res′ → Decodes r res
+pub decodes : {r : LiteralScan} {res : Content} (res′ : Content) → res ≡ res′ → decodedBy r res′ → Decodes r res
 decodes res′ e d = rw e (record { by = d })

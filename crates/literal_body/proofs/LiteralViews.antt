@@ -11,28 +11,28 @@ use Rattle.cbor.specs.Refusals.{Result, ok, refuse, bind, noToken}
 use Rattle.notation.specs.Scanning.{fault}
 use Rattle.notation.specs.Reading.{marked}
 use Rattle.notation.specs.Quoted.{Quoting, character, Move, gives, closed, wrong, moveAt, unquote}
-use Rattle.notation.specs.Literals.{isBody, body, Content, content, bad, hexContent, base64Content}
-use Rattle.literal_body.specs.LiteralAnswers.{Found, scannedBy, Scans, Raw, decodedBy, Decodes}
-use Rattle.literal_body.specs.declared.Scanned.{Scanned}
+use Rattle.notation.specs.Literals.{isBody, body, Content, standsFor, bad, hexContent, base64Content}
+use Rattle.literal_body.specs.LiteralAnswers.{FoundContent, scannedBy, Scans, Raw, decodedBy, Decodes}
+use Rattle.literal_body.specs.declared.LiteralScan.{LiteralScan}
 use Rattle.notation.proofs.TextScan.{tested}
 use Rattle.notation.proofs.SoundContent.{Holds, hex-content, base64-content}
 use Rattle.literal_body.proofs.LiteralCode.{true-false}
 
 -- A GOOD SCAN
 
-pub record Ended (s : List ℕ) (at : ℕ) (r : Scanned) (res : Result (List ℕ)) : Type 0 where
+pub record Ended (s : List ℕ) (at : ℕ) (r : LiteralScan) (res : Result (List ℕ)) : Type 0 where
   pub all : List ℕ
   pub rest : List ℕ
   pub is : res ≡ ok all rest
-  pub found : Found s at r all rest
+  pub found : FoundContent s at r all rest
 
-pub scan-good : {s : List ℕ} {at : ℕ} {r : Scanned} (res : Result (List ℕ)) → Scans s at r res → r .good ≡ true → Ended s at r res
+pub scan-good : {s : List ℕ} {at : ℕ} {r : LiteralScan} (res : Result (List ℕ)) → Scans s at r res → r .good ≡ true → Ended s at r res
 unfolding scannedBy
 scan-good (ok c rest) x g = record { all = c; rest = rest; is = refl; found = x .by }
 scan-good (refuse n q) x g = absurd (true-false (sym g ∙ x .by))
 
 -- the raw text of an encoded literal is the text up to the quote before `next`
-pub raw-good : {s : List ℕ} {at : ℕ} {r : Scanned} {res : Result (List ℕ)} → Raw s at r res → r .good ≡ true
+pub raw-good : {s : List ℕ} {at : ℕ} {r : LiteralScan} {res : Result (List ℕ)} → Raw s at r res → r .good ≡ true
     → res ≡ ok (take (r .next - 1 - at) (drop at s)) (drop (r .next) (marked s))
 raw-good {s} {at} {r} {res} x g =
     let y = scan-good res (x .scans) g in
@@ -68,38 +68,38 @@ unquote-faults q k (b ∷ s) = go (moveAt q k b) (λ k′. unquote-faults q k′
     go closed f = tt
     go wrong f = refl
 
-scan-bad : {s : List ℕ} {at : ℕ} {r : Scanned} (res : Result (List ℕ)) → Faults res → Scans s at r res → r .good ≡ false → res ≡ fault noToken
+scan-bad : {s : List ℕ} {at : ℕ} {r : LiteralScan} (res : Result (List ℕ)) → Faults res → Scans s at r res → r .good ≡ false → res ≡ fault noToken
 unfolding scannedBy
 scan-bad (ok c rest) f x g = absurd (true-false (sym (x .by .good) ∙ g))
 scan-bad (refuse n q) f x g = f
 
-pub quoted-bad : {s : List ℕ} {at : ℕ} {r : Scanned} (q : ℕ) → Scans s at r (unquote q character (drop at (marked s))) → r .good ≡ false
+pub quoted-bad : {s : List ℕ} {at : ℕ} {r : LiteralScan} (q : ℕ) → Scans s at r (unquote q character (drop at (marked s))) → r .good ≡ false
     → unquote q character (drop at (marked s)) ≡ fault noToken
 quoted-bad {s} {at} q x g = scan-bad (unquote q character (drop at (marked s))) (unquote-faults q character (drop at (marked s))) x g
 
-pub raw-bad : {s : List ℕ} {at : ℕ} {r : Scanned} → Raw s at r (body (drop at (marked s))) → r .good ≡ false → body (drop at (marked s)) ≡ fault noToken
+pub raw-bad : {s : List ℕ} {at : ℕ} {r : LiteralScan} → Raw s at r (body (drop at (marked s))) → r .good ≡ false → body (drop at (marked s)) ≡ fault noToken
 raw-bad {s} {at} x g = scan-bad (body (drop at (marked s))) (body-faults (drop at (marked s))) (x .scans) g
 
 -- WHAT A RAW TEXT STANDS FOR
 
-pub record Stood (r : Scanned) (most : ℕ) (res : Content) : Type 0 where
+pub record Stood (r : LiteralScan) (most : ℕ) (res : Content) : Type 0 where
   pub all : List ℕ
-  pub is : res ≡ content all
+  pub is : res ≡ standsFor all
   pub size : r .size ≡ length all
   pub short : r .size ≤ most
 
-decoded : {r : Scanned} {most : ℕ} (res : Content) → Holds most res → Decodes r res → r .good ≡ true → Stood r most res
+decoded : {r : LiteralScan} {most : ℕ} (res : Content) → Holds most res → Decodes r res → r .good ≡ true → Stood r most res
 unfolding decodedBy
-decoded (content c) h x g = record { all = c; is = refl; size = x .by .1; short = omega (arith, x .by .1, h .1) }
+decoded (standsFor c) h x g = record { all = c; is = refl; size = x .by .1; short = omega (arith, x .by .1, h .1) }
 decoded bad h x g = absurd (true-false (sym g ∙ x .by))
 
-pub decodes-bad : {r : Scanned} (res : Content) → Decodes r res → r .good ≡ false → res ≡ bad
+pub decodes-bad : {r : LiteralScan} (res : Content) → Decodes r res → r .good ≡ false → res ≡ bad
 unfolding decodedBy
-decodes-bad (content c) x g = absurd (true-false (sym (x .by .0) ∙ g))
+decodes-bad (standsFor c) x g = absurd (true-false (sym (x .by .0) ∙ g))
 decodes-bad bad x g = refl
 
-pub hex-good : {r : Scanned} (s : List ℕ) → Decodes r (hexContent s) → r .good ≡ true → Stood r (length s) (hexContent s)
+pub hex-good : {r : LiteralScan} (s : List ℕ) → Decodes r (hexContent s) → r .good ≡ true → Stood r (length s) (hexContent s)
 hex-good s x g = decoded (hexContent s) (hex-content s) x g
 
-pub base64-good : {r : Scanned} (s : List ℕ) → Decodes r (base64Content s) → r .good ≡ true → Stood r (length s) (base64Content s)
+pub base64-good : {r : LiteralScan} (s : List ℕ) → Decodes r (base64Content s) → r .good ≡ true → Stood r (length s) (base64Content s)
 base64-good s x g = decoded (base64Content s) (base64-content s) x g

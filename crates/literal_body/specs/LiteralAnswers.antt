@@ -8,13 +8,13 @@ use lib.ListN.{length, take, drop}
 use Rattle.cbor.specs.Refusals.{Result, ok, refuse}
 use Rattle.memory.specs.Buffer.{over}
 use Rattle.notation.specs.Reading.{marked}
-use Rattle.notation.specs.Literals.{isBody, Content, content, bad}
-use Rattle.literal_body.specs.declared.Scanned.{Scanned}
+use Rattle.notation.specs.Literals.{isBody, Content, standsFor, bad}
+use Rattle.literal_body.specs.declared.LiteralScan.{LiteralScan}
 
 -- SCANS
 
 -- a content c was found, and rest is left behind the closing quote
-pub record Found (s : List ℕ) (at : ℕ) (r : Scanned) (c rest : List ℕ) : Type 0 where
+pub record FoundContent (s : List ℕ) (at : ℕ) (r : LiteralScan) (c rest : List ℕ) : Type 0 where
   pub good : r .good ≡ true
   pub size : r .size ≡ length c
   pub left : drop (r .next) (marked s) ≡ rest
@@ -22,26 +22,26 @@ pub record Found (s : List ℕ) (at : ℕ) (r : Scanned) (c rest : List ℕ) : T
   pub ahead : at < r .next
   pub short : at + r .size < r .next
 
-unfoldable pub scannedBy : List ℕ → ℕ → Scanned → Result (List ℕ) → Type 0
-scannedBy s at r (ok c rest) = Found s at r c rest
+unfoldable pub scannedBy : List ℕ → ℕ → LiteralScan → Result (List ℕ) → Type 0
+scannedBy s at r (ok c rest) = FoundContent s at r c rest
 scannedBy s at r (refuse n q) = r .good ≡ false
 
 -- from a place on, up to the closing quote
-pub record Scans (s : List ℕ) (at : ℕ) (r : Scanned) (res : Result (List ℕ)) : Type 0 where
+pub record Scans (s : List ℕ) (at : ℕ) (r : LiteralScan) (res : Result (List ℕ)) : Type 0 where
   pub by : scannedBy s at r res
 
 -- the raw text of an encoded literal: it is the text from `at` on, and the quote stands behind it
-pub record Raw (s : List ℕ) (at : ℕ) (r : Scanned) (res : Result (List ℕ)) : Type 0 where
+pub record Raw (s : List ℕ) (at : ℕ) (r : LiteralScan) (res : Result (List ℕ)) : Type 0 where
   pub scans : Scans s at r res
   pub is : (c rest : List ℕ) → res ≡ ok c rest → c ≡ take (r .size) (drop at s)
   pub next : r .good ≡ true → r .next ≡ at + r .size + 1
 
 -- what a raw text stands for
-unfoldable pub decodedBy : Scanned → Content → Type 0
-decodedBy r (content c) = (r .good ≡ true) × (r .size ≡ length c)
+unfoldable pub decodedBy : LiteralScan → Content → Type 0
+decodedBy r (standsFor c) = (r .good ≡ true) × (r .size ≡ length c)
 decodedBy r bad = r .good ≡ false
 
-pub record Decodes (r : Scanned) (res : Content) : Type 0 where
+pub record Decodes (r : LiteralScan) (res : Content) : Type 0 where
   pub by : decodedBy r res
 
 -- WRITES: nothing but the content is promised, and only where it fits
@@ -54,7 +54,7 @@ pub record Put (b b′ : List ℕ) (p r : ℕ) (ws : List ℕ) : Type 0 where
 
 pub record Fills (b b′ : List ℕ) (p : ℕ) (res : Content) : Type 0 where
   pub same : length b′ ≡ length b
-  pub is : (c : List ℕ) → res ≡ content c → p + length c ≤ length b → b′ ≡ over b p c
+  pub is : (c : List ℕ) → res ≡ standsFor c → p + length c ≤ length b → b′ ≡ over b p c
 
 pub record Quotes (b b′ : List ℕ) (p : ℕ) (res : Result (List ℕ)) : Type 0 where
   pub same : length b′ ≡ length b

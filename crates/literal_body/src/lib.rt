@@ -11,7 +11,7 @@ ghost use Rattle.notation.specs.Reading.{marked};
 ghost use Rattle.literal_body.specs.LiteralAnswers.{Raw, Put, BodyByte, few};
 
 // What a scan found: where the text goes on, and how many bytes the content has.
-pub struct Scanned {
+pub struct LiteralScan {
     pub good: bool,
     pub next: usize,
     pub size: usize,
@@ -112,21 +112,21 @@ fn body_byte(b: u8) -> u8
 }
 
 // The raw text of an encoded literal, up to its closing quote.
-pub fn scan_body(text: &[u8], at: usize) -> Scanned
+pub fn scan_body(text: &[u8], at: usize) -> LiteralScan
     ensures { λ r. ⌜ Raw (now (text .entry)) at r (body (drop at (marked (now (text .entry))))) ⌝ }
 {
     let mut i = at;
     while i < text.len() {
         let k = body_byte(text[i]);
         if k == 1 {
-            return Scanned {
+            return LiteralScan {
                 good: true,
                 next: i + 1,
                 size: i - at,
             };
         }
         if k == 2 {
-            return Scanned {
+            return LiteralScan {
                 good: false,
                 next: at,
                 size: 0,
@@ -134,7 +134,7 @@ pub fn scan_body(text: &[u8], at: usize) -> Scanned
         }
         i += 1;
     }
-    Scanned {
+    LiteralScan {
         good: false,
         next: at,
         size: 0,

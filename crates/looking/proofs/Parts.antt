@@ -12,23 +12,23 @@ use Rattle.cbor.specs.Valid.{Bytes}
 use Rattle.cbor.specs.Decode.{item as itemAt, decode}
 use Rattle.cbor.specs.Paths.{Spot, Found, found, nowhere, locate, start, end}
 use Rattle.refusal.specs.RefusalKinds.{kindNumber}
-use Rattle.walk.specs.WalkAnswers.{passTold, walkTold, contentsAll, sized, toldOf, walkOf, walkAllOf, itemAfter}
+use Rattle.walk.specs.WalkAnswers.{passTold, walkTold, contentsAll, mapResult, toldOf, walkOf, walkAllOf, itemAfter}
 use Rattle.refusal.specs.declared.Refusal.{Refusal}
 use Rattle.refusal.specs.declared.RefusalKind.the-variants.{NoSuchPath}
-use Rattle.walk.specs.declared.Made.{Made}
+use Rattle.walk.specs.declared.WalkedItem.{WalkedItem}
 use Rattle.walk.specs.declared.Walked.{Walked}
 use Rattle.walk.specs.declared.Walked.the-variants.{Made as MadeV, Refused as WalkRefusedV}
-use Rattle.walk.specs.declared.Span.{Span}
+use Rattle.walk.specs.declared.Passage.{Passage}
 use Rattle.walk.specs.declared.Passed.{Passed}
 use Rattle.walk.specs.declared.Passed.the-variants.{Span as SpanV, Refused as RefusedV}
 use Rattle.cbor.proofs.DecodeEncode.{item-of-encode}
 use Rattle.cbor.proofs.EncodeDecode.{encode-of-decode}
 use Rattle.cbor.proofs.Paths.{part-at-path}
 use Rattle.walk.proofs.WalkItems.{item-told}
-use Rattle.operations.specs.Operations.{itemsOf, onward, spotOf, lookUp, partOf}
+use Rattle.operations.specs.Operations.{itemsOf, andThen, spotOf, lookUp, partOf}
 use Rattle.path.specs.Following.{trace}
 use Rattle.path.specs.StepAnswers.{tracedTo, Still, Traced}
-use Rattle.looking.specs.Answers.{Checks, part, refused as refusedL, locateTold, locateOf, Ordered, Parts}
+use Rattle.looking.specs.Answers.{Checks, partFound, locateRefused, locateTold, locateOf, Ordered, Parts}
 use Rattle.path.specs.declared.Cursor.{Cursor}
 use Rattle.looking.specs.declared.Part.{Part}
 use Rattle.looking.specs.declared.Located.{Located}
@@ -52,24 +52,24 @@ pub record Read (s : List ℕ) : Type 0 where
   pub same : encodeAll items ≡ s
   pub sound : SoundAll items
 
-read-of : (s : List ℕ) (m : Span) (res : Result Items) → Bytes s → decode s ≡ res → passTold (SpanV m) ≡ toldOf (length s) (sized contentsAll res) → Read s
-unfolding passTold toldOf sized itemsOf verdictOf
+read-of : (s : List ℕ) (m : Passage) (res : Result Items) → Bytes s → decode s ≡ res → passTold (SpanV m) ≡ toldOf (length s) (mapResult contentsAll res) → Read s
+unfolding passTold toldOf mapResult itemsOf verdictOf
 read-of s m (ok xs r) b e h =
     let d = encode-of-decode s xs r b e in
     record { items = xs; is = ap (verdictOf (length s)) e; same = d .same; sound = (d .valid, d .low) }
 read-of s m (refuse n l) b e h = let z : _≡_ {A = ℕ} 0 1 = cc in absurd (omega arith)
 
-refused-of : (s path : List ℕ) (e : Refusal) (res : Result Items) → decode s ≡ res → passTold (RefusedV e) ≡ toldOf (length s) (sized contentsAll res) → locateTold (PartRefused e) ≡ locateOf (lookUp s path)
-unfolding passTold toldOf sized itemsOf verdictOf lookUp onward locateTold locateOf
+refused-of : (s path : List ℕ) (e : Refusal) (res : Result Items) → decode s ≡ res → passTold (RefusedV e) ≡ toldOf (length s) (mapResult contentsAll res) → locateTold (PartRefused e) ≡ locateOf (lookUp s path)
+unfolding passTold toldOf mapResult itemsOf verdictOf lookUp andThen locateTold locateOf
 refused-of s path e (ok xs r) d h = let z : _≡_ {A = ℕ} 0 1 = cc in absurd (omega arith)
 refused-of s path e (refuse k l) d h =
     let i : kindNumber (e .kind) ≡ k = cc in
     let j : e .place ≡ length s - l = cc in
-    (λ x. refusedL (i x) (j x)) ∙ sym (rw d)
+    (λ x. locateRefused (i x) (j x)) ∙ sym (rw d)
 
 -- where the path leads, by where it was traced to
 look-is : {s : List ℕ} (path : List ℕ) (r : Read s) → lookUp s path ≡ spotOf (locate path (r .items))
-unfolding lookUp onward
+unfolding lookUp andThen
 look-is path r = rw (r .is)
 
 trace-is : {s : List ℕ} (path : List ℕ) (r : Read s) → trace path s ≡ spotted (locate path (r .items)) []
@@ -116,7 +116,7 @@ module _ {s : List ℕ} (path : List ℕ) {a : Passed} (ch : Checks s a) where
   unfolding walkAllOf Ordered
   part-refused {e} f = record { is = refused-of s path e (decode s) refl (rw f at (ch .is)); inside = tt }
 
-  module _ {m : Span} (f : a ≡ SpanV m) where
+  module _ {m : Passage} (f : a ≡ SpanV m) where
     read : Read s
     unfolding walkAllOf
     read = read-of s m (decode s) (ch .bytes) refl (rw f at (ch .is))
@@ -150,7 +150,7 @@ module _ {s : List ℕ} (path : List ℕ) {a : Passed} (ch : Checks s a) where
           unfolding walkTold walkOf
           part-gone g = let h = rw g at whole-told in let z : _≡_ {A = ℕ} 0 1 = cc in absurd (omega arith)
 
-          pub part-made : {w : Made} {r : Located} → whole ≡ MadeV w → r ≡ PartV (record { start = c .at; end = w .end }) → Parts s path r
+          pub part-made : {w : WalkedItem} {r : Located} → whole ≡ MadeV w → r ≡ PartV (record { start = c .at; end = w .end }) → Parts s path r
           unfolding walkTold walkOf locateTold locateOf spotOf Ordered
           part-made {w} g h =
               let k = rw g at whole-told in
@@ -160,7 +160,7 @@ module _ {s : List ℕ} (path : List ℕ) {a : Passed} (ch : Checks s a) where
               let o : c .at ≤ w .end = omega (arith, st .begins, spot-order (spot .0)) in
               let b : w .end ≤ length s = omega (arith, st .inside) in
               rw h (record {
-                is = (λ j. part (st .begins j) (q j)) ∙ sym (ap locateOf (look-is path read ∙ ap spotOf (spot .1)));
+                is = (λ j. partFound (st .begins j) (q j)) ∙ sym (ap locateOf (look-is path read ∙ ap spotOf (spot .1)));
                 inside = (o, b);
               })
 

@@ -15,37 +15,37 @@ use Rattle.cbor.specs.Heads.{majorNumber, itemMajor, Head, nextHead}
 use Rattle.cbor.specs.Decode.{item as itemAt, decode}
 use Rattle.refusal.specs.RefusalKinds.{kindNumber}
 use Rattle.head.specs.HeadAnswers.{headTold, sizeInformation, headFrom, headAt}
-use Rattle.walk.specs.WalkAnswers.{passTold, walkTold, sized, toldOf, walkOf, walkAllOf, contentsAll, itemAfter}
+use Rattle.walk.specs.WalkAnswers.{passTold, walkTold, mapResult, toldOf, walkOf, walkAllOf, contentsAll, itemAfter}
 use Rattle.refusal.specs.declared.Refusal.{Refusal}
 use Rattle.head.specs.declared.HeadAt.{HeadAt}
 use Rattle.head.specs.declared.HeadRead.{HeadRead}
 use Rattle.head.specs.declared.HeadRead.the-variants.{Head as HeadV, Refused as HeadRefusedV}
-use Rattle.walk.specs.declared.Made.{Made}
+use Rattle.walk.specs.declared.WalkedItem.{WalkedItem}
 use Rattle.walk.specs.declared.Walked.{Walked}
 use Rattle.walk.specs.declared.Walked.the-variants.{Made as MadeV, Refused as WalkRefusedV}
-use Rattle.walk.specs.declared.Span.{Span}
+use Rattle.walk.specs.declared.Passage.{Passage}
 use Rattle.walk.specs.declared.Passed.{Passed}
 use Rattle.walk.specs.declared.Passed.the-variants.{Span as SpanV, Refused as RefusedV}
 use Rattle.walk.proofs.WalkItems.{item-told}
 use Rattle.operations.specs.Operations.{itemsOf}
 use Rattle.path.specs.Following.{at}
-use Rattle.looking.specs.Answers.{refused, checkTold, checkOf, item as itemS, refused as refusedS, scanTold, HeadOf, scanFrom, scanned}
+use Rattle.looking.specs.Answers.{checkRefused, checkTold, checkOf, itemScanned as itemS, scanRefused, scanTold, HeadOf, scanFrom, scanned}
 use Rattle.looking.specs.declared.Checked.the-variants.{Accepted, Refused as CheckRefused}
 use Rattle.looking.specs.declared.Scanned.the-variants.{Item as ItemV, Refused as ScanRefused}
 use Rattle.path.proofs.Stepping.{Got, got}
 
 -- CHECK
 
-check-no : (n : ℕ) (e : Refusal) (res : Result Items) → passTold (RefusedV e) ≡ toldOf n (sized contentsAll res) → checkTold (CheckRefused e) ≡ checkOf (verdictOf n res)
-unfolding passTold toldOf sized checkTold checkOf verdictOf
+check-no : (n : ℕ) (e : Refusal) (res : Result Items) → passTold (RefusedV e) ≡ toldOf n (mapResult contentsAll res) → checkTold (CheckRefused e) ≡ checkOf (verdictOf n res)
+unfolding passTold toldOf mapResult checkTold checkOf verdictOf
 check-no n e (ok xs r) h = let z : _≡_ {A = ℕ} 0 1 = cc in absurd (omega arith)
 check-no n e (refuse k l) h =
     let i : kindNumber (e .kind) ≡ k = cc in
     let j : e .place ≡ n - l = cc in
-    λ x. refused (i x) (j x)
+    λ x. checkRefused (i x) (j x)
 
-check-yes : (n : ℕ) (m : Span) (res : Result Items) → passTold (SpanV m) ≡ toldOf n (sized contentsAll res) → checkTold Accepted ≡ checkOf (verdictOf n res)
-unfolding passTold toldOf sized checkTold checkOf verdictOf
+check-yes : (n : ℕ) (m : Passage) (res : Result Items) → passTold (SpanV m) ≡ toldOf n (mapResult contentsAll res) → checkTold Accepted ≡ checkOf (verdictOf n res)
+unfolding passTold toldOf mapResult checkTold checkOf verdictOf
 check-yes n m (ok xs r) h = refl
 check-yes n m (refuse k l) h = let z : _≡_ {A = ℕ} 0 1 = cc in absurd (omega arith)
 
@@ -54,7 +54,7 @@ module _ (s : List ℕ) (a : Passed) (told : passTold a ≡ walkAllOf (length s)
   unfolding walkAllOf itemsOf
   check-refused h = check-no (length s) _ (decode s) (rw h at told)
 
-  pub check-fine : {m : Span} → a ≡ SpanV m → checkTold Accepted ≡ checkOf (itemsOf s)
+  pub check-fine : {m : Passage} → a ≡ SpanV m → checkTold Accepted ≡ checkOf (itemsOf s)
   unfolding walkAllOf itemsOf
   check-fine h = check-yes (length s) _ (decode s) (rw h at told)
 
@@ -68,7 +68,7 @@ scan-no n e (ok d r) go h = let z : _≡_ {A = ℕ} 0 1 = cc in absurd (omega ar
 scan-no n e (refuse k l) go h =
     let i : kindNumber (e .kind) ≡ k = cc in
     let j : e .place ≡ n - l = cc in
-    λ x. refusedS (i x) (j x)
+    λ x. scanRefused (i x) (j x)
 
 item-no : (n : ℕ) (e : Refusal) (h : Head) (t : List ℕ) (res : Result Item) → walkTold (WalkRefusedV e) ≡ walkOf n res
     → scanTold (ScanRefused e) ≡ scanFrom n (bind res (λ x r. ok (record { head = h; rest = t; item = x }) r))
@@ -77,9 +77,9 @@ item-no n e h t (ok x r) i = let z : _≡_ {A = ℕ} 0 1 = cc in absurd (omega a
 item-no n e h t (refuse k l) i =
     let p : kindNumber (e .kind) ≡ k = cc in
     let q : e .place ≡ n - l = cc in
-    λ x. refusedS (p x) (q x)
+    λ x. scanRefused (p x) (q x)
 
-item-yes : (n : ℕ) (m : Made) (h : Head) (t : List ℕ) (res : Result Item) → walkTold (MadeV m) ≡ walkOf n res
+item-yes : (n : ℕ) (m : WalkedItem) (h : Head) (t : List ℕ) (res : Result Item) → walkTold (MadeV m) ≡ walkOf n res
     → itemS (m .major) (sizeInformation (h .size) (h .argument)) (h .argument) (n - length t) (m .end) ≡ scanFrom n (bind res (λ x r. ok (record { head = h; rest = t; item = x }) r))
 unfolding walkTold walkOf scanFrom bind
 item-yes n m h t (ok x r) i =
@@ -111,7 +111,7 @@ module _ (s : List ℕ) (i : ℕ) (a : HeadRead) (told : headTold a ≡ headAt s
           let g = got s i a told f in
           item-no (length s) _ (g .head) (g .rest) (itemAt 16 (drop i s)) (rw o at part-is) ∙ ap (scanFrom (length s)) (sym (scan-is g))
 
-      pub scan-made : {m : Made} → part ≡ MadeV m → scanTold (ItemV (record { major = m .major; info = h .info; argument = h .argument; content = h .end; end = m .end })) ≡ scanFrom (length s) (scanned (drop i s))
+      pub scan-made : {m : WalkedItem} → part ≡ MadeV m → scanTold (ItemV (record { major = m .major; info = h .info; argument = h .argument; content = h .end; end = m .end })) ≡ scanFrom (length s) (scanned (drop i s))
       unfolding scanTold
       scan-made {m} o =
           let g = got s i a told f in

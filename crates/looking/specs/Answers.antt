@@ -5,7 +5,7 @@ use mathlib.Core.List.{List}
 use mathlib.Core.Bool.{true, false}
 use lib.Dec.{eqb}
 use lib.ListN.{length, drop}
-use Rattle.cbor.specs.Refusals.{Result, ok, refuse, bind, Verdict, accepted, refused as refusedV}
+use Rattle.cbor.specs.Refusals.{Result, ok, refuse, bind, Verdict, accepted, refused}
 use Rattle.cbor.specs.Items.{Item, Items}
 use Rattle.cbor.specs.Heads.{Head, majorNumber, itemMajor, nextHead}
 use Rattle.cbor.specs.Valid.{Bytes}
@@ -28,15 +28,15 @@ use Rattle.looking.specs.declared.Scanned.the-variants.{Item as ItemV, R
 
 pub data CheckTold : Type 0 where
   fine : CheckTold
-  refused : ℕ → ℕ → CheckTold
+  checkRefused : ℕ → ℕ → CheckTold
 
 unfoldable pub checkTold : Checked → CheckTold
 checkTold Accepted = fine
-checkTold (CheckRefused e) = refused (kindNumber (e .kind)) (e .place)
+checkTold (CheckRefused e) = checkRefused (kindNumber (e .kind)) (e .place)
 
 unfoldable pub checkOf : Verdict Items → CheckTold
 checkOf (accepted xs) = fine
-checkOf (refusedV n place) = refused n place
+checkOf (refused n place) = checkRefused n place
 
 -- the same, with what is known of every slice of bytes
 pub record Checks (s : List ℕ) (r : Passed) : Type 0 where
@@ -47,16 +47,16 @@ pub record Checks (s : List ℕ) (r : Passed) : Type 0 where
 
 -- where the part starts and ends; or a refusal's number and place, of 17 the failing step
 pub data LocateTold : Type 0 where
-  part : ℕ → ℕ → LocateTold
-  refused : ℕ → ℕ → LocateTold
+  partFound : ℕ → ℕ → LocateTold
+  locateRefused : ℕ → ℕ → LocateTold
 
 unfoldable pub locateTold : Located → LocateTold
-locateTold (PartV p) = part (p .start) (p .end)
-locateTold (PartRefused e) = refused (kindNumber (e .kind)) (e .place)
+locateTold (PartV p) = partFound (p .start) (p .end)
+locateTold (PartRefused e) = locateRefused (kindNumber (e .kind)) (e .place)
 
 unfoldable pub locateOf : Verdict Spot → LocateTold
-locateOf (accepted z) = part (start z) (end z)
-locateOf (refusedV n place) = refused n place
+locateOf (accepted z) = partFound (start z) (end z)
+locateOf (refused n place) = locateRefused n place
 
 -- the part is one of the bytes
 unfoldable pub Ordered : List ℕ → Located → Type 0
@@ -71,12 +71,12 @@ pub record Parts (s path : List ℕ) (r : Located) : Type 0 where
 
 -- one item: its major type, additional information and argument, where its head ends and where it ends; or a refusal
 pub data ScanTold : Type 0 where
-  item : ℕ → ℕ → ℕ → ℕ → ℕ → ScanTold
-  refused : ℕ → ℕ → ScanTold
+  itemScanned : ℕ → ℕ → ℕ → ℕ → ℕ → ScanTold
+  scanRefused : ℕ → ℕ → ScanTold
 
 unfoldable pub scanTold : Scanned → ScanTold
-scanTold (ItemV x) = item (x .major) (x .info) (x .argument) (x .content) (x .end)
-scanTold (ScanRefused e) = refused (kindNumber (e .kind)) (e .place)
+scanTold (ItemV x) = itemScanned (x .major) (x .info) (x .argument) (x .content) (x .end)
+scanTold (ScanRefused e) = scanRefused (kindNumber (e .kind)) (e .place)
 
 -- a head and what is left behind it, with the item that it is the head of
 pub record HeadOf : Type 0 where
@@ -85,8 +85,8 @@ pub record HeadOf : Type 0 where
   pub item : Item
 
 unfoldable pub scanFrom : ℕ → Result HeadOf → ScanTold
-scanFrom size (ok x r) = item (majorNumber (itemMajor (x .item))) (sizeInformation (x .head .size) (x .head .argument)) (x .head .argument) (size - length (x .rest)) (size - length r)
-scanFrom size (refuse n left) = refused n (size - left)
+scanFrom size (ok x r) = itemScanned (majorNumber (itemMajor (x .item))) (sizeInformation (x .head .size) (x .head .argument)) (x .head .argument) (size - length (x .rest)) (size - length r)
+scanFrom size (refuse n left) = scanRefused n (size - left)
 
 -- the item at the front, 16 levels left
 unfoldable pub scanned : List ℕ → Result HeadOf

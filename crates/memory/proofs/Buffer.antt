@@ -11,7 +11,7 @@ use lib.Dec.{leb}
 use lib.ListN.{length, take, drop, set, getD, length-append, length-drop, take-append-drop}
 use lib.Seq.{length-take-le, take-at, drop-at, drop-drop, take-append-le, take-take, getD-take, getD-drop, set-split}
 use borrow.Author.Tests.{le-leb, lt-leb, leb-true, leb-false}
-use Rattle.memory.specs.Buffer.{over, written, fitting, movedUp, movedDown, moved, closed, copied}
+use Rattle.memory.specs.Buffer.{over, overIfFits, ifFits, movedUp, movedDown, moved, headPut, copied}
 
 -- OVER
 
@@ -120,28 +120,28 @@ over-keep b p size h = rw (length-part b p size h, ← drop-drop size p b) (rw (
 
 -- where it fits, and where not
 module _ (b : List ℕ) (p : ℕ) (ws : List ℕ) where
-  pub written-fits : p + length ws ≤ length b → written b p ws ≡ over b p ws
-  unfolding written
-  written-fits h = rw (le-leb (p + length ws) (length b) h, written)
+  pub written-fits : p + length ws ≤ length b → overIfFits b p ws ≡ over b p ws
+  unfolding overIfFits
+  written-fits h = rw (le-leb (p + length ws) (length b) h, overIfFits)
 
-  pub written-not : length b < p + length ws → written b p ws ≡ b
-  unfolding written
-  written-not h = rw (lt-leb (p + length ws) (length b) h, written)
+  pub written-not : length b < p + length ws → overIfFits b p ws ≡ b
+  unfolding overIfFits
+  written-not h = rw (lt-leb (p + length ws) (length b) h, overIfFits)
 
-  pub length-written : length (written b p ws) ≡ length b
+  pub length-written : length (overIfFits b p ws) ≡ length b
   length-written = go (leb (p + length ws) (length b)) refl
     where
-      go : (t : Bool) → leb (p + length ws) (length b) ≡ t → length (written b p ws) ≡ length b
+      go : (t : Bool) → leb (p + length ws) (length b) ≡ t → length (overIfFits b p ws) ≡ length b
       go true e = let h : p + length ws ≤ length b = leb-true (p + length ws) (length b) e in rw (written-fits h) (length-over b p ws h)
       go false e = rw (written-not (leb-false (p + length ws) (length b) e))
 
 module _ (b : List ℕ) (p : ℕ) where
   -- one store
-  pub written-one : (v : ℕ) → p < length b → set b p v ≡ written b p (v ∷ [])
+  pub written-one : (v : ℕ) → p < length b → set b p v ≡ overIfFits b p (v ∷ [])
   written-one v h = let f : p + 1 ≤ length b = omega arith in over-one b p v h ∙ sym (written-fits b p (v ∷ []) f)
 
   -- a second part behind the first, if both fit
-  pub written-more : (ws vs : List ℕ) → p + (length ws + length vs) ≤ length b → written (written b p ws) (p + length ws) vs ≡ written b p (ws ++ vs)
+  pub written-more : (ws vs : List ℕ) → p + (length ws + length vs) ≤ length b → overIfFits (overIfFits b p ws) (p + length ws) vs ≡ overIfFits b p (ws ++ vs)
   written-more ws vs h =
       let i : p ≤ length b = omega arith in
       let f : p + length ws ≤ length b = omega arith in
@@ -150,13 +150,13 @@ module _ (b : List ℕ) (p : ℕ) where
       rw (written-fits b p ws f) (written-fits (over b p ws) (p + length ws) vs g ∙ over-more b p ws i vs ∙ sym (written-fits b p (ws ++ vs) l))
 
   -- a store and a part behind it; a store in front of a part
-  pub written-behind : (v : ℕ) (ws : List ℕ) → p + suc (length ws) ≤ length b → written (set b p v) (p + 1) ws ≡ written b p (v ∷ ws)
+  pub written-behind : (v : ℕ) (ws : List ℕ) → p + suc (length ws) ≤ length b → overIfFits (set b p v) (p + 1) ws ≡ overIfFits b p (v ∷ ws)
   written-behind v ws h =
       let f : p < length b = omega arith in
       let g : p + (1 + length ws) ≤ length b = omega arith in
       rw (written-one v f) (written-more (v ∷ []) ws g)
 
-  pub written-front : (v : ℕ) (ws : List ℕ) → p + suc (length ws) ≤ length b → set (written b (p + 1) ws) p v ≡ written b p (v ∷ ws)
+  pub written-front : (v : ℕ) (ws : List ℕ) → p + suc (length ws) ≤ length b → set (overIfFits b (p + 1) ws) p v ≡ overIfFits b p (v ∷ ws)
   written-front v ws h =
       let f : p < length b = omega arith in
       let g : p + 1 + length ws ≤ length b = omega arith in
@@ -165,33 +165,33 @@ module _ (b : List ℕ) (p : ℕ) where
 -- WHERE IT FITS
 
 module _ (n : ℕ) (b r : List ℕ) where
-  pub fitting-yes : n ≤ length b → fitting n b r ≡ r
-  unfolding fitting
-  fitting-yes h = rw (le-leb n (length b) h, fitting)
+  pub fitting-yes : n ≤ length b → ifFits n b r ≡ r
+  unfolding ifFits
+  fitting-yes h = rw (le-leb n (length b) h, ifFits)
 
-  pub fitting-no : length b < n → fitting n b r ≡ b
-  unfolding fitting
-  fitting-no h = rw (lt-leb n (length b) h, fitting)
+  pub fitting-no : length b < n → ifFits n b r ≡ b
+  unfolding ifFits
+  fitting-no h = rw (lt-leb n (length b) h, ifFits)
 
   -- what both have
-  pub fitting-both : (P : List ℕ → Type 0) → (n ≤ length b → P r) → P b → P (fitting n b r)
+  pub fitting-both : (P : List ℕ → Type 0) → (n ≤ length b → P r) → P b → P (ifFits n b r)
   fitting-both P y z = go (leb n (length b)) refl
     where
-      go : (t : Bool) → leb n (length b) ≡ t → P (fitting n b r)
+      go : (t : Bool) → leb n (length b) ≡ t → P (ifFits n b r)
       go true e = let h : n ≤ length b = leb-true n (length b) e in rw (fitting-yes h) (y h)
       go false e = rw (fitting-no (leb-false n (length b) e)) z
 
 -- a write is as long as the buffer, and what is in front of it stays
 module _ (n : ℕ) (b : List ℕ) (p : ℕ) (ws : List ℕ) (h : n ≤ length b → p + length ws ≤ length b) where
-  fitting-length : length (fitting n b (over b p ws)) ≡ length b
+  fitting-length : length (ifFits n b (over b p ws)) ≡ length b
   fitting-length = fitting-both n b (over b p ws) (λ (x : List ℕ). length x ≡ length b) (λ f. length-over b p ws (h f)) refl
 
-  fitting-front : (k : ℕ) → k ≤ p → take k (fitting n b (over b p ws)) ≡ take k b
+  fitting-front : (k : ℕ) → k ≤ p → take k (ifFits n b (over b p ws)) ≡ take k b
   fitting-front k le =
       fitting-both n b (over b p ws) (λ (x : List ℕ). take k x ≡ take k b) (λ f. let g : p ≤ length b = omega (arith, h f) in take-over b p ws g k le) refl
 
-pub take-written : (b : List ℕ) (p : ℕ) (ws : List ℕ) (k : ℕ) → k ≤ p → take k (written b p ws) ≡ take k b
-unfolding written fitting
+pub take-written : (b : List ℕ) (p : ℕ) (ws : List ℕ) (k : ℕ) → k ≤ p → take k (overIfFits b p ws) ≡ take k b
+unfolding overIfFits ifFits
 take-written b p ws = fitting-front (p + length ws) b p ws (λ f. f)
 
 module _ (b : List ℕ) (from by size : ℕ) where
@@ -237,18 +237,18 @@ module _ (b : List ℕ) (p : ℕ) (hs : List ℕ) (size : ℕ) (some : 0 < lengt
       let g : p + 1 + size ≤ length b = omega arith in
       rw (length-append hs (take size (drop (p + 1) b)), length-part b (p + 1) size g) (omega arith)
 
-  pub length-closed : length (closed b p hs size) ≡ length b
-  unfolding closed
+  pub length-closed : length (headPut b p hs size) ≡ length b
+  unfolding headPut
   length-closed = fitting-length (p + length hs + size) b p (hs ++ take size (drop (p + 1) b)) closed-room
 
-  pub take-closed : (k : ℕ) → k ≤ p → take k (closed b p hs size) ≡ take k b
-  unfolding closed
+  pub take-closed : (k : ℕ) → k ≤ p → take k (headPut b p hs size) ≡ take k b
+  unfolding headPut
   take-closed = fitting-front (p + length hs + size) b p (hs ++ take size (drop (p + 1) b)) closed-room
 
 -- bytes that were written behind one byte of room get a head
 module _ (b : List ℕ) (p : ℕ) (hs ws : List ℕ) (some : 0 < length hs) (h : p + length hs + length ws ≤ length b) where
-  pub closed-over : closed (over b (p + 1) ws) p hs (length ws) ≡ over b p (hs ++ ws)
-  unfolding closed
+  pub closed-over : headPut (over b (p + 1) ws) p hs (length ws) ≡ over b p (hs ++ ws)
+  unfolding headPut
   closed-over =
       let f : p + 1 + length ws ≤ length b = omega arith in
       let i : p + 1 ≤ length b = omega arith in
@@ -259,14 +259,14 @@ module _ (b : List ℕ) (p : ℕ) (hs ws : List ℕ) (some : 0 < length hs) (h :
       ∙ ap (λ (x : List ℕ). over (over b (p + 1) ws) p (hs ++ x)) (over-read b (p + 1) ws i)
       ∙ over-cover b (p + 1) ws i p (hs ++ ws) le ge
 
-  pub closed-written : closed (written b (p + 1) ws) p hs (length ws) ≡ written b p (hs ++ ws)
+  pub closed-written : headPut (overIfFits b (p + 1) ws) p hs (length ws) ≡ overIfFits b p (hs ++ ws)
   closed-written =
       let f : p + 1 + length ws ≤ length b = omega arith in
       let g : p + length (hs ++ ws) ≤ length b = rw (length-append hs ws) (omega arith) in
-      ap (λ (x : List ℕ). closed x p hs (length ws)) (written-fits b (p + 1) ws f) ∙ closed-over ∙ sym (written-fits b p (hs ++ ws) g)
+      ap (λ (x : List ℕ). headPut x p hs (length ws)) (written-fits b (p + 1) ws f) ∙ closed-over ∙ sym (written-fits b p (hs ++ ws) g)
 
 module _ (b : List ℕ) (p : ℕ) (s : List ℕ) (n : ℕ) where
-  pub copied-yes : n ≤ length s → copied b p s n ≡ written b p (take n s)
+  pub copied-yes : n ≤ length s → copied b p s n ≡ overIfFits b p (take n s)
   unfolding copied
   copied-yes h = rw (le-leb n (length s) h, copied)
 
@@ -274,7 +274,7 @@ module _ (b : List ℕ) (p : ℕ) (s : List ℕ) (n : ℕ) where
   unfolding copied
   copied-no h = rw (lt-leb n (length s) h, copied)
 
-  copied-both : (P : List ℕ → Type 0) → P (written b p (take n s)) → P b → P (copied b p s n)
+  copied-both : (P : List ℕ → Type 0) → P (overIfFits b p (take n s)) → P b → P (copied b p s n)
   copied-both P y z = go (leb n (length s)) refl
     where
       go : (t : Bool) → leb n (length s) ≡ t → P (copied b p s n)

@@ -10,11 +10,11 @@ use Rattle.cbor.specs.Refusals.{bind, Verdict, accepted, refused, verdictOf, no
 use Rattle.cbor.specs.Widths.{argumentBytes, limit, fits, shortest, information, bigEndian, valueFrom}
 use Rattle.cbor.specs.Items.{Item, Items, count, count₂, levels}
 use Rattle.cbor.specs.Heads.{majorNumber, majorOf, initial, head, informationOf, isFloat, isAllowed, isIndefinite, taking, started, argued, headBy, nextHead}
-use Rattle.cbor.specs.Encode.{encodeString, opening, closing, enclosed, encodeChunks, encode, encodeAll}
+use Rattle.cbor.specs.Encode.{encodeString, openingHead, closingBreak, enclosed, encodeChunks, encode, encodeAll}
 use Rattle.cbor.specs.Utf8.{isIn, rows, followIn, follow, areIn, sequenceBy, firstBadFrom, firstBad, isUtf8}
 use Rattle.cbor.specs.TypedArrays.{elementSize, chunksLength, divides, isTypedArray, mayTag}
 use Rattle.cbor.specs.Valid.{isText, isSimple}
-use Rattle.cbor.specs.Decode.{stepAt, severalBy, severalWithin, several, content, chunkBy, chunk as bytesChunk, entry, extent, tagged, elements, entries, chunks as bytesChunks, itemBy, itemWith, item, decode, mostLevels}
+use Rattle.cbor.specs.Decode.{stepAt, severalBy, severalWithin, several, contentAt, chunkBy, chunkAt as bytesChunk, entryAt, extent, tagged, elements, entries, chunksOf as bytesChunks, itemBy, itemWith, item, decode, mostLevels}
 use Rattle.notation.specs.Classes.{classNumber, classRows, classIn, classOf, is, isWord}
 use Rattle.notation.specs.Scanning.{isComment, skipped, leftIn, skipFrom, skip, run, whether, expect}
 use Rattle.notation.specs.Indicators.{indicated, indicator, choose}
@@ -22,11 +22,11 @@ use Rattle.notation.specs.Numbers.{digitValue, isDigit, numberFrom, digi
 use Rattle.notation.specs.Quoted.{utf8Of, escapes, escapedIn, wholeUnit, unit, moveAt, unquote}
 use Rattle.notation.specs.Literals.{literalToken, quotedToken, quoted, isBody, body, after, halfEnd, hexDigit, hexFrom, hexContent, sextet, sextets, lastTwo, lastThree, lastFour, fullFour, base64From, base64Content, contained, encodedLiteral}
 use Rattle.notation.specs.Words.{same, isFloatWord, isPlainDecimal, simpleBy, simpleToken, value, worded, prefixed, word}
-use Rattle.notation.specs.Cutting.{startsWith, afterMinus, opening as openingToken, cutBy, cut, place, placed, next}
-use Rattle.notation.specs.Form.{then, strayIndicator, strayClosing, stray, strays, shapeNumber, closing as closingRule, sized, contains, embeds, tags, afterTag, inside, literalItem, beginning, oneRule, addItem, afterItem, itemsRule, afterValue, afterKey, pairsRule, addChunk, afterChunk, isWanted, chunk, chunksRule, rules, obey, readsWithin, reads as readsBy}
+use Rattle.notation.specs.Cutting.{startsWith, afterMinus, openingToken, cutBy, cut, place, placed, next}
+use Rattle.notation.specs.Form.{then, strayIndicator, strayClosing, stray, strays, shapeNumber, closingRule, widthRule, contains, embeds, tagRule, afterTag, inside, literalItem, beginning, oneRule, addItem, afterItem, itemsRule, afterValue, afterKey, pairsRule, addChunk, afterChunk, isWanted, chunkRule, chunksRule, rules, obey, readsWithin, reads as readsBy}
 use Rattle.cbor.specs.Paths.{Found, found, nowhere}
 use Rattle.notation.specs.Places.{separated, past, toElement, toValue, into, toward, levelsAt, around, Span, spanOf, spanAt}
-use Rattle.notation.specs.Printing.{decimalWithin, decimalOf, hexDigitOf, hexByteOf, hexOf, escapeOf, escapedOf, widthName, indicatorOf, printString, printChunks, printChunked, blankBehind, sizeOf, printSimple, printInt, print, printText}
+use Rattle.notation.specs.Printing.{decimalWithin, decimalOf, hexDigitOf, hexByteOf, hexOf, escapeOf, escapedOf, widthName, indicatorOf, printString, printChunks, printChunked, blankBehind, sizeOf, printSimple, printInt, printItem, printText}
 use Rattle.notation.specs.Reading.{marked, checked, sequence, readText, outside, alone, single, readItem}
 
 -- the bytes of a text, or its refusal
@@ -361,5 +361,5 @@ pub examples : List Example
 examples = numbers ++ indicators ++ words ++ literals ++ quotes ++ comments ++ form ++ oneItem ++ printed ++ places
 
 pub examples-hold : L.map (λ (e : Example). answer (e .question)) examples ≡ L.map (λ (e : Example). e .expected) examples
-unfolding examples numbers indicators words literals quotes comments form oneItem printed reads refuses readsItem refusesItem stands lacks places spanned prints answer bytesOf bytesOfItem printedOf bind verdictOf argumentBytes limit fits shortest information bigEndian valueFrom count count₂ levels majorNumber majorOf initial head informationOf isFloat isAllowed isIndefinite taking started argued headBy nextHead encodeString opening closing enclosed encodeChunks encode isIn rows followIn follow areIn sequenceBy firstBadFrom firstBad isUtf8 elementSize chunksLength divides isTypedArray mayTag isText isSimple stepAt severalBy severalWithin several content chunkBy bytesChunk entry extent tagged elements entries bytesChunks itemBy itemWith item decode classNumber classRows classIn classOf is isWord isComment skipped leftIn skipFrom skip run whether expect indicated indicator choose digitValue isDigit numberFrom digits makesFloat isFloating radixOf judged integerToken integer otherInteger decimal based afterZero number utf8Of escapes escapedIn wholeUnit unit moveAt unquote literalToken quotedToken quoted isBody body after halfEnd hexDigit hexFrom hexContent sextet sextets lastTwo lastThree lastFour fullFour base64From base64Content contained encodedLiteral same isFloatWord isPlainDecimal simpleBy simpleToken value worded prefixed word startsWith afterMinus openingToken cutBy cut place placed next then strayIndicator strayClosing stray strays shapeNumber closingRule sized contains embeds tags afterTag inside literalItem beginning oneRule addItem afterItem itemsRule afterValue afterKey pairsRule addChunk afterChunk isWanted chunk chunksRule rules obey readsWithin readsBy marked checked sequence readText outside alone single readItem decimalWithin decimalOf hexDigitOf hexByteOf hexOf escapeOf escapedOf widthName indicatorOf printString printChunks printChunked blankBehind sizeOf printSimple printInt print printText separated past toElement toValue into toward levelsAt around spanOf spanAt
+unfolding examples numbers indicators words literals quotes comments form oneItem printed reads refuses readsItem refusesItem stands lacks places spanned prints answer bytesOf bytesOfItem printedOf bind verdictOf argumentBytes limit fits shortest information bigEndian valueFrom count count₂ levels majorNumber majorOf initial head informationOf isFloat isAllowed isIndefinite taking started argued headBy nextHead encodeString openingHead closingBreak enclosed encodeChunks encode isIn rows followIn follow areIn sequenceBy firstBadFrom firstBad isUtf8 elementSize chunksLength divides isTypedArray mayTag isText isSimple stepAt severalBy severalWithin several contentAt chunkBy bytesChunk entryAt extent tagged elements entries bytesChunks itemBy itemWith item decode classNumber classRows classIn classOf is isWord isComment skipped leftIn skipFrom skip run whether expect indicated indicator choose digitValue isDigit numberFrom digits makesFloat isFloating radixOf judged integerToken integer otherInteger decimal based afterZero number utf8Of escapes escapedIn wholeUnit unit moveAt unquote literalToken quotedToken quoted isBody body after halfEnd hexDigit hexFrom hexContent sextet sextets lastTwo lastThree lastFour fullFour base64From base64Content contained encodedLiteral same isFloatWord isPlainDecimal simpleBy simpleToken value worded prefixed word startsWith afterMinus openingToken cutBy cut place placed next then strayIndicator strayClosing stray strays shapeNumber closingRule widthRule contains embeds tagRule afterTag inside literalItem beginning oneRule addItem afterItem itemsRule afterValue afterKey pairsRule addChunk afterChunk isWanted chunkRule chunksRule rules obey readsWithin readsBy marked checked sequence readText outside alone single readItem decimalWithin decimalOf hexDigitOf hexByteOf hexOf escapeOf escapedOf widthName indicatorOf printString printChunks printChunked blankBehind sizeOf printSimple printInt printItem printText separated past toElement toValue into toward levelsAt around spanOf spanAt
 examples-hold = refl

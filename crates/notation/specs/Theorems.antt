@@ -12,7 +12,7 @@ use Rattle.cbor.specs.Paths.{Spot, found, locate, replaceAt}
 use Rattle.notation.specs.Classes.{blank, is}
 use Rattle.notation.specs.Reading.{readText, readItem}
 use Rattle.notation.specs.Places.{levelsAt, Span, spanAt, textAt, edited}
-use Rattle.notation.specs.Printing.{print, printText}
+use Rattle.notation.specs.Printing.{printItem, printText}
 
 -- READING GIVES WELL-FORMED ITEMS, which decoding accepts.
 abbrev pub TextValid : Type 0
@@ -26,7 +26,7 @@ abbrev pub TextOfPrint : Type 0
 TextOfPrint = (xs : Items) → ValidAll xs → levelsAll xs ≤ mostLevels → length (printText xs) ≤ mostBytes → readText (printText xs) ≡ accepted xs
 
 abbrev pub ItemOfPrint : Type 0
-ItemOfPrint = (x : Item) (d : ℕ) → Valid x → levels x ≤ d → length (print x) ≤ mostBytes → readItem d (print x) ≡ accepted x
+ItemOfPrint = (x : Item) (d : ℕ) → Valid x → levels x ≤ d → length (printItem x) ≤ mostBytes → readItem d (printItem x) ≡ accepted x
 
 -- AN EDITED TEXT: t is an accepted text with the items xs, and z is where the item at the path k ∷ p stands in it.
 pub record Edits (t : List ℕ) (xs : Items) (k : ℕ) (p : List ℕ) (z : Span) : Type 0 where

@@ -16,7 +16,7 @@ use Rattle.cbor.specs.Utf8.{isIn}
 use Rattle.notation.specs.Numbers.{digitValue, isDigit, numberFrom, makesFloat, isFloating}
 use Rattle.notation.specs.Reading.{marked}
 use Rattle.scanning.specs.Stands.{span}
-use Rattle.numbers.specs.NumberAnswers.{heavy, Counts, Base, Grown, floatAt, Scans, Counted}
+use Rattle.numbers.specs.NumberAnswers.{heavy, Counts, Base, Grown, floatAt, ScansDigits, Counted}
 use Rattle.numbers.specs.declared.amount.Amount.{Amount}
 use Rattle.numbers.specs.declared.amount.Digits.{Digits}
 use Rattle.scanning.proofs.Marked.{length-marked, at-byte, byte-at, at-end, past-end, span-none, span-more, Running, run-start, run-step, run-stop, run-end}
@@ -128,7 +128,7 @@ number-snoc radix v [] b = refl
 number-snoc radix v (c ∷ l) b = number-snoc radix (v * radix + digitValue c) l b
 
 module _ {s : List ℕ} {i radix first : ℕ} where
-  pub tally-start : Scans s i radix first → Tallying s i radix first i (record { value = first; over = false })
+  pub tally-start : ScansDigits s i radix first → Tallying s i radix first i (record { value = first; over = false })
   unfolding heavy numberFrom
   tally-start h =
       record {

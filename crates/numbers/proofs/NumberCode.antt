@@ -18,8 +18,9 @@ use Rattle.notation.specs.Tokens.{Token, begins, opens, tagging}
 use Rattle.notation.specs.Reading.{marked}
 use Rattle.scanning.specs.Stands.{span}
 use Rattle.scanning.specs.ScanAnswers.{Peeked}
-use Rattle.token.specs.TokenAnswers.{indicatorNumber, itemCode, openCode, beginCode, codeOf, itemMark, openMark, beginMark, markOf, itemNumber, openNumber, beginNumber, numberOf, BeginsAs, Written, Shown, Says, Refused, Made}
-use Rattle.numbers.specs.NumberAnswers.{heavy, Counts, floatAt, Scans, Counted, Indicated, chooseBy, chosenNumber, signOf, Limited, Makes, Judging, Integral, Decimals, Prefixed}
+use Rattle.token.specs.TokenAnswers.{indicatorNumber, itemCode, openCode, beginCode, codeOf, itemMark, openMark, beginMark, markOf, itemNumber, openNumber, beginNumber, numberOf, BeginsAs, Written, Shown, Says, Refused, TokenMade}
+use Rattle.numbers.specs.NumberAnswers.{heavy, Counts, floatAt, ScansDigits, Counted, Indicated, chooseBy, chosenNumber, Limited, Makes, Judging, Integral, Decimals, Prefixed}
+use Rattle.cbor.specs.Flags.{signOf}
 use Rattle.numbers.specs.declared.amount.Amount.{Amount}
 use Rattle.numbers.specs.declared.amount.Digits.{Digits}
 use Rattle.numbers.specs.declared.indicator.Mark.{Mark}
@@ -38,7 +39,7 @@ pub says-refuse : {s : List ℕ} {k p : ℕ} {t : Cut} (q : ℕ) → Refused k p
 unfolding Shown
 says-refuse q r = record { shown = record { code = r .code; kind = r .kind }; place = r .place }
 
-pub says-made : {s : List ℕ} {c i n p x : ℕ} {t : Cut} → Made c i n p x t → (tok : Token) → c ≡ codeOf tok → i ≡ markOf tok → n ≡ numberOf tok → Written s t tok → x ≤ length s
+pub says-made : {s : List ℕ} {c i n p x : ℕ} {t : Cut} → TokenMade c i n p x t → (tok : Token) → c ≡ codeOf tok → i ≡ markOf tok → n ≡ numberOf tok → Written s t tok → x ≤ length s
     → Says s p t (ok tok (drop x (marked s)))
 unfolding Shown
 says-made {s} m tok e₁ e₂ e₃ h l =
@@ -70,7 +71,7 @@ module _ {code mark v place next : ℕ} {over : Bool} {t : Cut} where
     judge-misfit z r =
         record { is = λ s n i make lim mk ms h. let p = within mark v w n over i e f lim mk in says-as (rw (p .0, judged) (rw (chosen-none (choose i n) (sym (p .1) ∙ z)))) (says-refuse 0 r) }
 
-    pub judge-made : (w ≡ 0 → ⊥) → Made code w v place next t → Judging code mark v over place next t
+    pub judge-made : (w ≡ 0 → ⊥) → TokenMade code w v place next t → Judging code mark v over place next t
     unfolding judged
     judge-made z m =
         record {
@@ -286,7 +287,7 @@ module _ {s : List ℕ} {at radix : ℕ} (p : Prefixed s at radix) (n : radix �
   pub zero-index : at + 1 < length s
   zero-index = omega (arith, p .inside n)
 
-  pub zero-scans : {v : ℕ} → v ≡ digitValue (getD s (at + 1) 0) → Scans s (at + 2) radix v
+  pub zero-scans : {v : ℕ} → v ≡ digitValue (getD s (at + 1) 0) → ScansDigits s (at + 2) radix v
   zero-scans e = record { inside = p .inside n; least = p .least n; most = p .most; start = rw e (digit-most (getD s (at + 1) 0)) }
 
 zero-is : {s : List ℕ} {at radix v : ℕ} {d : Digits} (minus b : Bool) → Prefixed s at radix → (radix ≡ 0 → ⊥) → v ≡ digitValue (getD s (at + 1) 0) → Counted s (at + 2) radix v d
@@ -312,7 +313,7 @@ module _ {s : List ℕ} {at place radix : ℕ} {t : Cut} (minus : Bool) (p : Pre
 pub ruleset zero-ways = (zero-decimal, zero-float, zero-integer)
 
 -- NUMBERS
-pub number-scans : (s : List ℕ) (at : ℕ) {v : ℕ} → v ≡ digitValue (getD s at 0) → at < length s → Scans s (at + 1) 10 v
+pub number-scans : (s : List ℕ) (at : ℕ) {v : ℕ} → v ≡ digitValue (getD s at 0) → at < length s → ScansDigits s (at + 1) 10 v
 number-scans s at e h = record { inside = omega arith; least = omega arith; most = omega arith; start = rw e (digit-most (getD s at 0)) }
 
 module _ {s : List ℕ} (at : ℕ) {place : ℕ} {t : Cut} (minus : Bool) {v : ℕ} (e : v ≡ digitValue (getD s at 0)) where

@@ -7,7 +7,8 @@ use lib.Dec.{leb, eqb}
 use lib.ListN.{length, drop}
 use Rattle.cbor.specs.Refusals.{ok}
 use Rattle.cbor.specs.Widths.{Width, w0, w1, w2, w4, w8, limit, shortest}
-use Rattle.cbor.specs.Items.{Sign, unsigned, negative}
+use Rattle.cbor.specs.Flags.{signOf}
+use Rattle.cbor.specs.Items.{Sign}
 use Rattle.notation.specs.Indicators.{Indicator, indicator, Chosen, chosen, misfit, choose}
 use Rattle.notation.specs.Numbers.{digitValue, isDigit, numberFrom, makesFloat, isFloating, judged, integer, decimal, based, afterZero}
 use Rattle.notation.specs.Tokens.{Token}
@@ -43,7 +44,7 @@ unfoldable pub floatAt : ℕ → List ℕ → Bool
 floatAt radix [] = false
 floatAt radix (b ∷ r) = makesFloat radix b
 
-pub record Scans (s : List ℕ) (at radix first : ℕ) : Type 0 where
+pub record ScansDigits (s : List ℕ) (at radix first : ℕ) : Type 0 where
   pub inside : at ≤ length s
   pub least : 2 ≤ radix
   pub most : radix ≤ 16
@@ -73,11 +74,6 @@ chooseBy m n = elim (eqb m 0) [ true ↦ widthNumber (shortest n) | false ↦ el
 unfoldable pub chosenNumber : Chosen → ℕ
 chosenNumber (chosen w) = widthNumber w
 chosenNumber misfit = 0
-
--- INTEGERS AND TAGS
-unfoldable pub signOf : Bool → Sign
-signOf true = negative
-signOf false = unsigned
 
 -- n is v, or over the limit
 pub record Limited (v : ℕ) (over : Bool) (n : ℕ) : Type 0 where

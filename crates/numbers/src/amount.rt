@@ -7,7 +7,7 @@ ghost use lib.ListN.{drop};
 ghost use Rattle.cbor.specs.Widths.{w8, limit};
 ghost use Rattle.notation.specs.Numbers.{digitValue, makesFloat};
 ghost use Rattle.notation.specs.Reading.{marked};
-ghost use Rattle.numbers.specs.NumberAnswers.{Base, Grown, floatAt, Scans, Counted};
+ghost use Rattle.numbers.specs.NumberAnswers.{Base, Grown, floatAt, ScansDigits, Counted};
 
 // A number: value, or 2^64 + value if over, which is then 0 or 1, and 1 stands for all that are larger.
 pub struct Amount {
@@ -81,7 +81,7 @@ fn grow(a: Amount, radix: u64, d: u64) -> Amount
 
 // The digits from a place on, behind those that make `first`.
 pub fn count_digits(text: &[u8], from: usize, radix: u64, first: u64) -> Digits
-    requires { ⌜ Scans (now text) from radix first ⌝ }
+    requires { ⌜ ScansDigits (now text) from radix first ⌝ }
     ensures { λ r. ⌜ Counted (now (text .entry)) from radix first r ⌝ }
 {
     let mut at = from;

@@ -1,5 +1,5 @@
 // Encoding indicators, by number: 0 none, 1 `_` alone, 2 unknown, 3 to 7 the widths of 0, 1, 2, 4 and 8 bytes.
-use scanning::scan::Cursor;
+use scanning::scan::TextCursor;
 use scanning::scan::next_is;
 ghost use mathlib.Core.Path.{_≡_};
 ghost use Prim.Native.Nat.{_≤_};
@@ -48,7 +48,7 @@ pub fn indicator_at(text: &[u8], at: usize) -> Mark
 {
     if next_is(text, at, 0x5f) {
         let from = at + 1;
-        let end = Cursor { at: from }.word(text);
+        let end = TextCursor { at: from }.word(text);
         let next = end.at;
         return Mark {
             mark: named(text, from, next),

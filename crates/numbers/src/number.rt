@@ -17,7 +17,8 @@ ghost use lib.ListN.{length, drop, getD};
 ghost use Rattle.notation.specs.Numbers.{afterZero, number, radixOf};
 ghost use Rattle.notation.specs.Reading.{marked};
 ghost use Rattle.token.specs.TokenAnswers.{Says};
-ghost use Rattle.numbers.specs.NumberAnswers.{signOf, Judging, Integral, Decimals, Prefixed};
+ghost use Rattle.numbers.specs.NumberAnswers.{Judging, Integral, Decimals, Prefixed};
+ghost use Rattle.cbor.specs.Flags.{signOf};
 
 // An argument and its indicator: 7, then 9, else the token of a code.
 fn judged(code: u8, mark: u8, n: u64, over: bool, place: usize, next: usize) -> Token

@@ -22,7 +22,7 @@ use Rattle.scanning.specs.ScanAnswers.{Skips}
 use Rattle.token.specs.TokenAnswers.{Took}
 use Rattle.token.specs.declared.Token.{Token as Cut}
 use Rattle.scanning.proofs.Marked.{length-marked, at-end, stands-left, stands-at}
-use Rattle.encoding.specs.ReadAnswers.{Wrote, Room, ofItem, Told, Denies, Strayed}
+use Rattle.encoding.specs.ReadAnswers.{Wrote, Room, ofItem, ReadTold, Denies, Strayed}
 use Rattle.one_item.specs.OneAnswers.{Behind}
 use Rattle.encoding.specs.declared.answer.MadeItem.{MadeItem as MadeS}
 use Rattle.encoding.specs.declared.answer.ReadAnswer.{ReadAnswer}
@@ -42,7 +42,7 @@ module _ {s : List ℕ} {at : ℕ} (d : ℕ) (sk : Skips s 0 at) where
   unfolding place
   first-at = stands-at (sk .stands)
 
-  pub one-blank : {b b′ : List ℕ} {a : ReadAnswer} → (at ≡ 0 → ⊥) → Denies notAllowed 0 a → Told ofItem s b b′ (length (marked s)) 0 a (plus (single d s))
+  pub one-blank : {b b′ : List ℕ} {a : ReadAnswer} → (at ≡ 0 → ⊥) → Denies notAllowed 0 a → ReadTold ofItem s b b′ (length (marked s)) 0 a (plus (single d s))
   unfolding singleMarked
   one-blank n h =
       let e : eqb (place (marked s)) (length (marked s)) ≡ false = ne-eqb (place (marked s)) (length (marked s)) (λ i. n (omega (arith, first-at, i))) in
@@ -54,11 +54,11 @@ module _ {s : List ℕ} {at : ℕ} (d : ℕ) (sk : Skips s 0 at) where
       let e : eqb (place (marked s)) (length (marked s)) ≡ true = eq-eqb (place (marked s)) (length (marked s)) (omega (arith, first-left, z)) in
       sym (single-is d s) ∙ rw (e, singleMarked)
 
-  module _ {b b′ : List ℕ} (a : ReadAnswer) (told : Told ofItem s b b′ (length (marked s) - 0) 0 a (reads (one d) (drop 0 (marked s)))) (z : at ≡ 0) where
-    pub one-refused : {b″ : List ℕ} {e : Refusal} → a ≡ Refused e → Told ofItem s b b″ (length (marked s)) 0 (Refused e) (plus (single d s))
+  module _ {b b′ : List ℕ} (a : ReadAnswer) (told : ReadTold ofItem s b b′ (length (marked s) - 0) 0 a (reads (one d) (drop 0 (marked s)))) (z : at ≡ 0) where
+    pub one-refused : {b″ : List ℕ} {e : Refusal} → a ≡ Refused e → ReadTold ofItem s b b″ (length (marked s)) 0 (Refused e) (plus (single d s))
     one-refused f = told-lost _ _ (lost a told f) (one-is z)
 
-    pub one-behind : {m : MadeS} {a′ : ReadAnswer} → a ≡ Made m → Behind s d m a′ → Told ofItem s b b′ (length (marked s)) 0 a′ (plus (single d s))
+    pub one-behind : {m : MadeS} {a′ : ReadAnswer} → a ≡ Made m → Behind s d m a′ → ReadTold ofItem s b b′ (length (marked s)) 0 a′ (plus (single d s))
     one-behind {m} g h =
         let it = got a told g in
         let e = it .moved .stands .drops in
@@ -116,7 +116,7 @@ pub record Accepted (s b b′ : List ℕ) (d : ℕ) (m : MadeS) : Type 0 where
   pub size : m .size ≡ length (encode item)
   pub wrote : Wrote b b′ 0 (encode item)
 
-module _ {s b b′ : List ℕ} {most : ℕ} (d : ℕ) (a : ReadAnswer) (told : Told ofItem s b b′ most 0 a (plus (single d s))) where
+module _ {s b b′ : List ℕ} {most : ℕ} (d : ℕ) (a : ReadAnswer) (told : ReadTold ofItem s b b′ most 0 a (plus (single d s))) where
   pub one-accepted : {m : MadeS} → a ≡ Made m → Accepted s b b′ d m
   unfolding ofItem verdictOf
   one-accepted g =

@@ -5,14 +5,14 @@ use encoding::answer::refuse;
 use encoding::answer::strayed;
 use reader::item;
 use refusal::RefusalKind;
-use scanning::scan::Cursor;
+use scanning::scan::TextCursor;
 use tokens::cut::next_token;
 ghost use Prim.Native.Nat.{_≤_};
 ghost use lib.ListN.{length};
 ghost use Rattle.cbor.specs.Decode.{mostBytes};
 ghost use Rattle.notation.specs.Reading.{marked, single};
 ghost use Rattle.notation.specs.Alone.{plus};
-ghost use Rattle.encoding.specs.ReadAnswers.{Told, ofItem};
+ghost use Rattle.encoding.specs.ReadAnswers.{ReadTold, ofItem};
 ghost use Rattle.one_item.specs.OneAnswers.{Behind};
 
 // The answer for an item that was read: what stands behind it may not stand there.
@@ -33,9 +33,9 @@ fn alone(text: &[u8], levels: usize, m: MadeItem) -> ReadAnswer
 // One item that is the whole text, with some levels left, its bytes at the front of the buffer, if they fit.
 pub fn read_one(text: &[u8], levels: usize, buf: &mut [u8]) -> ReadAnswer
     requires { ⌜ length (now text) ≤ mostBytes ⌝ }
-    ensures { λ r. ⌜ Told ofItem (now (text .entry)) (now (buf .entry)) (now (buf .exit)) (length (marked (now (text .entry)))) 0 r (plus (single levels (now (text .entry)))) ⌝ }
+    ensures { λ r. ⌜ ReadTold ofItem (now (text .entry)) (now (buf .entry)) (now (buf .exit)) (length (marked (now (text .entry)))) 0 r (plus (single levels (now (text .entry)))) ⌝ }
 {
-    let first = Cursor { at: 0 }.skip(text);
+    let first = TextCursor { at: 0 }.skip(text);
     if first.at != 0 {
         return refuse(RefusalKind::NotAllowed, 0);
     }

@@ -26,7 +26,7 @@ use Rattle.notation.specs.Theorems.{Edits}
 use Rattle.notation.proofs.PrintWhole.{text-of-print}
 use Rattle.notation.proofs.SoundRead.{text-valid}
 use Rattle.notation.proofs.Edited.{edited-text}
-use Rattle.operations.specs.Operations.{onward, room, fitting, written, bytesOf, read, itemsOf, textOf, print, spotOf, lookUp, level, replaced, correction, zeroed, correct}
+use Rattle.operations.specs.Operations.{andThen, room, fitting, written, bytesOf, read, itemsOf, textOf, print, spotOf, lookUp, level, replaced, correction, zeroed, correct}
 use Rattle.operations.specs.Demands.{Acceptance, ReadingChecks, Restores, RoundTrip, Sheet, OneItem, Agree, Demand3}
 use Rattle.operations.proofs.Verdicts.{onward-ok, onward-is, onward-refused, fitting-yes, fitting-ok, fitting-same, written-ok, front-all, agree-same, agree-refused}
 
@@ -94,7 +94,7 @@ looked-up bytes path xs o e f = onward-is _ e ∙ rw f
 
 module _ (text buffer : List ℕ) (used : ℕ) (sheet : Sheet text buffer used) (k : ℕ) (p : List ℕ) (z : Span) (ed : Edits text (sheet .items) k p z) where
   -- so what is left is the text, and room for the result
-  correction-is : (new : List ℕ) → correction buffer used (k ∷ p) new ≡ onward (readItem (levelsAt mostLevels p) new) (λ y. fitting buffer (replaced (ed .spot) y))
+  correction-is : (new : List ℕ) → correction buffer used (k ∷ p) new ≡ andThen (readItem (levelsAt mostLevels p) new) (λ y. fitting buffer (replaced (ed .spot) y))
   unfolding correction room level
   correction-is new =
       let l : used ≤ min (length buffer) mostBytes = omega (arith, sheet .short, sheet .within) in

@@ -10,11 +10,11 @@ use Rattle.cbor.specs.Refusals.{bind, Verdict, accepted, refused, verdictOf}
 use Rattle.cbor.specs.Widths.{argumentBytes, limit, fits, shortest, information, bigEndian, valueFrom}
 use Rattle.cbor.specs.Items.{count, count₂, levels}
 use Rattle.cbor.specs.Heads.{majorNumber, majorOf, initial, head, informationOf, isFloat, isAllowed, isIndefinite, taking, started, argued, headBy, nextHead}
-use Rattle.cbor.specs.Encode.{encodeString, opening, closing, enclosed, encodeChunks, encode, encodeAll}
+use Rattle.cbor.specs.Encode.{encodeString, openingHead, closingBreak, enclosed, encodeChunks, encode, encodeAll}
 use Rattle.cbor.specs.Utf8.{isIn, rows, followIn, follow, areIn, sequenceBy, firstBadFrom, firstBad, isUtf8}
 use Rattle.cbor.specs.TypedArrays.{elementSize, chunksLength, divides, isTypedArray, mayTag}
 use Rattle.cbor.specs.Valid.{isText, isSimple}
-use Rattle.cbor.specs.Decode.{stepAt, severalBy, severalWithin, several, content, chunkBy, chunk, entry, extent, tagged, elements, entries, chunks, itemBy, itemWith, item, decode}
+use Rattle.cbor.specs.Decode.{stepAt, severalBy, severalWithin, several, contentAt, chunkBy, chunkAt, entryAt, extent, tagged, elements, entries, chunksOf, itemBy, itemWith, item, decode}
 use Rattle.cbor.specs.Paths.{within, nth, nth₂, child, onward, descend, locate, start, end}
 use Rattle.memory.specs.Buffer.{over}
 use Rattle.notation.specs.Classes.{classNumber, classRows, classIn, classOf, is, isWord}
@@ -24,11 +24,11 @@ use Rattle.notation.specs.Numbers.{digitValue, isDigit, numberFrom, digits, mak
 use Rattle.notation.specs.Quoted.{utf8Of, escapes, escapedIn, wholeUnit, unit, moveAt, unquote}
 use Rattle.notation.specs.Literals.{literalToken, quotedToken, quoted, isBody, body, after, halfEnd, hexDigit, hexFrom, hexContent, contained, encodedLiteral}
 use Rattle.notation.specs.Words.{same, isFloatWord, worded, prefixed, word}
-use Rattle.notation.specs.Cutting.{afterMinus, opening as openingToken, cutBy, cut, place, placed, next}
-use Rattle.notation.specs.Form.{then, strayIndicator, strayClosing, stray, strays, shapeNumber, closing as closingRule, sized, contains, tags, afterTag, inside, literalItem, beginning, oneRule, addItem, afterItem, itemsRule, addChunk, afterChunk, isWanted, chunk as chunkRule, chunksRule, rules, obey, readsWithin, reads}
+use Rattle.notation.specs.Cutting.{afterMinus, openingToken, cutBy, cut, place, placed, next}
+use Rattle.notation.specs.Form.{then, strayIndicator, strayClosing, stray, strays, shapeNumber, closingRule, widthRule, contains, tagRule, afterTag, inside, literalItem, beginning, oneRule, addItem, afterItem, itemsRule, addChunk, afterChunk, isWanted, chunkRule, chunksRule, rules, obey, readsWithin, reads}
 use Rattle.notation.specs.Reading.{marked, checked, sequence, readText, outside, alone, single, readItem}
 use Rattle.notation.specs.Places.{levelsAt}
-use Rattle.operations.specs.Operations.{Outcome, onward as onwards, room, fitting, written, bytesOf, read, itemsOf, spotOf, lookUp, level, replaced, correction, zeroed, correct}
+use Rattle.operations.specs.Operations.{Outcome, andThen as onwards, room, fitting, written, bytesOf, read, itemsOf, spotOf, lookUp, level, replaced, correction, zeroed, correct}
 
 pub data Question : Type 0 where
   reading : String → Question
@@ -75,5 +75,5 @@ examples =
     ∷ []
 
 pub examples-hold : L.map (λ (e : Example). answer (e .question)) examples ≡ L.map (λ (e : Example). e .expected) examples
-unfolding examples answer outcome left onwards room fitting written bytesOf read itemsOf spotOf lookUp level replaced correction zeroed correct bind verdictOf argumentBytes limit fits shortest information bigEndian valueFrom count count₂ levels majorNumber majorOf initial head informationOf isFloat isAllowed isIndefinite taking started argued headBy nextHead encodeString opening closing enclosed encodeChunks encode isIn rows followIn follow areIn sequenceBy firstBadFrom firstBad isUtf8 elementSize chunksLength divides isTypedArray mayTag isText isSimple stepAt severalBy severalWithin several content chunkBy chunk entry extent tagged elements entries chunks itemBy itemWith item decode within nth nth₂ child onward descend locate start end over classNumber classRows classIn classOf is isWord isComment skipped leftIn skipFrom skip run whether expect indicated indicator choose digitValue isDigit numberFrom digits makesFloat isFloating radixOf judged integerToken integer otherInteger decimal based afterZero number utf8Of escapes escapedIn wholeUnit unit moveAt unquote literalToken quotedToken quoted isBody body after halfEnd hexDigit hexFrom hexContent contained encodedLiteral same isFloatWord worded prefixed word afterMinus openingToken cutBy cut place placed next then strayIndicator strayClosing stray strays shapeNumber closingRule sized contains tags afterTag inside literalItem beginning oneRule addItem afterItem itemsRule addChunk afterChunk isWanted chunkRule chunksRule rules obey readsWithin reads marked checked sequence readText outside alone single readItem levelsAt
+unfolding examples answer outcome left onwards room fitting written bytesOf read itemsOf spotOf lookUp level replaced correction zeroed correct bind verdictOf argumentBytes limit fits shortest information bigEndian valueFrom count count₂ levels majorNumber majorOf initial head informationOf isFloat isAllowed isIndefinite taking started argued headBy nextHead encodeString openingHead closingBreak enclosed encodeChunks encode isIn rows followIn follow areIn sequenceBy firstBadFrom firstBad isUtf8 elementSize chunksLength divides isTypedArray mayTag isText isSimple stepAt severalBy severalWithin several contentAt chunkBy chunkAt entryAt extent tagged elements entries chunksOf itemBy itemWith item decode within nth nth₂ child onward descend locate start end over classNumber classRows classIn classOf is isWord isComment skipped leftIn skipFrom skip run whether expect indicated indicator choose digitValue isDigit numberFrom digits makesFloat isFloating radixOf judged integerToken integer otherInteger decimal based afterZero number utf8Of escapes escapedIn wholeUnit unit moveAt unquote literalToken quotedToken quoted isBody body after halfEnd hexDigit hexFrom hexContent contained encodedLiteral same isFloatWord worded prefixed word afterMinus openingToken cutBy cut place placed next then strayIndicator strayClosing stray strays shapeNumber closingRule widthRule contains tagRule afterTag inside literalItem beginning oneRule addItem afterItem itemsRule addChunk afterChunk isWanted chunkRule chunksRule rules obey readsWithin reads marked checked sequence readText outside alone single readItem levelsAt
 examples-hold = refl

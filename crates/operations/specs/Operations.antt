@@ -21,9 +21,9 @@ pub record Outcome (A : Type 0) : Type 0 where
   pub buffer : List ℕ
 
 -- what comes next, where something was accepted
-unfoldable pub onward : {A B : Type 0} → Verdict A → (A → Verdict B) → Verdict B
-onward (accepted x) k = k x
-onward (refused n place) k = refused n place
+unfoldable pub andThen : {A B : Type 0} → Verdict A → (A → Verdict B) → Verdict B
+andThen (accepted x) k = k x
+andThen (refused n place) k = refused n place
 
 -- 14, "only if all else passes": the result is over the buffer, or over 65,535
 unfoldable pub room : List ℕ → ℕ
@@ -39,7 +39,7 @@ written buffer laid (refused n place) = record { answer = refused n place; buffe
 
 -- READ: a text to the bytes of its items
 unfoldable pub bytesOf : List ℕ → List ℕ → Verdict (List ℕ)
-bytesOf text buffer = onward (readText text) (λ xs. fitting buffer (encodeAll xs))
+bytesOf text buffer = andThen (readText text) (λ xs. fitting buffer (encodeAll xs))
 
 unfoldable pub read : List ℕ → List ℕ → Outcome ℕ
 read text buffer = written buffer (λ w. w) (bytesOf text buffer)
@@ -50,7 +50,7 @@ itemsOf bytes = verdictOf (length bytes) (decode bytes)
 
 -- PRINT: bytes to the text of their items
 unfoldable pub textOf : List ℕ → List ℕ → Verdict (List ℕ)
-textOf bytes buffer = onward (itemsOf bytes) (λ xs. fitting buffer (printText xs))
+textOf bytes buffer = andThen (itemsOf bytes) (λ xs. fitting buffer (printText xs))
 
 unfoldable pub print : List ℕ → List ℕ → Outcome ℕ
 print bytes buffer = written buffer (λ w. w) (textOf bytes buffer)
@@ -61,7 +61,7 @@ spotOf (found z) = accepted z
 spotOf (nowhere i) = refused noSuchPath i
 
 unfoldable pub lookUp : List ℕ → List ℕ → Verdict Spot
-lookUp bytes path = onward (itemsOf bytes) (λ xs. spotOf (locate path xs))
+lookUp bytes path = andThen (itemsOf bytes) (λ xs. spotOf (locate path xs))
 
 -- the part of the bytes that is returned; "A refused look up returns an empty part"
 unfoldable pub partOf : List ℕ → Verdict Spot → List ℕ
@@ -79,7 +79,7 @@ replaced z y = z .before ++ (encode y ++ z .behind)
 unfoldable pub correction : List ℕ → ℕ → List ℕ → List ℕ → Verdict (List ℕ)
 correction buffer used path text =
     elim (leb used (room buffer)) [
-      | true ↦ onward (lookUp (take used buffer) path) (λ z. onward (readItem (level path) text) (λ y. fitting buffer (replaced z y)))
+      | true ↦ andThen (lookUp (take used buffer) path) (λ z. andThen (readItem (level path) text) (λ y. fitting buffer (replaced z y)))
       | false ↦ refused tooLong 0
     ]
 

@@ -12,14 +12,14 @@ use borrow.Author.Tests.{eq-eqb, ne-eqb, eqb-true, eqb-false}
 use Rattle.cbor.specs.Refusals.{Result, ok, refuse}
 use Rattle.cbor.specs.Items.{Size}
 use Rattle.cbor.specs.Heads.{Major, majorNumber, Head, nextHead}
-use Rattle.cbor.specs.Decode.{Until, counted, broken, over, another, stepAt, extent}
+use Rattle.cbor.specs.Decode.{Until, counted, broken, finished, another, stepAt, extent}
 use Rattle.head.specs.HeadAnswers.{headTold, sizeInformation, headFrom, headAt}
 use Rattle.walk.specs.WalkAnswers.{Within, passTold, toldOf, oneOf, untilOf, turnOf, Turned, afterTold}
 use Rattle.refusal.specs.declared.Refusal.{Refusal}
 use Rattle.head.specs.declared.HeadAt.{HeadAt}
 use Rattle.head.specs.declared.HeadRead.{HeadRead}
 use Rattle.head.specs.declared.HeadRead.the-variants.{Head as HeadV, Refused as HeadRefusedV}
-use Rattle.walk.specs.declared.Span.{Span}
+use Rattle.walk.specs.declared.Passage.{Passage}
 use Rattle.walk.specs.declared.Passed.{Passed}
 use Rattle.walk.specs.declared.Passed.the-variants.{Span as SpanV, Refused as RefusedV}
 use Rattle.walk.specs.declared.Extent.{Extent}
@@ -31,11 +31,11 @@ use Rattle.walk.proofs.ItemLeaves.{HeadLeft, head-left}
 use Rattle.walk.proofs.WalkParts.{size-indefinite, size-definite}
 use Rattle.walk.proofs.WalkCycle.{Reached, reached, one-leaves}
 use Rattle.walk.proofs.WalkItems.{part-told}
-use Rattle.path.specs.Following.{Place, at, astray, onto, behindOne, past, stepTo, nthFrom, childBy, childAt, childIn, numbered, follow, trace}
-use Rattle.path.specs.StepAnswers.{placeOf, Inner, Moved, extentBy, tracedTo, Still, Traced}
+use Rattle.path.specs.Following.{Place, at, astray, onto, behindOne, pastOne, stepTo, nthFrom, childBy, childAt, childIn, numbered, followFrom, trace}
+use Rattle.path.specs.StepAnswers.{placeOf, ReachedInside, ReachedAt, extentBy, tracedTo, Still, Traced}
 use Rattle.path.specs.declared.Cursor.{Cursor}
-use Rattle.path.specs.declared.Move.{Move}
-use Rattle.path.specs.declared.Move.the-variants.{To, Nowhere}
+use Rattle.path.specs.declared.Destination.{Destination}
+use Rattle.path.specs.declared.Destination.the-variants.{To, Nowhere}
 use Rattle.path.specs.declared.Trace.the-variants.{At, Lost}
 
 -- EXTENTS
@@ -57,8 +57,8 @@ unfolding behindOne
 past-none major (ok n r) l = absurd (omega (arith, l .less))
 past-none major (refuse n left) l = refl
 
-pub past-off : (s : List ℕ) (major i : ℕ) → length s < i → Moved s Nowhere (past major (drop i s))
-unfolding placeOf Inner past
+pub past-off : (s : List ℕ) (major i : ℕ) → length s < i → ReachedAt s Nowhere (pastOne major (drop i s))
+unfolding placeOf ReachedInside pastOne
 past-off s major i h =
     let le : length s ≤ i = omega arith in
     record { is = rw (drop-of-length-le s le) (sym (past-none major (oneOf major 17 []) (one-leaves major 17 []))); inside = tt }
@@ -67,8 +67,8 @@ past-off s major i h =
 left-of : (s : List ℕ) (i : ℕ) (r : List ℕ) {z : ℕ} → i ≤ length s → Left 1 (drop i s) r z → Left 0 s r z
 left-of s i r h l = left-weak (omega arith) (omega arith) (left-on (left-cut 0 0 i s (omega arith) (omega arith) h) l)
 
-past-at : (s : List ℕ) (i n : ℕ) (m : Span) (res : Result ℕ) → i ≤ length s → Leaves 1 same (drop i s) res → Reached (length s) m res → Moved s (To (record { at = m .end })) (behindOne res)
-unfolding placeOf Inner behindOne
+past-at : (s : List ℕ) (i n : ℕ) (m : Passage) (res : Result ℕ) → i ≤ length s → Leaves 1 same (drop i s) res → Reached (length s) m res → ReachedAt s (To (record { at = m .end })) (behindOne res)
+unfolding placeOf ReachedInside behindOne
 past-at s i n m (ok k r) h l g =
     let e : g .rest ≡ r = cc (g .is) in
     let d = left-of s i r h l in
@@ -86,12 +86,12 @@ module _ (s : List ℕ) (major i : ℕ) (h : i ≤ length s) (inner : Passed) (l
   one-told : passTold part ≡ toldOf (length s) (oneOf major 17 (drop i s))
   one-told = part-told s i (oneOf major 17) inner part h long (one-leaves major 17) told after
 
-  pub past-refused : {e : Refusal} → part ≡ RefusedV e → Moved s Nowhere (past major (drop i s))
-  unfolding placeOf Inner past
+  pub past-refused : {e : Refusal} → part ≡ RefusedV e → ReachedAt s Nowhere (pastOne major (drop i s))
+  unfolding placeOf ReachedInside pastOne
   past-refused f = record { is = past-not s _ (oneOf major 17 (drop i s)) (rw f at one-told); inside = tt }
 
-  pub past-to : {m : Span} → part ≡ SpanV m → Moved s (To (record { at = m .end })) (past major (drop i s))
-  unfolding past
+  pub past-to : {m : Passage} → part ≡ SpanV m → ReachedAt s (To (record { at = m .end })) (pastOne major (drop i s))
+  unfolding pastOne
   past-to {m} f = past-at s i 0 m (oneOf major 17 (drop i s)) h (one-leaves major 17 (drop i s)) (reached (oneOf major 17 (drop i s)) part one-told f)
 
 pub ruleset past-ways = (past-off, past-refused, past-to)
@@ -105,7 +105,7 @@ pub record Nth (major : ℕ) (s : List ℕ) (k from : ℕ) (first : Extent) (i :
 pub nth-start : (major k : ℕ) {s : List ℕ} {from : ℕ} (u : Extent) → Within s from → Nth major s k from u from u k
 nth-start major k u w = record { inside = w .inside; left = refl }
 
-pub nth-none : (major n : ℕ) (u : Until) (s r : List ℕ) → stepAt u s ≡ over r → nthFrom major n u s ≡ astray
+pub nth-none : (major n : ℕ) (u : Until) (s r : List ℕ) → stepAt u s ≡ finished r → nthFrom major n u s ≡ astray
 unfolding nthFrom stepTo
 nth-none major zero u s r e = rw e
 nth-none major (suc n) u s r e = rw e
@@ -115,14 +115,14 @@ unfolding nthFrom stepTo
 nth-zero major zero u v s e z = rw e
 nth-zero major (suc n) u v s e z = absurd (omega arith)
 
-pub nth-more : (major n : ℕ) (u v : Until) (s : List ℕ) → stepAt u s ≡ another v → (n ≡ 0 → ⊥) → nthFrom major n u s ≡ onto (past major s) (nthFrom major (n - 1) v)
+pub nth-more : (major n : ℕ) (u v : Until) (s : List ℕ) → stepAt u s ≡ another v → (n ≡ 0 → ⊥) → nthFrom major n u s ≡ onto (pastOne major s) (nthFrom major (n - 1) v)
 unfolding nthFrom stepTo
 nth-more major zero u v s e z = absurd (z refl)
-nth-more major (suc n) u v s e z = let i : n ≡ suc n - 1 = omega arith in rw e (ap (λ (k : ℕ). onto (past major s) (nthFrom major k v)) i)
+nth-more major (suc n) u v s e z = let i : n ≡ suc n - 1 = omega arith in rw e (ap (λ (k : ℕ). onto (pastOne major s) (nthFrom major k v)) i)
 
 module _ {major : ℕ} {s : List ℕ} {k from : ℕ} {first : Extent} {i : ℕ} {u : Extent} {n : ℕ} (run : Nth major s k from first i u n) {turn : Turn} (tu : Turned s i u turn) where
-  pub nth-over : {e : ℕ} → turn ≡ Over e → Moved s Nowhere (nthFrom major k (untilOf first) (drop from s))
-  unfolding turnOf placeOf Inner
+  pub nth-over : {e : ℕ} → turn ≡ Over e → ReachedAt s Nowhere (nthFrom major k (untilOf first) (drop from s))
+  unfolding turnOf placeOf ReachedInside
   nth-over {e} f = record { is = sym (run .left ∙ nth-none major n (untilOf u) (drop i s) (drop e s) (sym (tu .is) ∙ ap (turnOf s) f)); inside = tt }
 
   module _ {v : Extent} (f : turn ≡ Another v) where
@@ -130,21 +130,21 @@ module _ {major : ℕ} {s : List ℕ} {k from : ℕ} {first : Extent} {i : ℕ} 
     unfolding turnOf
     steps = sym (tu .is) ∙ ap (turnOf s) f
 
-    pub nth-here : n ≡ 0 → Moved s (To (record { at = i })) (nthFrom major k (untilOf first) (drop from s))
-    unfolding placeOf Inner
+    pub nth-here : n ≡ 0 → ReachedAt s (To (record { at = i })) (nthFrom major k (untilOf first) (drop from s))
+    unfolding placeOf ReachedInside
     nth-here z = record { is = sym (run .left ∙ nth-zero major n (untilOf u) (untilOf v) (drop i s) steps z); inside = run .inside }
 
-    module _ (z : n ≡ 0 → ⊥) {move : Move} (mv : Moved s move (past major (drop i s))) where
+    module _ (z : n ≡ 0 → ⊥) {move : Destination} (mv : ReachedAt s move (pastOne major (drop i s))) where
       on : nthFrom major k (untilOf first) (drop from s) ≡ onto (placeOf s move) (nthFrom major (n - 1) (untilOf v))
       on = run .left ∙ nth-more major n (untilOf u) (untilOf v) (drop i s) steps z ∙ ap (λ (p : Place). onto p (nthFrom major (n - 1) (untilOf v))) (sym (mv .is))
 
-      pub nth-lost : move ≡ Nowhere → Moved s Nowhere (nthFrom major k (untilOf first) (drop from s))
-      unfolding placeOf Inner onto
-      nth-lost e = record { is = sym (on ∙ ap (λ (m : Move). onto (placeOf s m) (nthFrom major (n - 1) (untilOf v))) e); inside = tt }
+      pub nth-lost : move ≡ Nowhere → ReachedAt s Nowhere (nthFrom major k (untilOf first) (drop from s))
+      unfolding placeOf ReachedInside onto
+      nth-lost e = record { is = sym (on ∙ ap (λ (m : Destination). onto (placeOf s m) (nthFrom major (n - 1) (untilOf v))) e); inside = tt }
 
       pub nth-on : {c : Cursor} → move ≡ To c → Nth major s k from first (c .at) v (n - 1)
-      unfolding placeOf Inner onto
-      nth-on {c} e = record { inside = rw e at (mv .inside); left = on ∙ ap (λ (m : Move). onto (placeOf s m) (nthFrom major (n - 1) (untilOf v))) e }
+      unfolding placeOf ReachedInside onto
+      nth-on {c} e = record { inside = rw e at (mv .inside); left = on ∙ ap (λ (m : Destination). onto (placeOf s m) (nthFrom major (n - 1) (untilOf v))) e }
 
 pub ruleset nth-ways = (nth-over, nth-here, nth-lost)
 
@@ -207,8 +207,8 @@ child-no k n e (ok d r) h = let z : _≡_ {A = ℕ} 0 1 = cc in absurd (omega ar
 child-no k n e (refuse m left) h = refl
 
 module _ (k : ℕ) (s : List ℕ) (i : ℕ) (a : HeadRead) (told : headTold a ≡ headAt s i) where
-  pub into-refused : {e : Refusal} → a ≡ HeadRefusedV e → Moved s Nowhere (childIn k (drop i s))
-  unfolding placeOf Inner childIn headAt
+  pub into-refused : {e : Refusal} → a ≡ HeadRefusedV e → ReachedAt s Nowhere (childIn k (drop i s))
+  unfolding placeOf ReachedInside childIn headAt
   into-refused f = record { is = child-no k (length s) _ (nextHead (drop i s)) (rw f at told); inside = tt }
 
   module _ {h : HeadAt} (f : a ≡ HeadV h) where
@@ -221,37 +221,37 @@ module _ (k : ℕ) (s : List ℕ) (i : ℕ) (a : HeadRead) (told : headTold a �
         let g = got s i a told f in
         ap (childAt k) (g .is) ∙ sym ((λ j. childBy k (g .major j) (g .extends j) (g .drops j)))
 
-    pub into-other : (h .major ≡ 4 → ⊥) → (h .major ≡ 5 → ⊥) → Moved s Nowhere (childIn k (drop i s))
-    unfolding placeOf Inner childBy
+    pub into-other : (h .major ≡ 4 → ⊥) → (h .major ≡ 5 → ⊥) → ReachedAt s Nowhere (childIn k (drop i s))
+    unfolding placeOf ReachedInside childBy
     into-other p q = record { is = sym (child-is ∙ rw (ne-eqb (h .major) 4 p, childBy) (rw (ne-eqb (h .major) 5 q))); inside = tt }
 
-    module _ (u : Extent) (v : untilOf u ≡ extentBy (h .info) (h .argument)) {move : Move} where
-      pub into-array : h .major ≡ 4 → Moved s move (nthFrom 4 k (untilOf u) (drop (h .end) s)) → Moved s move (childIn k (drop i s))
+    module _ (u : Extent) (v : untilOf u ≡ extentBy (h .info) (h .argument)) {move : Destination} where
+      pub into-array : h .major ≡ 4 → ReachedAt s move (nthFrom 4 k (untilOf u) (drop (h .end) s)) → ReachedAt s move (childIn k (drop i s))
       unfolding childBy
       into-array e mv =
           record { is = mv .is ∙ ap (λ (x : Until). nthFrom 4 k x (drop (h .end) s)) v ∙ sym (child-is ∙ rw (eq-eqb (h .major) 4 e, childBy)); inside = mv .inside }
 
-      module _ (p : h .major ≡ 4 → ⊥) (e : h .major ≡ 5) (mv : Moved s move (nthFrom 5 k (untilOf u) (drop (h .end) s))) where
-        value-is : childIn k (drop i s) ≡ onto (placeOf s move) (past 4)
+      module _ (p : h .major ≡ 4 → ⊥) (e : h .major ≡ 5) (mv : ReachedAt s move (nthFrom 5 k (untilOf u) (drop (h .end) s))) where
+        value-is : childIn k (drop i s) ≡ onto (placeOf s move) (pastOne 4)
         unfolding childBy
-        value-is = child-is ∙ rw (ne-eqb (h .major) 4 p, childBy) (rw (eq-eqb (h .major) 5 e) (ap (λ (x : Place). onto x (past 4)) (sym (mv .is ∙ ap (λ (x : Until). nthFrom 5 k x (drop (h .end) s)) v))))
+        value-is = child-is ∙ rw (ne-eqb (h .major) 4 p, childBy) (rw (eq-eqb (h .major) 5 e) (ap (λ (x : Place). onto x (pastOne 4)) (sym (mv .is ∙ ap (λ (x : Until). nthFrom 5 k x (drop (h .end) s)) v))))
 
-        pub into-none : move ≡ Nowhere → Moved s Nowhere (childIn k (drop i s))
-        unfolding placeOf Inner onto
-        into-none o = record { is = sym (value-is ∙ ap (λ (m : Move). onto (placeOf s m) (past 4)) o); inside = tt }
+        pub into-none : move ≡ Nowhere → ReachedAt s Nowhere (childIn k (drop i s))
+        unfolding placeOf ReachedInside onto
+        into-none o = record { is = sym (value-is ∙ ap (λ (m : Destination). onto (placeOf s m) (pastOne 4)) o); inside = tt }
 
-        pub into-value : {c : Cursor} {last : Move} → move ≡ To c → Moved s last (past 4 (drop (c .at) s)) → Moved s last (childIn k (drop i s))
+        pub into-value : {c : Cursor} {last : Destination} → move ≡ To c → ReachedAt s last (pastOne 4 (drop (c .at) s)) → ReachedAt s last (childIn k (drop i s))
         unfolding placeOf onto
-        into-value o m = record { is = m .is ∙ sym (value-is ∙ ap (λ (m : Move). onto (placeOf s m) (past 4)) o); inside = m .inside }
+        into-value o m = record { is = m .is ∙ sym (value-is ∙ ap (λ (m : Destination). onto (placeOf s m) (pastOne 4)) o); inside = m .inside }
 
 pub ruleset into-ways = (into-refused, into-other, into-array, into-none, into-value)
 
 -- A PATH
 
-pub record Tracing (s path : List ℕ) (move : Move) (i : ℕ) : Type 0 where
+pub record Tracing (s path : List ℕ) (move : Destination) (i : ℕ) : Type 0 where
   pub below : i < length path
-  pub inside : Inner s move
-  pub left : trace path s ≡ numbered i (placeOf s move) (follow (suc i) (drop (suc i) path))
+  pub inside : ReachedInside s move
+  pub left : trace path s ≡ numbered i (placeOf s move) (followFrom (suc i) (drop (suc i) path))
 
 pub trace-none : (s path : List ℕ) → length path ≡ 0 → Traced s path (Lost 0)
 unfolding tracedTo Still trace
@@ -261,29 +261,29 @@ trace-none s (k ∷ p) h = absurd (omega arith)
 pub top-room : (s : List ℕ) → Within s 0
 top-room s = record { inside = omega arith }
 
-pub trace-start : (s path : List ℕ) {move : Move} → (length path ≡ 0 → ⊥) → Moved s move (nthFrom 4 (getD path 0 0) (untilOf Ended) (drop 0 s)) → Tracing s path move 0
+pub trace-start : (s path : List ℕ) {move : Destination} → (length path ≡ 0 → ⊥) → ReachedAt s move (nthFrom 4 (getD path 0 0) (untilOf Ended) (drop 0 s)) → Tracing s path move 0
 unfolding trace untilOf
 trace-start s [] n mv = absurd (n refl)
-trace-start s (k ∷ p) n mv = record { below = omega arith; inside = mv .inside; left = ap (λ (x : Place). numbered 0 x (follow 1 p)) (sym (mv .is)) }
+trace-start s (k ∷ p) n mv = record { below = omega arith; inside = mv .inside; left = ap (λ (x : Place). numbered 0 x (followFrom 1 p)) (sym (mv .is)) }
 
-module _ {s path : List ℕ} {move : Move} {i : ℕ} (run : Tracing s path move i) where
+module _ {s path : List ℕ} {move : Destination} {i : ℕ} (run : Tracing s path move i) where
   pub trace-lost : move ≡ Nowhere → Traced s path (Lost i)
   unfolding tracedTo Still placeOf numbered
-  trace-lost e = record { is = sym (run .left ∙ ap (λ (m : Move). numbered i (placeOf s m) (follow (suc i) (drop (suc i) path))) e); inside = tt }
+  trace-lost e = record { is = sym (run .left ∙ ap (λ (m : Destination). numbered i (placeOf s m) (followFrom (suc i) (drop (suc i) path))) e); inside = tt }
 
   module _ {c : Cursor} (e : move ≡ To c) where
-    going : trace path s ≡ follow (suc i) (drop (suc i) path) (drop (c .at) s)
+    going : trace path s ≡ followFrom (suc i) (drop (suc i) path) (drop (c .at) s)
     unfolding placeOf numbered
-    going = run .left ∙ ap (λ (m : Move). numbered i (placeOf s m) (follow (suc i) (drop (suc i) path))) e
+    going = run .left ∙ ap (λ (m : Destination). numbered i (placeOf s m) (followFrom (suc i) (drop (suc i) path))) e
 
     pub trace-at : length path ≤ i + 1 → Traced s path (At c)
-    unfolding tracedTo Still Inner follow
+    unfolding tracedTo Still ReachedInside followFrom
     trace-at h =
         let le : length path ≤ suc i = omega arith in
-        record { is = sym (going ∙ ap (λ (p : List ℕ). follow (suc i) p (drop (c .at) s)) (drop-of-length-le path le)); inside = rw e at (run .inside) }
+        record { is = sym (going ∙ ap (λ (p : List ℕ). followFrom (suc i) p (drop (c .at) s)) (drop-of-length-le path le)); inside = rw e at (run .inside) }
 
-    pub trace-on : {next : Move} → i + 1 < length path → Moved s next (childIn (getD path (i + 1) 0) (drop (c .at) s)) → Tracing s path next (i + 1)
-    unfolding follow
+    pub trace-on : {next : Destination} → i + 1 < length path → ReachedAt s next (childIn (getD path (i + 1) 0) (drop (c .at) s)) → Tracing s path next (i + 1)
+    unfolding followFrom
     trace-on {next} h mv =
         let j : i + 1 ≡ suc i = omega arith in
         let l : suc i < length path = omega arith in
@@ -291,8 +291,8 @@ module _ {s path : List ℕ} {move : Move} {i : ℕ} (run : Tracing s path move 
         rw j (record {
           below = l;
           inside = mv .inside;
-          left = going ∙ ap (λ (p : List ℕ). follow (suc i) p (drop (c .at) s)) (drop-cons path (suc i) 0 l)
-              ∙ ap (λ (x : Place). numbered (suc i) x (follow (suc (suc i)) (drop (suc (suc i)) path))) (sym (mv .is ∙ ap (λ (x : ℕ). childIn x (drop (c .at) s)) q));
+          left = going ∙ ap (λ (p : List ℕ). followFrom (suc i) p (drop (c .at) s)) (drop-cons path (suc i) 0 l)
+              ∙ ap (λ (x : Place). numbered (suc i) x (followFrom (suc (suc i)) (drop (suc (suc i)) path))) (sym (mv .is ∙ ap (λ (x : ℕ). childIn x (drop (c .at) s)) q));
         })
 
 pub ruleset trace-ways = (trace-none, trace-lost, trace-at)

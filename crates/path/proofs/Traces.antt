@@ -10,17 +10,17 @@ use borrow.Author.Tests.{ne-eqb}
 use Rattle.cbor.specs.Refusals.{Result, ok, refuse, bind, badTypedArray}
 use Rattle.cbor.specs.Items.{Kind, Size, definite, indefinite, unsigned, negative, byteString, textString, Item, int, string, chunked, array, map, tag, simple, Items, none, more, Pairs, none₂, more₂, count, count₂, levels, levelsAll, levelsAll₂}
 use Rattle.cbor.specs.Heads.{Major, integers, strings, arrays, maps, tags, simples, majorNumber, Head, nextHead, isIndefinite}
-use Rattle.cbor.specs.Encode.{opening, closing, enclosed, encode, encodeAll, encodeAll₂}
+use Rattle.cbor.specs.Encode.{openingHead, closingBreak, enclosed, encode, encodeAll, encodeAll₂}
 use Rattle.cbor.specs.TypedArrays.{mayTag}
 use Rattle.cbor.specs.Valid.{Fits, Valid, ValidAll, ValidAll₂}
-use Rattle.cbor.specs.Decode.{Until, ended, content, chunks, elements, entries, entry, extent, tagged, itemBy, item as itemAt}
+use Rattle.cbor.specs.Decode.{Until, ended, contentAt, chunksOf, elements, entries, entryAt, extent, tagged, itemBy, item as itemAt}
 use Rattle.cbor.specs.Paths.{Spot, Found, found, nowhere, within, nth, nth₂, child, onward, descend, locate}
-use Rattle.walk.specs.WalkAnswers.{sized, below, oneOf, entryContents, contents}
+use Rattle.walk.specs.WalkAnswers.{mapResult, below, oneOf, entryContents, contents}
 use Rattle.cbor.proofs.Results.{refuse-not-ok}
 use Rattle.cbor.proofs.Several.{tailOf, Meets, Begins, begins-more, step-over, Goes, goes}
 use Rattle.cbor.proofs.DecodeEncode.{enterAt, shown, plain-arrays, plain-maps, Plain, begins, opening-shown, closing-tail, shown-meets, item-of-encode}
 use Rattle.walk.proofs.WalkItems.{item-eq}
-use Rattle.path.specs.Following.{Place, at, astray, onto, behindOne, past, nthFrom, childBy, childAt, childIn, numbered, follow, trace}
+use Rattle.path.specs.Following.{Place, at, astray, onto, behindOne, pastOne, nthFrom, childBy, childAt, childIn, numbered, followFrom, trace}
 use Rattle.path.proofs.Stepping.{nth-none, nth-zero, nth-more}
 
 -- an item that can be read with 16 levels left
@@ -54,14 +54,14 @@ spotted-within a b c (nowhere i) = refl
 
 -- ONE OF SEVERAL
 
-past-item : (x : Item) (r : List ℕ) → Sound x → past 4 (encode x ++ r) ≡ at r
-unfolding past oneOf below sized behindOne
-past-item x r v = ap (λ (k : Result Item). behindOne (sized contents k)) (item-of-encode x 16 r (v .0) (v .1))
+past-item : (x : Item) (r : List ℕ) → Sound x → pastOne 4 (encode x ++ r) ≡ at r
+unfolding pastOne oneOf below mapResult behindOne
+past-item x r v = ap (λ (k : Result Item). behindOne (mapResult contents k)) (item-of-encode x 16 r (v .0) (v .1))
 
-past-entry : (y x : Item) (r : List ℕ) → Sound y → Sound x → past 5 ((encode y ++ encode x) ++ r) ≡ at r
-unfolding past oneOf below sized behindOne entry bind
+past-entry : (y x : Item) (r : List ℕ) → Sound y → Sound x → pastOne 5 ((encode y ++ encode x) ++ r) ≡ at r
+unfolding pastOne oneOf below mapResult behindOne entryAt bind
 past-entry y x r v w =
-    ap (λ (t : List ℕ). behindOne (sized entryContents (entry (itemAt 16) t))) (append-assoc (encode y) (encode x) r)
+    ap (λ (t : List ℕ). behindOne (mapResult entryContents (entryAt (itemAt 16) t))) (append-assoc (encode y) (encode x) r)
     ∙ rw (item-of-encode y 16 (encode x ++ r) (v .0) (v .1)) (rw (item-of-encode x 16 r (w .0) (w .1)))
 
 -- another one stands there
@@ -78,28 +78,28 @@ nth-place i (suc k) (more x xs) u r v m =
     let g = goes-on u (count xs) (encode x) (encodeAll xs) r (begins x (v .0 .0)) m in
     let one : k ≡ suc k - 1 = omega arith in
     nth-more 4 (suc k) u (g .next) _ (g .step) (λ e. omega arith)
-    ∙ ap (λ (n : ℕ). onto (past 4 ((encode x ++ encodeAll xs) ++ tailOf u r)) (nthFrom 4 n (g .next))) (sym one)
-    ∙ ap (λ (p : Place). onto p (nthFrom 4 k (g .next))) (ap (past 4) (append-assoc (encode x) (encodeAll xs) (tailOf u r)) ∙ past-item x (encodeAll xs ++ tailOf u r) (v .0 .0, omega arith))
+    ∙ ap (λ (n : ℕ). onto (pastOne 4 ((encode x ++ encodeAll xs) ++ tailOf u r)) (nthFrom 4 n (g .next))) (sym one)
+    ∙ ap (λ (p : Place). onto p (nthFrom 4 k (g .next))) (ap (pastOne 4) (append-assoc (encode x) (encodeAll xs) (tailOf u r)) ∙ past-item x (encodeAll xs ++ tailOf u r) (v .0 .0, omega arith))
     ∙ ap (λ (t : List ℕ). nthFrom 4 k (g .next) (encodeAll xs ++ t)) (sym (g .tail))
     ∙ nth-place i k xs (g .next) r (v .0 .1, omega arith) (g .meets)
     ∙ ap (λ (t : List ℕ). placed (nth i k xs) t) (g .tail)
     ∙ sym (placed-within (encode x) [] (tailOf u r) (nth i k xs))
 
-nth-place₂ : (i k : ℕ) (ps : Pairs) (u : Until) (r : List ℕ) → SoundAll₂ ps → Meets u (count₂ ps) r → onto (nthFrom 5 k u (encodeAll₂ ps ++ tailOf u r)) (past 4) ≡ placed (nth₂ i k ps) (tailOf u r)
+nth-place₂ : (i k : ℕ) (ps : Pairs) (u : Until) (r : List ℕ) → SoundAll₂ ps → Meets u (count₂ ps) r → onto (nthFrom 5 k u (encodeAll₂ ps ++ tailOf u r)) (pastOne 4) ≡ placed (nth₂ i k ps) (tailOf u r)
 unfolding encodeAll₂ ValidAll₂ levelsAll₂ count₂ nth₂ onto
-nth-place₂ i k none₂ u r v m = ap (λ (p : Place). onto p (past 4)) (nth-none 5 k u (tailOf u r) r (step-over u r m))
+nth-place₂ i k none₂ u r v m = ap (λ (p : Place). onto p (pastOne 4)) (nth-none 5 k u (tailOf u r) r (step-over u r m))
 nth-place₂ i zero (more₂ y x ps) u r v m =
     let g = goes-on u (count₂ ps) (encode y ++ encode x) (encodeAll₂ ps) r (begins-more (encode x) (begins y (v .0 .0))) m in
-    ap (λ (p : Place). onto p (past 4)) (nth-zero 5 0 u (g .next) _ (g .step) refl)
-    ∙ ap (past 4) (append-assoc (encode y ++ encode x) (encodeAll₂ ps) (tailOf u r) ∙ append-assoc (encode y) (encode x) (encodeAll₂ ps ++ tailOf u r))
+    ap (λ (p : Place). onto p (pastOne 4)) (nth-zero 5 0 u (g .next) _ (g .step) refl)
+    ∙ ap (pastOne 4) (append-assoc (encode y ++ encode x) (encodeAll₂ ps) (tailOf u r) ∙ append-assoc (encode y) (encode x) (encodeAll₂ ps ++ tailOf u r))
     ∙ past-item y (encode x ++ (encodeAll₂ ps ++ tailOf u r)) (v .0 .0, omega arith)
 nth-place₂ i (suc k) (more₂ y x ps) u r v m =
     let g = goes-on u (count₂ ps) (encode y ++ encode x) (encodeAll₂ ps) r (begins-more (encode x) (begins y (v .0 .0))) m in
     let one : k ≡ suc k - 1 = omega arith in
-    ap (λ (p : Place). onto p (past 4)) (nth-more 5 (suc k) u (g .next) _ (g .step) (λ e. omega arith)
-    ∙ ap (λ (n : ℕ). onto (past 5 (((encode y ++ encode x) ++ encodeAll₂ ps) ++ tailOf u r)) (nthFrom 5 n (g .next))) (sym one)
+    ap (λ (p : Place). onto p (pastOne 4)) (nth-more 5 (suc k) u (g .next) _ (g .step) (λ e. omega arith)
+    ∙ ap (λ (n : ℕ). onto (pastOne 5 (((encode y ++ encode x) ++ encodeAll₂ ps) ++ tailOf u r)) (nthFrom 5 n (g .next))) (sym one)
     ∙ ap (λ (p : Place). onto p (nthFrom 5 k (g .next)))
-    (ap (past 5) (append-assoc (encode y ++ encode x) (encodeAll₂ ps) (tailOf u r)) ∙ past-entry y x (encodeAll₂ ps ++ tailOf u r) (v .0 .0, omega arith) (v .0 .1, omega arith))
+    (ap (pastOne 5) (append-assoc (encode y ++ encode x) (encodeAll₂ ps) (tailOf u r)) ∙ past-entry y x (encodeAll₂ ps ++ tailOf u r) (v .0 .0, omega arith) (v .0 .1, omega arith))
     ∙ ap (λ (t : List ℕ). nthFrom 5 k (g .next) (encodeAll₂ ps ++ t)) (sym (g .tail)))
     ∙ nth-place₂ i k ps (g .next) r (v .0 .2, omega arith) (g .meets)
     ∙ ap (λ (t : List ℕ). placed (nth₂ i k ps) t) (g .tail)
@@ -139,8 +139,8 @@ by-shaped : (d : ℕ) (m : Major) (z : Size) (n left : ℕ) (r : List ℕ) → S
 unfolding itemBy
 by-shaped d (integers g) (definite w) n left r = refl
 by-shaped d (integers g) indefinite n left r = tt
-by-shaped d (strings k) (definite w) n left r = made-shaped (strings k) (string k w) (λ b. refl) (content k n left r)
-by-shaped d (strings k) indefinite n left r = made-shaped (strings k) (chunked k) (λ cs. refl) (chunks k r)
+by-shaped d (strings k) (definite w) n left r = made-shaped (strings k) (string k w) (λ b. refl) (contentAt k n left r)
+by-shaped d (strings k) indefinite n left r = made-shaped (strings k) (chunked k) (λ cs. refl) (chunksOf k r)
 by-shaped zero arrays z n left r = tt
 by-shaped (suc d) arrays z n left r = made-shaped arrays (array z) (λ xs. refl) (elements (itemAt d) (extent z n) r)
 by-shaped zero maps z n left r = tt
@@ -172,7 +172,7 @@ inside-is : (k : ℕ) (m : Major) (z : Size) (n : ℕ) (c b : List ℕ) → Plai
     → childIn k (enclosed m z n c ++ b) ≡ childBy k (majorNumber m) (extent z (shown z n)) (c ++ tailOf (extent z (shown z n)) b)
 unfolding childIn childAt enclosed
 inside-is k m z n c b p i h =
-    let split : (opening m z n ++ (c ++ closing z)) ++ b ≡ opening m z n ++ (c ++ tailOf (extent z (shown z n)) b) = simp append-assoc (rw (closing-tail z (shown z n) b)) in
+    let split : (openingHead m z n ++ (c ++ closingBreak z)) ++ b ≡ openingHead m z n ++ (c ++ tailOf (extent z (shown z n)) b) = simp append-assoc (rw (closing-tail z (shown z n) b)) in
     ap (λ (t : List ℕ). childAt k (nextHead t)) split ∙ ap (childAt k) (opening-shown m z n (c ++ tailOf (extent z (shown z n)) b) p i h)
 
 child-place : (i k : ℕ) (x : Item) (b : List ℕ) → Sound x → childIn k (encode x ++ b) ≡ placed (child i k x) b
@@ -196,12 +196,12 @@ child-place i k (array z xs) b v =
     inside-is k arrays z (count xs) (encodeAll xs) b plain-arrays refl (v .0 .0)
     ∙ nth-place i k xs (extent z (shown z (count xs))) b (v .0 .1, omega arith) (shown-meets z (count xs) b)
     ∙ ap (placed (nth i k xs)) (sym (closing-tail z (shown z (count xs)) b))
-    ∙ sym (placed-within (opening arrays z (count xs)) (closing z) b (nth i k xs))
+    ∙ sym (placed-within (openingHead arrays z (count xs)) (closingBreak z) b (nth i k xs))
 child-place i k (map z ps) b v =
     inside-is k maps z (count₂ ps) (encodeAll₂ ps) b plain-maps refl (v .0 .0)
     ∙ nth-place₂ i k ps (extent z (shown z (count₂ ps))) b (v .0 .1, omega arith) (shown-meets z (count₂ ps) b)
     ∙ ap (placed (nth₂ i k ps)) (sym (closing-tail z (shown z (count₂ ps)) b))
-    ∙ sym (placed-within (opening maps z (count₂ ps)) (closing z) b (nth₂ i k ps))
+    ∙ sym (placed-within (openingHead maps z (count₂ ps)) (closingBreak z) b (nth₂ i k ps))
 child-place i k (tag w n x) b v = no-child k (tag w n x) b v (λ e. omega arith) (λ e. omega arith)
 child-place i k (simple n) b v = no-child k (simple n) b v (λ e. omega arith) (λ e. omega arith)
 
@@ -232,31 +232,31 @@ unfolding child Well Valid levels
 child-well i k (int g w n) v = refl
 child-well i k (string s w c) v = refl
 child-well i k (chunked s cs) v = refl
-child-well i k (array z xs) v = within-well i (opening arrays z (count xs)) (closing z) (nth i k xs) (nth-well i k xs (v .0 .1, omega arith))
-child-well i k (map z ps) v = within-well i (opening maps z (count₂ ps)) (closing z) (nth₂ i k ps) (nth-well₂ i k ps (v .0 .1, omega arith))
+child-well i k (array z xs) v = within-well i (openingHead arrays z (count xs)) (closingBreak z) (nth i k xs) (nth-well i k xs (v .0 .1, omega arith))
+child-well i k (map z ps) v = within-well i (openingHead maps z (count₂ ps)) (closingBreak z) (nth₂ i k ps) (nth-well₂ i k ps (v .0 .1, omega arith))
 child-well i k (tag w n x) v = refl
 child-well i k (simple n) v = refl
 
 -- THE PATH
 
 -- a step, and those behind it
-step-place : (i : ℕ) (p : List ℕ) (b : List ℕ) (f : Found Spot) → Well i f → ((x : Item) (c : List ℕ) → Sound x → follow (suc i) p (encode x ++ c) ≡ spotted (descend (suc i) p x) c)
-    → numbered i (placed f b) (follow (suc i) p) ≡ spotted (onward f (descend (suc i) p)) b
+step-place : (i : ℕ) (p : List ℕ) (b : List ℕ) (f : Found Spot) → Well i f → ((x : Item) (c : List ℕ) → Sound x → followFrom (suc i) p (encode x ++ c) ≡ spotted (descend (suc i) p x) c)
+    → numbered i (placed f b) (followFrom (suc i) p) ≡ spotted (onward f (descend (suc i) p)) b
 unfolding numbered onward Well
 step-place i p b (found z) w h = h (z .item) (z .behind ++ b) w ∙ sym (spotted-within (z .before) (z .behind) b (descend (suc i) p (z .item)))
 step-place i p b (nowhere j) w h = ap nowhere (sym w)
 
-descend-place : (p : List ℕ) (i : ℕ) (x : Item) (b : List ℕ) → Sound x → follow i p (encode x ++ b) ≡ spotted (descend i p x) b
-unfolding follow descend
+descend-place : (p : List ℕ) (i : ℕ) (x : Item) (b : List ℕ) → Sound x → followFrom i p (encode x ++ b) ≡ spotted (descend i p x) b
+unfolding followFrom descend
 descend-place [] i x b v = refl
 descend-place (k ∷ p) i x b v =
-    ap (λ (q : Place). numbered i q (follow (suc i) p)) (child-place i k x b v) ∙ step-place i p b (child i k x) (child-well i k x v) (descend-place p (suc i))
+    ap (λ (q : Place). numbered i q (followFrom (suc i) p)) (child-place i k x b v) ∙ step-place i p b (child i k x) (child-well i k x v) (descend-place p (suc i))
 
 pub locate-place : (p : List ℕ) (xs : Items) → SoundAll xs → trace p (encodeAll xs) ≡ spotted (locate p xs) []
 unfolding trace locate
 locate-place [] xs v = refl
 locate-place (k ∷ p) xs v =
-    ap (λ (q : Place). numbered 0 q (follow 1 p)) (ap (nthFrom 4 k ended) (sym (append-nil (encodeAll xs))) ∙ nth-place 0 k xs ended [] v refl)
+    ap (λ (q : Place). numbered 0 q (followFrom 1 p)) (ap (nthFrom 4 k ended) (sym (append-nil (encodeAll xs))) ∙ nth-place 0 k xs ended [] v refl)
     ∙ step-place 0 p [] (nth 0 k xs) (nth-well 0 k xs v) (descend-place p 1)
 
 -- the item at a path can be read

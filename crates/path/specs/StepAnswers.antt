@@ -8,24 +8,24 @@ use lib.ListN.{length, drop}
 use Rattle.cbor.specs.Decode.{Until, counted, broken}
 use Rattle.cbor.specs.Paths.{Found, found, nowhere}
 use Rattle.path.specs.Following.{Place, at, astray, trace}
-use Rattle.path.specs.declared.Move.{Move}
-use Rattle.path.specs.declared.Move.the-variants.{To, Nowhere}
+use Rattle.path.specs.declared.Destination.{Destination}
+use Rattle.path.specs.declared.Destination.the-variants.{To, Nowhere}
 use Rattle.path.specs.declared.Trace.{Trace}
 use Rattle.path.specs.declared.Trace.the-variants.{At, Lost}
 
 -- A PATH, STEP BY STEP
 
-unfoldable pub placeOf : List ℕ → Move → Place
+unfoldable pub placeOf : List ℕ → Destination → Place
 placeOf s (To c) = at (drop (c .at) s)
 placeOf s Nowhere = astray
 
-unfoldable pub Inner : List ℕ → Move → Type 0
-Inner s (To c) = c .at ≤ length s
-Inner s Nowhere = Unit
+unfoldable pub ReachedInside : List ℕ → Destination → Type 0
+ReachedInside s (To c) = c .at ≤ length s
+ReachedInside s Nowhere = Unit
 
-pub record Moved (s : List ℕ) (r : Move) (p : Place) : Type 0 where
+pub record ReachedAt (s : List ℕ) (r : Destination) (p : Place) : Type 0 where
   pub is : placeOf s r ≡ p
-  pub inside : Inner s r
+  pub inside : ReachedInside s r
 
 -- how far the elements behind a head go
 unfoldable pub extentBy : ℕ → ℕ → Until

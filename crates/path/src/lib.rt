@@ -6,8 +6,8 @@ use walk::Turn;
 ghost use mathlib.Core.Path.{_≡_};
 ghost use lib.ListN.{length, drop};
 ghost use Rattle.walk.specs.WalkAnswers.{untilOf, Within};
-ghost use Rattle.path.specs.Following.{past, nthFrom, childIn};
-ghost use Rattle.path.specs.StepAnswers.{Moved, extentBy, Traced};
+ghost use Rattle.path.specs.Following.{pastOne, nthFrom, childIn};
+ghost use Rattle.path.specs.StepAnswers.{ReachedAt, extentBy, Traced};
 
 // A place in the bytes.
 pub struct Cursor {
@@ -15,7 +15,7 @@ pub struct Cursor {
 }
 
 // Where a step leads.
-pub enum Move {
+pub enum Destination {
     To(Cursor),
     Nowhere,
 }
@@ -38,24 +38,24 @@ pub fn until_of(info: u8, argument: u64) -> Extent
 
 impl Cursor {
     // Past one element of an array, or one entry of a map.
-    pub fn past(self, bytes: &[u8], major: u8) -> Move
-        ensures { λ r. ⌜ Moved (now (bytes .entry)) r (past major (drop (self .at) (now (bytes .entry)))) ⌝ }
+    pub fn past(self, bytes: &[u8], major: u8) -> Destination
+        ensures { λ r. ⌜ ReachedAt (now (bytes .entry)) r (pastOne major (drop (self .at) (now (bytes .entry)))) ⌝ }
     {
         let at = self.at;
         if bytes.len() < at {
-            return Move::Nowhere;
+            return Destination::Nowhere;
         }
         let part = walk::after(at, 0, walk::one(&bytes[at..], major, 17));
         match part {
-            Passed::Refused(_e) => Move::Nowhere,
-            Passed::Span(m) => Move::To(Cursor { at: m.end }),
+            Passed::Refused(_e) => Destination::Nowhere,
+            Passed::Span(m) => Destination::To(Cursor { at: m.end }),
         }
     }
 
     // To the element, or the entry, number `k`, where they begin at the cursor.
-    pub fn nth(self, bytes: &[u8], until: Extent, major: u8, k: u16) -> Move
+    pub fn nth(self, bytes: &[u8], until: Extent, major: u8, k: u16) -> Destination
         requires { ⌜ Within (now bytes) (self .at) ⌝ }
-        ensures { λ r. ⌜ Moved (now (bytes .entry)) r (nthFrom major k (untilOf until) (drop (self .at) (now (bytes .entry)))) ⌝ }
+        ensures { λ r. ⌜ ReachedAt (now (bytes .entry)) r (nthFrom major k (untilOf until) (drop (self .at) (now (bytes .entry)))) ⌝ }
     {
         let mut at = self.at;
         let mut left = until;
@@ -63,16 +63,16 @@ impl Cursor {
         loop {
             let turn = walk::turn_at(bytes, at, left);
             match turn {
-                Turn::Over(_end) => return Move::Nowhere,
+                Turn::Over(_end) => return Destination::Nowhere,
                 Turn::Another(next) => {
                     if n == 0 {
-                        return Move::To(Cursor { at });
+                        return Destination::To(Cursor { at });
                     }
                     let here = Cursor { at };
                     let step = here.past(bytes, major);
                     match step {
-                        Move::Nowhere => return Move::Nowhere,
-                        Move::To(c) => {
+                        Destination::Nowhere => return Destination::Nowhere,
+                        Destination::To(c) => {
                             at = c.at;
                             left = next;
                             n -= 1;
@@ -84,12 +84,12 @@ impl Cursor {
     }
 
     // Into the item at the cursor: to the element of an array, or the value of a map's entry, number `k`.
-    pub fn into(self, bytes: &[u8], k: u16) -> Move
-        ensures { λ r. ⌜ Moved (now (bytes .entry)) r (childIn k (drop (self .at) (now (bytes .entry)))) ⌝ }
+    pub fn into(self, bytes: &[u8], k: u16) -> Destination
+        ensures { λ r. ⌜ ReachedAt (now (bytes .entry)) r (childIn k (drop (self .at) (now (bytes .entry)))) ⌝ }
     {
         let read = head::read_head(bytes, self.at);
         match read {
-            HeadRead::Refused(_e) => Move::Nowhere,
+            HeadRead::Refused(_e) => Destination::Nowhere,
             HeadRead::Head(h) => {
                 let first = Cursor { at: h.end };
                 let until = until_of(h.info, h.argument);
@@ -97,12 +97,12 @@ impl Cursor {
                     return first.nth(bytes, until, 4, k);
                 }
                 if h.major != 5 {
-                    return Move::Nowhere;
+                    return Destination::Nowhere;
                 }
                 let step = first.nth(bytes, until, 5, k);
                 match step {
-                    Move::Nowhere => Move::Nowhere,
-                    Move::To(c) => c.past(bytes, 4),
+                    Destination::Nowhere => Destination::Nowhere,
+                    Destination::To(c) => c.past(bytes, 4),
                 }
             }
         }
@@ -121,8 +121,8 @@ pub fn follow(bytes: &[u8], path: &[u16]) -> Trace
     let mut i: usize = 0;
     loop {
         match step {
-            Move::Nowhere => return Trace::Lost(i),
-            Move::To(c) => {
+            Destination::Nowhere => return Trace::Lost(i),
+            Destination::To(c) => {
                 i += 1;
                 if path.len() <= i {
                     return Trace::At(c);

@@ -6,7 +6,7 @@ use mathlib.Core.Path.{_≡_, refl, sym, ap, _∙_}
 use mathlib.Core.List.{List, [], _∷_, _++_, append-assoc, append-nil}
 use lib.ListN.{length, take, drop, replicate, length-append, length-take, length-drop, length-replicate}
 use lib.Seq.{take-add, drop-at}
-use Rattle.memory.specs.Buffer.{over, written, moved, copied}
+use Rattle.memory.specs.Buffer.{over, overIfFits, moved, copied}
 use Rattle.memory.proofs.Buffer.{written-fits, copied-yes, fitting-yes, length-over, over-before, over-more}
 use Rattle.operations.specs.Operations.{zeroed}
 use Rattle.planning.specs.PlanAnswers.{splice, Plans}
@@ -83,12 +83,12 @@ module _ {b item : List ℕ} {used : ℕ} {p : Plan} (pl : Plans b used item p) 
         let z : replicate {A = ℕ} (used - p .length) 0 ≡ [] = ap (λ (k : ℕ). replicate {A = ℕ} k 0) n in
         laid ∙ ap (over b (p .start)) (sym (append-nil (new ++ rest)) ∙ ap (λ (v : List ℕ). (new ++ rest) ++ v) (sym z)) ∙ result-is
 
-    pub put-shorter : {b₃ : List ℕ} → p .length < used → b₃ ≡ written b₂ (p .length) (replicate (used - p .length) 0) → b₃ ≡ Result
+    pub put-shorter : {b₃ : List ℕ} → p .length < used → b₃ ≡ overIfFits b₂ (p .length) (replicate (used - p .length) 0) → b₃ ≡ Result
     put-shorter {b₃} h z =
         let zs : List ℕ = replicate (used - p .length) 0 in
         let k : p .length ≡ p .start + length (new ++ rest) = omega (arith, pl .sized, tail-length) in
         let n : length (over b (p .start) (new ++ rest)) ≡ length b = length-over b (p .start) (new ++ rest) (omega (arith, k, pl .room)) in
-        z ∙ ap (λ (v : List ℕ). written v (p .length) zs) laid
+        z ∙ ap (λ (v : List ℕ). overIfFits v (p .length) zs) laid
         ∙ written-fits (over b (p .start) (new ++ rest)) (p .length) zs (omega (arith, n, length-replicate {A = ℕ} (used - p .length) 0, pl .within, h))
         ∙ ap (λ (v : ℕ). over (over b (p .start) (new ++ rest)) v zs) k
         ∙ over-more b (p .start) (new ++ rest) before zs ∙ result-is

@@ -9,12 +9,13 @@ ghost use mathlib.Core.Bool.{true};
 ghost use lib.ListN.{drop};
 ghost use lib.Dec.{eqb};
 ghost use Rattle.cbor.specs.Heads.{taking};
-ghost use Rattle.cbor.specs.Decode.{chunk, entry, item};
-ghost use Rattle.notation.specs.Printing.{print, printString};
+ghost use Rattle.cbor.specs.Decode.{chunkAt, entryAt, item};
+ghost use Rattle.notation.specs.Printing.{printItem, printString};
 ghost use Rattle.memory.specs.Sums.{capped};
-ghost use Rattle.walk.specs.WalkAnswers.{kindOf, sized as mapped, below, Within};
+ghost use Rattle.walk.specs.WalkAnswers.{mapResult as mapped, below, Within};
+ghost use Rattle.cbor.specs.Flags.{kindOf};
 ghost use Rattle.text_output.specs.PrintParts.{Prints, widthBy};
-ghost use Rattle.printer.specs.PrintAnswers.{entryText, chunkText, oneOf, allOf, untilBy, modeBy, behindBy, Turned, Moves, separatorOf, joined, openingBy, closingBy, containerText, chunkedText, tagText, Told, Headed, PrintedAll, TextSize};
+ghost use Rattle.printer.specs.PrintAnswers.{entryText, chunkText, printOneOf, printAllOf, untilBy, modeBy, behindBy, PrintTurned, Moves, separatorOf, joined, openingBy, closingBy, containerText, chunkedText, tagText, PrintTold, PrintHeaded, PrintedAll, TextSize};
 
 pub struct Printed {
     pub end: usize,
@@ -23,7 +24,7 @@ pub struct Printed {
 
 // How several go on: `mode` 0, a number of them; 1, to a break; else to the end of the bytes.
 fn is_over(bytes: &[u8], at: usize, mode: u8, n: u64) -> bool
-    ensures { λ r. ⌜ Turned (now (bytes .entry)) at mode n r ⌝ }
+    ensures { λ r. ⌜ PrintTurned (now (bytes .entry)) at mode n r ⌝ }
 {
     if mode == 0 {
         return n == 0;
@@ -105,7 +106,7 @@ fn string(
     pos: usize,
 ) -> Printed
     requires { ⌜ Within (now bytes) from ⌝ }
-    ensures { λ r. ⌜ Told (now (bytes .entry)) from (now (out .entry)) (now (out .exit)) pos r (mapped (printString (kindOf text) (widthBy info)) (taking n 0 (drop from (now (bytes .entry))))) ⌝ }
+    ensures { λ r. ⌜ PrintTold (now (bytes .entry)) from (now (out .entry)) (now (out .exit)) pos r (mapped (printString (kindOf text) (widthBy info)) (taking n 0 (drop from (now (bytes .entry))))) ⌝ }
 {
     if ((bytes.len() - from) as u64) < n {
         return Printed {
@@ -119,7 +120,7 @@ fn string(
 }
 
 fn chunk(bytes: &[u8], at: usize, text: bool, out: &mut [u8], pos: usize) -> Printed
-    ensures { λ r. ⌜ Told (now (bytes .entry)) (at + 1) (now (out .entry)) (now (out .exit)) pos r (mapped (chunkText (kindOf text)) (chunk (kindOf text) (drop at (now (bytes .entry))))) ⌝ }
+    ensures { λ r. ⌜ PrintTold (now (bytes .entry)) (at + 1) (now (out .entry)) (now (out .exit)) pos r (mapped (chunkText (kindOf text)) (chunkAt (kindOf text) (drop at (now (bytes .entry))))) ⌝ }
 {
     let read = head::read_head(bytes, at);
     match read {
@@ -135,7 +136,7 @@ fn chunk(bytes: &[u8], at: usize, text: bool, out: &mut [u8], pos: usize) -> Pri
 
 // The item at a place, with levels left.
 pub fn print_item(bytes: &[u8], at: usize, levels: usize, out: &mut [u8], pos: usize) -> Printed
-    ensures { λ r. ⌜ Told (now (bytes .entry)) (at + 1) (now (out .entry)) (now (out .exit)) pos r (mapped print (item levels (drop at (now (bytes .entry))))) ⌝ }
+    ensures { λ r. ⌜ PrintTold (now (bytes .entry)) (at + 1) (now (out .entry)) (now (out .exit)) pos r (mapped printItem (item levels (drop at (now (bytes .entry))))) ⌝ }
 {
     let read = head::read_head(bytes, at);
     match read {
@@ -149,8 +150,8 @@ pub fn print_item(bytes: &[u8], at: usize, levels: usize, out: &mut [u8], pos: u
 
 // The item at a place, by its head.
 fn behind(bytes: &[u8], at: usize, h: HeadAt, levels: usize, out: &mut [u8], pos: usize) -> Printed
-    requires { ⌜ Headed (now bytes) at h ⌝ }
-    ensures { λ r. ⌜ Told (now (bytes .entry)) (at + 1) (now (out .entry)) (now (out .exit)) pos r (mapped print (item levels (drop at (now (bytes .entry))))) ⌝ }
+    requires { ⌜ PrintHeaded (now bytes) at h ⌝ }
+    ensures { λ r. ⌜ PrintTold (now (bytes .entry)) (at + 1) (now (out .entry)) (now (out .exit)) pos r (mapped printItem (item levels (drop at (now (bytes .entry))))) ⌝ }
 {
     let major = h.major;
     if major <= 1 {
@@ -175,7 +176,7 @@ fn behind(bytes: &[u8], at: usize, h: HeadAt, levels: usize, out: &mut [u8], pos
 
 // The item at a place, one level down.
 fn below(bytes: &[u8], at: usize, levels: usize, out: &mut [u8], pos: usize) -> Printed
-    ensures { λ r. ⌜ Told (now (bytes .entry)) (at + 1) (now (out .entry)) (now (out .exit)) pos r (mapped print (below levels (drop at (now (bytes .entry))))) ⌝ }
+    ensures { λ r. ⌜ PrintTold (now (bytes .entry)) (at + 1) (now (out .entry)) (now (out .exit)) pos r (mapped printItem (below levels (drop at (now (bytes .entry))))) ⌝ }
 {
     if levels == 0 {
         return Printed {
@@ -196,7 +197,7 @@ fn tag(
     out: &mut [u8],
     pos: usize,
 ) -> Printed
-    ensures { λ r. ⌜ Told (now (bytes .entry)) from (now (out .entry)) (now (out .exit)) pos r (mapped (tagText info n) (below levels (drop from (now (bytes .entry))))) ⌝ }
+    ensures { λ r. ⌜ PrintTold (now (bytes .entry)) from (now (out .entry)) (now (out .exit)) pos r (mapped (tagText info n) (below levels (drop from (now (bytes .entry))))) ⌝ }
 {
     let p = leaf_printer::integer(false, info, n, out, pos);
     let q = text_output::put(out, p, 0x28);
@@ -220,7 +221,7 @@ fn container(
     pos: usize,
 ) -> Printed
     requires { ⌜ Within (now bytes) from ⌝ }
-    ensures { λ r. ⌜ Told (now (bytes .entry)) from (now (out .entry)) (now (out .exit)) pos r (mapped (containerText major info n) (allOf major levels (untilBy (modeBy info) n) (drop from (now (bytes .entry))))) ⌝ }
+    ensures { λ r. ⌜ PrintTold (now (bytes .entry)) from (now (out .entry)) (now (out .exit)) pos r (mapped (containerText major info n) (printAllOf major levels (untilBy (modeBy info) n) (drop from (now (bytes .entry))))) ⌝ }
 {
     let p = text_output::put(out, pos, opening(major));
     let q = leaf_printer::size_mark(info, n, out, p);
@@ -242,7 +243,7 @@ fn chunked(
     pos: usize,
 ) -> Printed
     requires { ⌜ Within (now bytes) from ⌝ }
-    ensures { λ r. ⌜ Told (now (bytes .entry)) from (now (out .entry)) (now (out .exit)) pos r (mapped (chunkedText (kindOf (eqb major 3))) (allOf major levels (untilBy 1 0) (drop from (now (bytes .entry))))) ⌝ }
+    ensures { λ r. ⌜ PrintTold (now (bytes .entry)) from (now (out .entry)) (now (out .exit)) pos r (mapped (chunkedText (kindOf (eqb major 3))) (printAllOf major levels (untilBy 1 0) (drop from (now (bytes .entry))))) ⌝ }
 {
     if is_over(bytes, from, 1, 0) {
         let p = leaf_printer::no_chunks(major == 3, out, pos);
@@ -262,7 +263,7 @@ fn chunked(
 
 // An entry of a map: a key and its value.
 fn entry(bytes: &[u8], at: usize, levels: usize, out: &mut [u8], pos: usize) -> Printed
-    ensures { λ r. ⌜ Told (now (bytes .entry)) (at + 1) (now (out .entry)) (now (out .exit)) pos r (mapped entryText (entry (below levels) (drop at (now (bytes .entry))))) ⌝ }
+    ensures { λ r. ⌜ PrintTold (now (bytes .entry)) (at + 1) (now (out .entry)) (now (out .exit)) pos r (mapped entryText (entryAt (below levels) (drop at (now (bytes .entry))))) ⌝ }
 {
     let key = below(bytes, at, levels, out, pos);
     let p = text_output::put_all(b": ", out, key.pos);
@@ -271,7 +272,7 @@ fn entry(bytes: &[u8], at: usize, levels: usize, out: &mut [u8], pos: usize) -> 
 
 // One of several inside an item of a major type.
 fn one(bytes: &[u8], at: usize, major: u8, levels: usize, out: &mut [u8], pos: usize) -> Printed
-    ensures { λ r. ⌜ Told (now (bytes .entry)) (at + 1) (now (out .entry)) (now (out .exit)) pos r (oneOf major levels (drop at (now (bytes .entry)))) ⌝ }
+    ensures { λ r. ⌜ PrintTold (now (bytes .entry)) (at + 1) (now (out .entry)) (now (out .exit)) pos r (printOneOf major levels (drop at (now (bytes .entry)))) ⌝ }
 {
     if major == 4 {
         return below(bytes, at, levels, out, pos);
@@ -295,7 +296,7 @@ fn several(
     pos: usize,
 ) -> Printed
     requires { ⌜ Within (now bytes) from ⌝ }
-    ensures { λ r. ⌜ Told (now (bytes .entry)) from (now (out .entry)) (now (out .exit)) pos r (mapped (joined blank true) (allOf major levels (untilBy mode count) (drop from (now (bytes .entry))))) ⌝ }
+    ensures { λ r. ⌜ PrintTold (now (bytes .entry)) from (now (out .entry)) (now (out .exit)) pos r (mapped (joined blank true) (printAllOf major levels (untilBy mode count) (drop from (now (bytes .entry))))) ⌝ }
 {
     let mut at = from;
     let mut left = count;

@@ -13,15 +13,15 @@ use Rattle.cbor.specs.Items.{Items}
 use Rattle.cbor.specs.Decode.{decode}
 use Rattle.memory.specs.Buffer.{over}
 use Rattle.refusal.specs.RefusalKinds.{kindNumber}
-use Rattle.walk.specs.WalkAnswers.{passTold, sized, toldOf, walkAllOf, contentsAll}
+use Rattle.walk.specs.WalkAnswers.{passTold, mapResult, toldOf, walkAllOf, contentsAll}
 use Rattle.refusal.specs.declared.Refusal.{Refusal}
 use Rattle.refusal.specs.declared.RefusalKind.the-variants.{NoRoom}
-use Rattle.walk.specs.declared.Span.{Span}
+use Rattle.walk.specs.declared.Passage.{Passage}
 use Rattle.walk.specs.declared.Passed.{Passed}
 use Rattle.walk.specs.declared.Passed.the-variants.{Span as SpanV, Refused as RefusedV}
 use Rattle.notation.specs.Printing.{printText}
 use Rattle.printer.specs.PrintAnswers.{PrintedAll, TextSize}
-use Rattle.operations.specs.Operations.{written, itemsOf, textOf, onward, print}
+use Rattle.operations.specs.Operations.{written, itemsOf, textOf, andThen, print}
 use Rattle.cbor.specs.Valid.{Bytes}
 use Rattle.cbor.proofs.EncodeDecode.{encode-of-decode}
 use Rattle.looking.specs.Answers.{Checks}
@@ -47,16 +47,16 @@ module _ {s : List ℕ} (b : List ℕ) {n : ℕ} (t : TextSize s n) {v : Bool} (
 
 pub ruleset lay-ways = (lay-done, lay-refused)
 
-print-no : (s b : List ℕ) (e : Refusal) (res : Result Items) → decode s ≡ res → passTold (RefusedV e) ≡ toldOf (length s) (sized contentsAll res) → outcomeOf (Refused e) b ≡ print s b
-unfolding passTold toldOf sized itemsOf verdictOf textOf onward print written outcomeOf
+print-no : (s b : List ℕ) (e : Refusal) (res : Result Items) → decode s ≡ res → passTold (RefusedV e) ≡ toldOf (length s) (mapResult contentsAll res) → outcomeOf (Refused e) b ≡ print s b
+unfolding passTold toldOf mapResult itemsOf verdictOf textOf andThen print written outcomeOf
 print-no s b e (ok xs r) d h = let z : _≡_ {A = ℕ} 0 1 = cc in absurd (omega arith)
 print-no s b e (refuse k l) d h =
     let i : kindNumber (e .kind) ≡ k = cc in
     let j : e .place ≡ length s - l = cc in
     rw (d, i, j, print)
 
-print-yes : (s b b′ : List ℕ) (r : Answer) (m : Span) (res : Result Items) → Bytes s → decode s ≡ res → passTold (SpanV m) ≡ toldOf (length s) (sized contentsAll res) → Lays s b b′ r → outcomeOf r b′ ≡ print s b
-unfolding passTold toldOf sized itemsOf verdictOf textOf onward print laid
+print-yes : (s b b′ : List ℕ) (r : Answer) (m : Passage) (res : Result Items) → Bytes s → decode s ≡ res → passTold (SpanV m) ≡ toldOf (length s) (mapResult contentsAll res) → Lays s b b′ r → outcomeOf r b′ ≡ print s b
+unfolding passTold toldOf mapResult itemsOf verdictOf textOf andThen print laid
 print-yes s b b′ r m (ok xs q) u d h l =
     let e = encode-of-decode s xs q u d in
     let w = l .is xs (d ∙ ap (ok xs) (e .done)) in
@@ -68,7 +68,7 @@ module _ {s : List ℕ} (b : List ℕ) {a : Passed} (ch : Checks s a) where
   unfolding walkAllOf
   print-refused {e} h = print-no s b e (decode s) refl (rw h at (ch .is))
 
-  pub print-done : {m : Span} {b′ : List ℕ} {r : Answer} → a ≡ SpanV m → Lays s b b′ r → outcomeOf r b′ ≡ print s b
+  pub print-done : {m : Passage} {b′ : List ℕ} {r : Answer} → a ≡ SpanV m → Lays s b b′ r → outcomeOf r b′ ≡ print s b
   unfolding walkAllOf
   print-done {m} h l = print-yes s b _ _ m (decode s) (ch .bytes) refl (rw h at (ch .is)) l
 

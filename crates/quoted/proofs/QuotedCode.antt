@@ -12,8 +12,8 @@ use Rattle.cbor.specs.Utf8.{_to_, isIn}
 use Rattle.notation.specs.Numbers.{digitValue, isDigit}
 use Rattle.notation.specs.Quoted.{utf8Of, character, escape, unicode, paired, Move, gives, closed, wrong, Escape, escapes, escapedIn, wholeUnit, unit, moveAt}
 use Rattle.literal_body.specs.LiteralAnswers.{Put}
-use Rattle.quoted.specs.QuotedAnswers.{quotingOf, emitted, moveOf, roomOf, High, Sound, Digits, Whole, Emits, Goes, Sized, escapedAs, Escaped, Tail}
-use Rattle.quoted.specs.declared.Moved.{Moved}
+use Rattle.quoted.specs.QuotedAnswers.{quotingOf, emitted, moveOf, roomOf, High, Sound, UnitDigits, Whole, Emits, Goes, Sized, escapedAs, Escaped, Tail}
+use Rattle.quoted.specs.declared.QuotedStep.{QuotedStep}
 use Rattle.literal_body.proofs.LiteralCode.{put-none, put-more}
 
 -- WAYS TO MOVE
@@ -25,7 +25,7 @@ pub at-start : Sound 0 0 0
 unfolding roomOf
 at-start = record { most = omega arith; unit = omega arith; small = omega arith; high = no-high }
 
-module _ {m : Move} {r : Moved} where
+module _ {m : Move} {r : QuotedStep} where
   -- nothing is given, and the string goes on at another place
   goes-on : (k u h : ℕ) → r ≡ record { kind = 0; value = 0; mode = k; unit = u; high = h } → Sound k u h → m ≡ gives [] (quotingOf k u h) → Goes m r
   unfolding moveOf emitted
@@ -54,22 +54,22 @@ quoting-digits m u h n₀ n₅ n₆ = simp (quotingOf, ne-eqb m 0 n₀, ne-eqb m
 -- AT A CHARACTER
 
 module _ (q b : ℕ) where
-  pub character-close : {r : Moved} → b ≡ q → r ≡ record { kind = 3; value = 0; mode = 0; unit = 0; high = 0 } → Goes (moveAt q character b) r
+  pub character-close : {r : QuotedStep} → b ≡ q → r ≡ record { kind = 3; value = 0; mode = 0; unit = 0; high = 0 } → Goes (moveAt q character b) r
   unfolding moveAt
   character-close e p = it-closes p (rw (eq-eqb b q e, moveAt))
 
   module _ (n : b ≡ q → ⊥) where
-    pub character-backslash : {r : Moved} → b ≡ 0x5c → r ≡ record { kind = 0; value = 0; mode = 5; unit = 0; high = 0 } → Goes (moveAt q character b) r
+    pub character-backslash : {r : QuotedStep} → b ≡ 0x5c → r ≡ record { kind = 0; value = 0; mode = 5; unit = 0; high = 0 } → Goes (moveAt q character b) r
     unfolding moveAt quotingOf roomOf
     character-backslash e p =
         goes-on 5 0 0 p (record { most = omega arith; unit = omega arith; small = omega arith; high = no-high }) (simp (moveAt, ne-eqb b q n, eq-eqb b 0x5c e))
 
     module _ (n₂ : b ≡ 0x5c → ⊥) where
-      pub character-low : {r : Moved} → b < 0x20 → r ≡ record { kind = 4; value = 0; mode = 0; unit = 0; high = 0 } → Goes (moveAt q character b) r
+      pub character-low : {r : QuotedStep} → b < 0x20 → r ≡ record { kind = 4; value = 0; mode = 0; unit = 0; high = 0 } → Goes (moveAt q character b) r
       unfolding moveAt
       character-low h p = is-wrong p (simp (moveAt, ne-eqb b q n, ne-eqb b 0x5c n₂, lt-leb 0x20 b h))
 
-      pub character-plain : {r : Moved} → b < 256 → 0x20 ≤ b → r ≡ record { kind = 1; value = b; mode = 0; unit = 0; high = 0 } → Goes (moveAt q character b) r
+      pub character-plain : {r : QuotedStep} → b < 256 → 0x20 ≤ b → r ≡ record { kind = 1; value = b; mode = 0; unit = 0; high = 0 } → Goes (moveAt q character b) r
       unfolding moveAt
       character-plain u h p =
           let l : b ≤ 0xff = omega arith in
@@ -141,23 +141,23 @@ escape-none : (q h b : ℕ) → h ≡ 0 → moveAt q (escape h) b ≡ moveAt q (
 escape-none q h b e = ap (λ (x : ℕ). moveAt q (escape x) b) e
 
 module _ (q h b : ℕ) (x : High h) where
-  pub escape-low : {r : Moved} → 0xd800 ≤ h → b ≡ 0x75 → r ≡ record { kind = 0; value = 0; mode = 4; unit = 0; high = h } → Goes (moveAt q (escape h) b) r
+  pub escape-low : {r : QuotedStep} → 0xd800 ≤ h → b ≡ 0x75 → r ≡ record { kind = 0; value = 0; mode = 4; unit = 0; high = h } → Goes (moveAt q (escape h) b) r
   unfolding quotingOf
   escape-low l e p = goes-on 4 0 h p (four-start x) (escape-high q h b l ∙ rw e)
 
-  pub escape-lone : {r : Moved} → 0xd800 ≤ h → (b ≡ 0x75 → ⊥) → r ≡ record { kind = 4; value = 0; mode = 0; unit = 0; high = 0 } → Goes (moveAt q (escape h) b) r
+  pub escape-lone : {r : QuotedStep} → 0xd800 ≤ h → (b ≡ 0x75 → ⊥) → r ≡ record { kind = 4; value = 0; mode = 0; unit = 0; high = 0 } → Goes (moveAt q (escape h) b) r
   escape-lone l n p = is-wrong p (escape-high q h b l ∙ rw (ne-eqb b 0x75 n))
 
   module _ (l : h < 0xd800) where
     none-is : moveAt q (escape h) b ≡ moveAt q (escape 0) b
     none-is = escape-none q h b (x .none l)
 
-    pub escape-quote : {r : Moved} → q < 256 → b ≡ q → r ≡ record { kind = 1; value = q; mode = 0; unit = 0; high = 0 } → Goes (moveAt q (escape h) b) r
+    pub escape-quote : {r : QuotedStep} → q < 256 → b ≡ q → r ≡ record { kind = 1; value = q; mode = 0; unit = 0; high = 0 } → Goes (moveAt q (escape h) b) r
     unfolding moveAt
     escape-quote u e p = give-byte q p u (none-is ∙ rw (eq-eqb b q e, moveAt))
 
     module _ (n : b ≡ q → ⊥) where
-      pub escape-unicode : {r : Moved} → b ≡ 0x75 → r ≡ record { kind = 0; value = 0; mode = 4; unit = 0; high = 0 } → Goes (moveAt q (escape h) b) r
+      pub escape-unicode : {r : QuotedStep} → b ≡ 0x75 → r ≡ record { kind = 0; value = 0; mode = 4; unit = 0; high = 0 } → Goes (moveAt q (escape h) b) r
       unfolding moveAt quotingOf
       escape-unicode e p = goes-on 4 0 0 p (four-start no-high) (none-is ∙ simp (moveAt, ne-eqb b q n, eq-eqb b 0x75 e))
 
@@ -166,11 +166,11 @@ module _ (q h b : ℕ) (x : High h) where
         unfolding moveAt
         letter = none-is ∙ (simp (moveAt, ne-eqb b q n, ne-eqb b 0x75 n₂)) ∙ y .is
 
-        pub escape-wrong : {r : Moved} → v ≡ 0 → r ≡ record { kind = 4; value = 0; mode = 0; unit = 0; high = 0 } → Goes (moveAt q (escape h) b) r
+        pub escape-wrong : {r : QuotedStep} → v ≡ 0 → r ≡ record { kind = 4; value = 0; mode = 0; unit = 0; high = 0 } → Goes (moveAt q (escape h) b) r
         unfolding escapedAs
         escape-wrong e p = is-wrong p (letter ∙ rw (eq-eqb v 0 e, escapedAs))
 
-        pub escape-letter : {r : Moved} → (v ≡ 0 → ⊥) → r ≡ record { kind = 1; value = v; mode = 0; unit = 0; high = 0 } → Goes (moveAt q (escape h) b) r
+        pub escape-letter : {r : QuotedStep} → (v ≡ 0 → ⊥) → r ≡ record { kind = 1; value = v; mode = 0; unit = 0; high = 0 } → Goes (moveAt q (escape h) b) r
         unfolding escapedAs
         escape-letter e p = give-byte v p (y .byte) (letter ∙ rw (ne-eqb v 0 e, escapedAs))
 
@@ -179,12 +179,12 @@ pub ruleset escape-ways = (escape-low, escape-lone, escape-quote, escape-unicode
 -- BEHIND A HIGH SURROGATE
 
 module _ (h b : ℕ) where
-  pub pair-backslash : {r : Moved} → High h → b ≡ 0x5c → r ≡ record { kind = 0; value = 0; mode = 5; unit = 0; high = h } → Goes (moveAt 0 (paired h) b) r
+  pub pair-backslash : {r : QuotedStep} → High h → b ≡ 0x5c → r ≡ record { kind = 0; value = 0; mode = 5; unit = 0; high = h } → Goes (moveAt 0 (paired h) b) r
   unfolding moveAt quotingOf roomOf
   pair-backslash x e p =
       goes-on 5 0 h p (record { most = omega arith; unit = omega arith; small = omega arith; high = x }) (rw (eq-eqb b 0x5c e, moveAt))
 
-  pub pair-wrong : {r : Moved} → (b ≡ 0x5c → ⊥) → r ≡ record { kind = 4; value = 0; mode = 0; unit = 0; high = 0 } → Goes (moveAt 0 (paired h) b) r
+  pub pair-wrong : {r : QuotedStep} → (b ≡ 0x5c → ⊥) → r ≡ record { kind = 4; value = 0; mode = 0; unit = 0; high = 0 } → Goes (moveAt 0 (paired h) b) r
   unfolding moveAt
   pair-wrong n p = is-wrong p (rw (ne-eqb b 0x5c n, moveAt))
 
@@ -220,13 +220,13 @@ whole-zero c t u e f = λ j. wholeBy (e j) (f j) c
 
 module _ (h u : ℕ) (x : Whole u h) where
   module _ (l : 0xd800 ≤ h) where
-    pub whole-below : {r : Moved} → u < 0xdc00 → r ≡ record { kind = 4; value = 0; mode = 0; unit = 0; high = 0 } → Goes (wholeUnit h u) r
+    pub whole-below : {r : QuotedStep} → u < 0xdc00 → r ≡ record { kind = 4; value = 0; mode = 0; unit = 0; high = 0 } → Goes (wholeUnit h u) r
     whole-below a p = is-wrong p (whole-high h u l ∙ rw (below-range 0xdc00 0xdfff u a))
 
-    pub whole-above : {r : Moved} → 0xdc00 ≤ u → 0xdfff < u → r ≡ record { kind = 4; value = 0; mode = 0; unit = 0; high = 0 } → Goes (wholeUnit h u) r
+    pub whole-above : {r : QuotedStep} → 0xdc00 ≤ u → 0xdfff < u → r ≡ record { kind = 4; value = 0; mode = 0; unit = 0; high = 0 } → Goes (wholeUnit h u) r
     whole-above a a₂ p = is-wrong p (whole-high h u l ∙ rw (above-range 0xdc00 0xdfff u a a₂))
 
-    pub whole-pair : {r : Moved} → 0xdc00 ≤ u → u ≤ 0xdfff → r ≡ record { kind = 2; value = 0x10000 + (h - 0xd800) * 0x400 + (u - 0xdc00); mode = 0; unit = 0; high = 0 } → Goes (wholeUnit h u) r
+    pub whole-pair : {r : QuotedStep} → 0xdc00 ≤ u → u ≤ 0xdfff → r ≡ record { kind = 2; value = 0x10000 + (h - 0xd800) * 0x400 + (u - 0xdc00); mode = 0; unit = 0; high = 0 } → Goes (wholeUnit h u) r
     whole-pair a a₂ p =
         let f : 0x10000 + (h - 0xd800) * 0x400 + (u - 0xdc00) < 0x110000 = omega (arith, x .high .top) in
         give-point _ p f (whole-high h u l ∙ rw (in-range 0xdc00 0xdfff u a a₂))
@@ -235,7 +235,7 @@ module _ (h u : ℕ) (x : Whole u h) where
     alone : wholeUnit h u ≡ wholeUnit 0 u
     alone = ap (λ (k : ℕ). wholeUnit k u) (x .high .none l)
 
-    pub whole-low : {r : Moved} → u < 0xd800 → r ≡ record { kind = 2; value = u; mode = 0; unit = 0; high = 0 } → Goes (wholeUnit h u) r
+    pub whole-low : {r : QuotedStep} → u < 0xd800 → r ≡ record { kind = 2; value = u; mode = 0; unit = 0; high = 0 } → Goes (wholeUnit h u) r
     unfolding wholeBy
     whole-low a p =
         let a₂ : u < 0xdc00 = omega arith in
@@ -243,7 +243,7 @@ module _ (h u : ℕ) (x : Whole u h) where
         give-point u p f (alone ∙ whole-zero u false false (below-range 0xd800 0xdbff u a) (below-range 0xdc00 0xdfff u a₂))
 
     module _ (g : 0xd800 ≤ u) where
-      pub whole-first : {r : Moved} → u < 0xdc00 → r ≡ record { kind = 0; value = 0; mode = 6; unit = 0; high = u } → Goes (wholeUnit h u) r
+      pub whole-first : {r : QuotedStep} → u < 0xdc00 → r ≡ record { kind = 0; value = 0; mode = 6; unit = 0; high = u } → Goes (wholeUnit h u) r
       unfolding wholeBy quotingOf roomOf
       whole-first a p =
           let a₂ : u ≤ 0xdbff = omega arith in
@@ -254,11 +254,11 @@ module _ (h u : ℕ) (x : Whole u h) where
         not-first : isIn (0xd800 to 0xdbff) u ≡ false
         not-first = let a₂ : 0xdbff < u = omega arith in above-range 0xd800 0xdbff u g a₂
 
-        pub whole-lone : {r : Moved} → u < 0xe000 → r ≡ record { kind = 4; value = 0; mode = 0; unit = 0; high = 0 } → Goes (wholeUnit h u) r
+        pub whole-lone : {r : QuotedStep} → u < 0xe000 → r ≡ record { kind = 4; value = 0; mode = 0; unit = 0; high = 0 } → Goes (wholeUnit h u) r
         unfolding wholeBy
         whole-lone a₂ p = let a₃ : u ≤ 0xdfff = omega arith in is-wrong p (alone ∙ whole-zero u false true not-first (in-range 0xdc00 0xdfff u a a₃))
 
-        pub whole-top : {r : Moved} → 0xe000 ≤ u → r ≡ record { kind = 2; value = u; mode = 0; unit = 0; high = 0 } → Goes (wholeUnit h u) r
+        pub whole-top : {r : QuotedStep} → 0xe000 ≤ u → r ≡ record { kind = 2; value = u; mode = 0; unit = 0; high = 0 } → Goes (wholeUnit h u) r
         unfolding wholeBy
         whole-top a₂ p =
             let a₃ : 0xdfff < u = omega arith in
@@ -290,8 +290,8 @@ unfolding unit
 unit-on zero c h l = absurd (omega arith)
 unit-on (suc k) c h l = refl
 
-module _ (m u h b : ℕ) (x : Digits m u h) {v : ℕ} (d : v ≡ digitValue b) where
-  pub digit-wrong : {r : Moved} → 16 ≤ v → r ≡ record { kind = 4; value = 0; mode = 0; unit = 0; high = 0 } → Goes (moveAt 0 (unicode m u h) b) r
+module _ (m u h b : ℕ) (x : UnitDigits m u h) {v : ℕ} (d : v ≡ digitValue b) where
+  pub digit-wrong : {r : QuotedStep} → 16 ≤ v → r ≡ record { kind = 4; value = 0; mode = 0; unit = 0; high = 0 } → Goes (moveAt 0 (unicode m u h) b) r
   unfolding moveAt isDigit
   digit-wrong l p = let l′ : 16 ≤ digitValue b = omega arith in is-wrong p (rw (le-ltb (digitValue b) 16 l′, moveAt))
 
@@ -312,7 +312,7 @@ module _ (m u h b : ℕ) (x : Digits m u h) {v : ℕ} (d : v ≡ digitValue b) w
     unfolding roomOf
     digit-whole-room e = record { unit = omega (arith, x .small); high = x .high }
 
-    pub digit-last : {r : Moved} → m ≡ 1 → Goes (wholeUnit h (u * 16 + v)) r → Goes (moveAt 0 (unicode m u h) b) r
+    pub digit-last : {r : QuotedStep} → m ≡ 1 → Goes (wholeUnit h (u * 16 + v)) r → Goes (moveAt 0 (unicode m u h) b) r
     unfolding unit
     digit-last {r} e y = subst⁻¹ (λ (k : Move). Goes k r) (digit-is ∙ rw e) y
 
@@ -329,7 +329,7 @@ pub ruleset digit-move-ways = (digit-wrong, digit-last, digit-more)
 
 -- ANY PLACE
 
-module _ (q m u h b : ℕ) {r : Moved} where
+module _ (q m u h b : ℕ) {r : QuotedStep} where
   pub step-character : m ≡ 0 → Goes (moveAt q character b) r → Goes (moveAt q (quotingOf m u h) b) r
   unfolding quotingOf
   step-character e y = rw e y
@@ -348,7 +348,7 @@ module _ (q m u h b : ℕ) {r : Moved} where
 
 pub ruleset step-ways = (step-character, step-escape, step-pair, step-digit)
 
-pub step-digits : {m u h : ℕ} → Sound m u h → (m ≡ 0 → ⊥) → (m ≡ 5 → ⊥) → (m ≡ 6 → ⊥) → Digits m u h
+pub step-digits : {m u h : ℕ} → Sound m u h → (m ≡ 0 → ⊥) → (m ≡ 5 → ⊥) → (m ≡ 6 → ⊥) → UnitDigits m u h
 step-digits x n₀ n₅ n₆ = record { least = omega arith; most = omega (arith, x .most); unit = x .unit; small = x .small; high = x .high }
 
 -- WHAT IS GIVEN

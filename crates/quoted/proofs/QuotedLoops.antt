@@ -17,7 +17,7 @@ use Rattle.notation.specs.Reading.{marked}
 use Rattle.notation.specs.Quoted.{utf8Of, Quoting, character, escape, unicode, paired, Move, gives, closed, wrong, Escape, escapes, escapedIn, wholeUnit, unit, moveAt, unquote}
 use Rattle.literal_body.specs.LiteralAnswers.{scannedBy, Scans, Put, Quotes}
 use Rattle.quoted.specs.QuotedAnswers.{quotingOf, emitted, moveOf, Sound, Goes, Sized}
-use Rattle.quoted.specs.declared.Moved.{Moved}
+use Rattle.quoted.specs.declared.QuotedStep.{QuotedStep}
 use Rattle.notation.proofs.TextScan.{tested}
 use Rattle.literal_body.proofs.LiteralCode.{pre, pre-nil, pre-pre, front-marked, past, ok-content, put-none, put-more}
 use Rattle.quoted.proofs.QuotedCode.{at-start}
@@ -88,15 +88,15 @@ unquote-next q k b s = go (moveAt q k b)
     go closed = refl
     go wrong = refl
 
-move-closed : (r : Moved) → r .kind ≡ 3 → moveOf r ≡ closed
+move-closed : (r : QuotedStep) → r .kind ≡ 3 → moveOf r ≡ closed
 unfolding moveOf
 move-closed r e = rw (eq-eqb (r .kind) 3 e, moveOf)
 
-move-wrong : (r : Moved) → r .kind ≡ 4 → moveOf r ≡ wrong
+move-wrong : (r : QuotedStep) → r .kind ≡ 4 → moveOf r ≡ wrong
 unfolding moveOf
 move-wrong r e = let n : r .kind ≡ 3 → ⊥ = omega arith in simp (moveOf, ne-eqb (r .kind) 3 n, eq-eqb (r .kind) 4 e)
 
-move-gives : (r : Moved) → (r .kind ≡ 3 → ⊥) → (r .kind ≡ 4 → ⊥) → moveOf r ≡ gives (emitted (r .kind) (r .value)) (quotingOf (r .mode) (r .unit) (r .high))
+move-gives : (r : QuotedStep) → (r .kind ≡ 3 → ⊥) → (r .kind ≡ 4 → ⊥) → moveOf r ≡ gives (emitted (r .kind) (r .value)) (quotingOf (r .mode) (r .unit) (r .high))
 unfolding moveOf
 move-gives r n₃ n₄ = simp (moveOf, ne-eqb (r .kind) 3 n₃, ne-eqb (r .kind) 4 n₄)
 
@@ -129,7 +129,7 @@ run-start s at q h =
     record { quote = h; from = omega arith; left = sym (pre-nil (unquote q character (drop at (marked s)))); sound = at-start; short = omega arith }
 
 module _ {s : List ℕ} {at q i m u h : ℕ} {done : List ℕ} (inv : QuoteRun s at q i m u h done) where
-  module _ {r : Moved} (l : i < length s) (x : Goes (moveAt q (quotingOf m u h) (getD s i 0)) r) where
+  module _ {r : QuotedStep} (l : i < length s) (x : Goes (moveAt q (quotingOf m u h) (getD s i 0)) r) where
     run-here : unquote q character (drop at (marked s)) ≡ pre done (unquoteBy q (moveOf r) (drop (i + 1) (marked s)))
     run-here =
         inv .left
@@ -182,7 +182,7 @@ unfolding scannedBy
 scans-no n e = rw e (record { by = refl })
 
 module _ {s : List ℕ} {at q i size m u h : ℕ} (inv : QuoteScan s at q i size m u h) where
-  module _ {r : Moved} (l : i < length s) (x : Goes (moveAt q (quotingOf m u h) (getD s i 0)) r) where
+  module _ {r : QuotedStep} (l : i < length s) (x : Goes (moveAt q (quotingOf m u h) (getD s i 0)) r) where
     pub quote-closed : 3 ≤ r .kind → r .kind < 4 → Scans s at (record { good = true; next = i + 1; size = size }) (unquote q character (drop at (marked s)))
     unfolding scannedBy
     quote-closed k₃ k₄ =
@@ -225,7 +225,7 @@ module _ {s b b′ : List ℕ} {at q pos i p m u h : ℕ} (inv : QuotePut s b at
   no-content : unquote q character (drop at (marked s)) ≡ fault noToken → Quotes b b′ pos (unquote q character (drop at (marked s)))
   no-content f = record { same = inv .same; is = λ c rest e. let w : _≡_ {A = ℕ} 0 1 = cc in absurd (omega arith) }
 
-  module _ {r : Moved} (l : i < length s) (x : Goes (moveAt q (quotingOf m u h) (getD s i 0)) r) where
+  module _ {r : QuotedStep} (l : i < length s) (x : Goes (moveAt q (quotingOf m u h) (getD s i 0)) r) where
     pub quote-put-stop : 3 ≤ r .kind → Quotes b b′ pos (unquote q character (drop at (marked s)))
     quote-put-stop k = go (eqb (r .kind) 3) refl
       where

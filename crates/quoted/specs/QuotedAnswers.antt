@@ -6,7 +6,7 @@ use mathlib.Core.Bool.{true, false}
 use lib.Dec.{eqb}
 use lib.ListN.{length}
 use Rattle.notation.specs.Quoted.{utf8Of, Quoting, character, escape, unicode, paired, Move, gives, closed, wrong, escapes, escapedIn}
-use Rattle.quoted.specs.declared.Moved.{Moved}
+use Rattle.quoted.specs.declared.QuotedStep.{QuotedStep}
 
 -- the place that a mode, what digits make, and a high surrogate stand for
 unfoldable pub quotingOf : ℕ → ℕ → ℕ → Quoting
@@ -19,7 +19,7 @@ emitted zero v = []
 emitted (suc zero) v = v ∷ []
 emitted (suc (suc k)) v = utf8Of v
 
-unfoldable pub moveOf : Moved → Move
+unfoldable pub moveOf : QuotedStep → Move
 moveOf r =
     elim (eqb (r .kind) 3) [
       | true ↦ closed
@@ -46,7 +46,7 @@ pub record Sound (m u h : ℕ) : Type 0 where
   pub high : High h
 
 -- in the digits
-pub record Digits (m u h : ℕ) : Type 0 where
+pub record UnitDigits (m u h : ℕ) : Type 0 where
   pub least : 1 ≤ m
   pub most : m ≤ 4
   pub unit : u < roomOf m
@@ -62,7 +62,7 @@ pub record Emits (k v : ℕ) : Type 0 where
   pub point : v < 0x110000
 
 -- the code moves as m says
-pub record Goes (m : Move) (r : Moved) : Type 0 where
+pub record Goes (m : Move) (r : QuotedStep) : Type 0 where
   pub is : m ≡ moveOf r
   pub sound : Sound (r .mode) (r .unit) (r .high)
   pub emits : Emits (r .kind) (r .value)

@@ -1,5 +1,5 @@
 // Quoted strings: the content between the quotes, with its escapes.
-use literal_body::Scanned;
+use literal_body::LiteralScan;
 use literal_body::hex_value;
 use literal_body::put;
 use literal_body::put_two;
@@ -9,12 +9,12 @@ ghost use lib.ListN.{drop};
 ghost use Rattle.notation.specs.Quoted.{utf8Of, character, escape, unicode, paired, wholeUnit, moveAt, unquote};
 ghost use Rattle.notation.specs.Reading.{marked};
 ghost use Rattle.literal_body.specs.LiteralAnswers.{Scans, Quotes, Put};
-ghost use Rattle.quoted.specs.QuotedAnswers.{quotingOf, emitted, High, Sound, Digits, Whole, Emits, Goes, Sized, Escaped, Tail};
+ghost use Rattle.quoted.specs.QuotedAnswers.{quotingOf, emitted, High, Sound, UnitDigits, Whole, Emits, Goes, Sized, Escaped, Tail};
 
 // What a byte does. Kind 0: it gives nothing; 1: the byte `value`; 2: the code point `value`; 3: it closes the string; 4: it may
 // not stand there. Then where the string goes on. Mode 0: at a character; 1 to 4: that many digits of \u are still to come;
 // 5: behind a backslash; 6: behind a high surrogate. `unit` is what the digits make, `high` the high surrogate, 0 where none is.
-struct Moved {
+struct QuotedStep {
     kind: u8,
     value: u32,
     mode: u8,
@@ -22,10 +22,10 @@ struct Moved {
     high: u32,
 }
 
-fn goes(mode: u8, high: u32) -> Moved
+fn goes(mode: u8, high: u32) -> QuotedStep
     ensures { λ r. ⌜ r ≡ record { kind = 0; value = 0; mode = mode; unit = 0; high = high } ⌝ }
 {
-    Moved {
+    QuotedStep {
         kind: 0,
         value: 0,
         mode,
@@ -34,10 +34,10 @@ fn goes(mode: u8, high: u32) -> Moved
     }
 }
 
-fn gives(kind: u8, value: u32) -> Moved
+fn gives(kind: u8, value: u32) -> QuotedStep
     ensures { λ r. ⌜ r ≡ record { kind = kind; value = value; mode = 0; unit = 0; high = 0 } ⌝ }
 {
-    Moved {
+    QuotedStep {
         kind,
         value,
         mode: 0,
@@ -62,7 +62,7 @@ fn escaped(b: u8) -> u8
     }
 }
 
-fn at_character(quote: u8, b: u8) -> Moved
+fn at_character(quote: u8, b: u8) -> QuotedStep
     ensures { λ r. ⌜ Goes (moveAt quote character b) r ⌝ }
 {
     if b == quote {
@@ -77,7 +77,7 @@ fn at_character(quote: u8, b: u8) -> Moved
     gives(1, b as u32)
 }
 
-fn at_escape(quote: u8, high: u32, b: u8) -> Moved
+fn at_escape(quote: u8, high: u32, b: u8) -> QuotedStep
     requires { ⌜ High high ⌝ }
     ensures { λ r. ⌜ Goes (moveAt quote (escape high) b) r ⌝ }
 {
@@ -101,7 +101,7 @@ fn at_escape(quote: u8, high: u32, b: u8) -> Moved
 }
 
 // All four digits are read: surrogates only in a right pair.
-fn whole_unit(high: u32, unit: u32) -> Moved
+fn whole_unit(high: u32, unit: u32) -> QuotedStep
     requires { ⌜ Whole unit high ⌝ }
     ensures { λ r. ⌜ Goes (wholeUnit high unit) r ⌝ }
 {
@@ -126,8 +126,8 @@ fn whole_unit(high: u32, unit: u32) -> Moved
     gives(2, unit)
 }
 
-fn at_digit(mode: u8, unit: u32, high: u32, b: u8) -> Moved
-    requires { ⌜ Digits mode unit high ⌝ }
+fn at_digit(mode: u8, unit: u32, high: u32, b: u8) -> QuotedStep
+    requires { ⌜ UnitDigits mode unit high ⌝ }
     ensures { λ r. ⌜ Goes (moveAt 0 (unicode mode unit high) b) r ⌝ }
 {
     let v = hex_value(b);
@@ -138,7 +138,7 @@ fn at_digit(mode: u8, unit: u32, high: u32, b: u8) -> Moved
     if mode == 1 {
         return whole_unit(high, u);
     }
-    Moved {
+    QuotedStep {
         kind: 0,
         value: 0,
         mode: mode - 1,
@@ -147,7 +147,7 @@ fn at_digit(mode: u8, unit: u32, high: u32, b: u8) -> Moved
     }
 }
 
-fn at_pair(high: u32, b: u8) -> Moved
+fn at_pair(high: u32, b: u8) -> QuotedStep
     requires { ⌜ High high ⌝ }
     ensures { λ r. ⌜ Goes (moveAt 0 (paired high) b) r ⌝ }
 {
@@ -157,7 +157,7 @@ fn at_pair(high: u32, b: u8) -> Moved
     gives(4, 0)
 }
 
-fn quoted_step(quote: u8, mode: u8, unit: u32, high: u32, b: u8) -> Moved
+fn quoted_step(quote: u8, mode: u8, unit: u32, high: u32, b: u8) -> QuotedStep
     requires { ⌜ Sound mode unit high ⌝ }
     ensures { λ r. ⌜ Goes (moveAt quote (quotingOf mode unit high) b) r ⌝ }
 {
@@ -196,7 +196,7 @@ fn emitted_size(kind: u8, value: u32) -> usize
 }
 
 // Whether a string ends well, from `at` on, and how many bytes its content has.
-pub fn scan_quoted(text: &[u8], at: usize, quote: u8) -> Scanned
+pub fn scan_quoted(text: &[u8], at: usize, quote: u8) -> LiteralScan
     ensures { λ r. ⌜ Scans (now (text .entry)) at r (unquote quote character (drop at (marked (now (text .entry))))) ⌝ }
 {
     let mut i = at;
@@ -208,13 +208,13 @@ pub fn scan_quoted(text: &[u8], at: usize, quote: u8) -> Scanned
         let m = quoted_step(quote, mode, unit, high, text[i]);
         if 3 <= m.kind {
             if m.kind < 4 {
-                return Scanned {
+                return LiteralScan {
                     good: true,
                     next: i + 1,
                     size,
                 };
             }
-            return Scanned {
+            return LiteralScan {
                 good: false,
                 next: at,
                 size: 0,
@@ -226,7 +226,7 @@ pub fn scan_quoted(text: &[u8], at: usize, quote: u8) -> Scanned
         high = m.high;
         i += 1;
     }
-    Scanned {
+    LiteralScan {
         good: false,
         next: at,
         size: 0,

@@ -25,7 +25,7 @@ ghost use Rattle.cbor.specs.Decode.{mostBytes};
 ghost use Rattle.notation.specs.Tokens.{bracket, brace, embedding};
 ghost use Rattle.notation.specs.Form.{one, items, pairs, reads};
 ghost use Rattle.notation.specs.Reading.{marked, sequence};
-ghost use Rattle.encoding.specs.ReadAnswers.{followed, entry, within, taggedRead, indicatorFor, shapeFor, mayTagNoted, Room, Opened, Loop, Ahead, Told, TagMade, Bracketed, joinedAs, ofItem, ofEntry, ofClosed, ofPairs, ofTagged};
+ghost use Rattle.encoding.specs.ReadAnswers.{followed, entryRead, behindOpener, taggedRead, indicatorFor, shapeFor, mayTagNoted, Room, Opened, Loop, Ahead, ReadTold, TagMade, Bracketed, joinedAs, ofItem, ofEntry, ofClosed, ofPairs, ofTagged};
 
 // Whether a tag may stand on an item of a note (typed arrays).
 fn may_tag(number: u64, note: usize) -> bool
@@ -60,7 +60,7 @@ fn joined(size: usize, a: ReadAnswer) -> ReadAnswer
 // One item from a place on, its bytes into the buffer from pos on.
 pub fn item(text: &[u8], at: usize, levels: usize, buf: &mut [u8], pos: usize) -> ReadAnswer
     requires { ⌜ Room (now text) at pos ⌝ }
-    ensures { λ r. ⌜ Told ofItem (now (text .entry)) (now (buf .entry)) (now (buf .exit)) (length (marked (now (text .entry))) - at) pos r (reads (one levels) (drop at (marked (now (text .entry))))) ⌝ }
+    ensures { λ r. ⌜ ReadTold ofItem (now (text .entry)) (now (buf .entry)) (now (buf .exit)) (length (marked (now (text .entry))) - at) pos r (reads (one levels) (drop at (marked (now (text .entry))))) ⌝ }
 {
     let t = next_token(text, at);
     let code = t.code;
@@ -108,7 +108,7 @@ fn array(
     pos: usize,
 ) -> ReadAnswer
     requires { ⌜ Bracketed (now text) at pos place mark ⌝ }
-    ensures { λ r. ⌜ Told ofItem (now (text .entry)) (now (buf .entry)) (now (buf .exit)) (length (marked (now (text .entry))) - at + 1) pos r (within levels (bracket (indicatorFor mark)) (length (marked (now (text .entry))) - place) (drop at (marked (now (text .entry))))) ⌝ }
+    ensures { λ r. ⌜ ReadTold ofItem (now (text .entry)) (now (buf .entry)) (now (buf .exit)) (length (marked (now (text .entry))) - at + 1) pos r (behindOpener levels (bracket (indicatorFor mark)) (length (marked (now (text .entry))) - place) (drop at (marked (now (text .entry))))) ⌝ }
 {
     let a = list(text, at, 16, levels, buf, pos + 1);
     match a {
@@ -134,7 +134,7 @@ fn map(
     pos: usize,
 ) -> ReadAnswer
     requires { ⌜ Bracketed (now text) at pos place mark ⌝ }
-    ensures { λ r. ⌜ Told ofItem (now (text .entry)) (now (buf .entry)) (now (buf .exit)) (length (marked (now (text .entry))) - at + 1) pos r (within levels (brace (indicatorFor mark)) (length (marked (now (text .entry))) - place) (drop at (marked (now (text .entry))))) ⌝ }
+    ensures { λ r. ⌜ ReadTold ofItem (now (text .entry)) (now (buf .entry)) (now (buf .exit)) (length (marked (now (text .entry))) - at + 1) pos r (behindOpener levels (brace (indicatorFor mark)) (length (marked (now (text .entry))) - place) (drop at (marked (now (text .entry))))) ⌝ }
 {
     let a = entries(text, at, levels, buf, pos + 1);
     match a {
@@ -159,7 +159,7 @@ fn embed(
     pos: usize,
 ) -> ReadAnswer
     requires { ⌜ Opened (now text) at pos place ⌝ }
-    ensures { λ r. ⌜ Told ofItem (now (text .entry)) (now (buf .entry)) (now (buf .exit)) (length (marked (now (text .entry))) - at + 1) pos r (within levels embedding (length (marked (now (text .entry))) - place) (drop at (marked (now (text .entry))))) ⌝ }
+    ensures { λ r. ⌜ ReadTold ofItem (now (text .entry)) (now (buf .entry)) (now (buf .exit)) (length (marked (now (text .entry))) - at + 1) pos r (behindOpener levels embedding (length (marked (now (text .entry))) - place) (drop at (marked (now (text .entry))))) ⌝ }
 {
     let a = list(text, at, 20, levels, buf, pos + 1);
     match a {
@@ -184,7 +184,7 @@ fn tag(
     pos: usize,
 ) -> ReadAnswer
     requires { ⌜ Opened (now text) at pos place ⌝ }
-    ensures { λ r. ⌜ Told (ofTagged first number) (now (text .entry)) (now (buf .entry)) (now (buf .exit)) (length (marked (now (text .entry))) - at + 1) pos r (taggedRead levels number (length (marked (now (text .entry))) - place) (drop at (marked (now (text .entry))))) ⌝ }
+    ensures { λ r. ⌜ ReadTold (ofTagged first number) (now (text .entry)) (now (buf .entry)) (now (buf .exit)) (length (marked (now (text .entry))) - at + 1) pos r (taggedRead levels number (length (marked (now (text .entry))) - place) (drop at (marked (now (text .entry))))) ⌝ }
 {
     let size = head_size(first);
     head::write_head(buf, pos, first, number);
@@ -205,7 +205,7 @@ fn followed(
     pos: usize,
 ) -> ReadAnswer
     requires { ⌜ Ahead (now text) at pos closer ⌝ }
-    ensures { λ r. ⌜ Told ofItem (now (text .entry)) (now (buf .entry)) (now (buf .exit)) (length (marked (now (text .entry))) - at) pos r (followed closer levels (drop at (marked (now (text .entry))))) ⌝ }
+    ensures { λ r. ⌜ ReadTold ofItem (now (text .entry)) (now (buf .entry)) (now (buf .exit)) (length (marked (now (text .entry))) - at) pos r (followed closer levels (drop at (marked (now (text .entry))))) ⌝ }
 {
     let a = item(text, at, levels, buf, pos);
     match a {
@@ -224,7 +224,7 @@ fn followed(
 // A key and its value.
 fn pair(text: &[u8], at: usize, levels: usize, buf: &mut [u8], pos: usize) -> ReadAnswer
     requires { ⌜ Room (now text) at pos ⌝ }
-    ensures { λ r. ⌜ Told ofEntry (now (text .entry)) (now (buf .entry)) (now (buf .exit)) (length (marked (now (text .entry))) - at) pos r (entry levels (drop at (marked (now (text .entry))))) ⌝ }
+    ensures { λ r. ⌜ ReadTold ofEntry (now (text .entry)) (now (buf .entry)) (now (buf .exit)) (length (marked (now (text .entry))) - at) pos r (entryRead levels (drop at (marked (now (text .entry))))) ⌝ }
 {
     let a = followed(text, at, 12, levels, buf, pos);
     match a {
@@ -243,7 +243,7 @@ fn list(
     pos: usize,
 ) -> ReadAnswer
     requires { ⌜ Loop (now text) from pos closer ⌝ }
-    ensures { λ r. ⌜ Told ofClosed (now (text .entry)) (now (buf .entry)) (now (buf .exit)) (length (marked (now (text .entry))) - from) pos r (reads (items (shapeFor closer) true levels) (drop from (marked (now (text .entry))))) ⌝ }
+    ensures { λ r. ⌜ ReadTold ofClosed (now (text .entry)) (now (buf .entry)) (now (buf .exit)) (length (marked (now (text .entry))) - from) pos r (reads (items (shapeFor closer) true levels) (drop from (marked (now (text .entry))))) ⌝ }
 {
     let first = next_token(text, from);
     if first.code == closer {
@@ -276,7 +276,7 @@ fn list(
 // The pairs of a map up to its brace.
 fn entries(text: &[u8], from: usize, levels: usize, buf: &mut [u8], pos: usize) -> ReadAnswer
     requires { ⌜ Loop (now text) from pos 18 ⌝ }
-    ensures { λ r. ⌜ Told ofPairs (now (text .entry)) (now (buf .entry)) (now (buf .exit)) (length (marked (now (text .entry))) - from) pos r (reads (pairs true levels) (drop from (marked (now (text .entry))))) ⌝ }
+    ensures { λ r. ⌜ ReadTold ofPairs (now (text .entry)) (now (buf .entry)) (now (buf .exit)) (length (marked (now (text .entry))) - from) pos r (reads (pairs true levels) (drop from (marked (now (text .entry))))) ⌝ }
 {
     let first = next_token(text, from);
     if first.code == 18 {
@@ -309,7 +309,7 @@ fn entries(text: &[u8], from: usize, levels: usize, buf: &mut [u8], pos: usize) 
 // All items of a text, their bytes at the front of the buffer, if they fit.
 pub fn read_items(text: &[u8], buf: &mut [u8]) -> ReadAnswer
     requires { ⌜ length (now text) ≤ mostBytes ⌝ }
-    ensures { λ r. ⌜ Told ofClosed (now (text .entry)) (now (buf .entry)) (now (buf .exit)) (length (marked (now (text .entry)))) 0 r (sequence (now (text .entry))) ⌝ }
+    ensures { λ r. ⌜ ReadTold ofClosed (now (text .entry)) (now (buf .entry)) (now (buf .exit)) (length (marked (now (text .entry)))) 0 r (sequence (now (text .entry))) ⌝ }
 {
     list(text, 0, 21, 16, buf, 0)
 }

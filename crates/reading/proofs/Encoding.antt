@@ -11,18 +11,18 @@ use borrow.Author.Tests.{le-leb, lt-leb, leb-true, leb-false, eq-eqb, ne-eqb}
 use Rattle.cbor.specs.Refusals.{Result, ok, refuse, bind, accepted, refused, verdictOf}
 use Rattle.cbor.specs.Encode.{encodeAll}
 use Rattle.cbor.specs.Decode.{mostBytes}
-use Rattle.memory.specs.Buffer.{over, written as writtenAt, copied}
+use Rattle.memory.specs.Buffer.{over, overIfFits as writtenAt, copied}
 use Rattle.refusal.specs.RefusalKinds.{kindNumber}
 use Rattle.refusal.specs.declared.Refusal.{Refusal}
 use Rattle.refusal.specs.declared.RefusalKind.the-variants.{NoRoom}
 use Rattle.memory.proofs.Buffer.{written-fits, copied-yes}
 use Rattle.notation.specs.Form.{Closed}
 use Rattle.notation.specs.Reading.{marked, sequence, readText}
-use Rattle.encoding.specs.ReadAnswers.{Told, After, ofClosed}
+use Rattle.encoding.specs.ReadAnswers.{ReadTold, After, ofClosed}
 use Rattle.encoding.specs.declared.answer.MadeItem.{MadeItem as MadeS}
 use Rattle.encoding.specs.declared.answer.ReadAnswer.{ReadAnswer}
 use Rattle.encoding.specs.declared.answer.ReadAnswer.the-variants.{Made as ReadMade, Refused as ReadRefused}
-use Rattle.operations.specs.Operations.{onward, room, written, bytesOf, read}
+use Rattle.operations.specs.Operations.{andThen, room, written, bytesOf, read}
 use Rattle.answer.specs.Outcomes.{outcomeOf, laid, Refuses}
 use Rattle.reading.specs.ReadOutcomes.{Delivered, itemsRead, Ready, Encodes}
 use Rattle.text_check.specs.TextAnswers.{textTold, passing}
@@ -58,7 +58,7 @@ pub ruleset deliver-ways = (deliver-done, deliver-refused)
 -- ENCODING
 encode-yes : (s b b′ made made′ : List ℕ) (most : ℕ) {r : Answer} {a : ReadAnswer} {k : MadeS} (res : Result Closed) → sequence s ≡ res → length made ≡ 65535 → After ofClosed s made made′ most 0 a res
     → a ≡ ReadMade k → Delivered made′ (k .size) b b′ r → Encodes s b b′ r
-unfolding After ofClosed itemsRead bind verdictOf onward laid
+unfolding After ofClosed itemsRead bind verdictOf andThen laid
 encode-yes s b b′ made made′ most {k = k} (ok c q) e l x i d =
     let j : x .made ≡ k = cc (x .is) in
     let n : k .size ≡ length (encodeAll (c .all)) = rw j at (x .moved .sized) in
@@ -67,7 +67,7 @@ encode-yes s b b′ made made′ most {k = k} (ok c q) e l x i d =
 encode-yes s b b′ made made′ most (refuse n q) e l x i d = let z : _≡_ {A = ℕ} 0 1 = cc (x .is) in absurd (omega arith)
 
 encode-no : (s b made made′ : List ℕ) (most : ℕ) {a : ReadAnswer} {e : Refusal} (res : Result Closed) → sequence s ≡ res → After ofClosed s made made′ most 0 a res → a ≡ ReadRefused e → Encodes s b b (Refused e)
-unfolding After itemsRead bind verdictOf onward outcomeOf written
+unfolding After itemsRead bind verdictOf andThen outcomeOf written
 encode-no s b made made′ most (ok c q) f x i = let z : _≡_ {A = ℕ} 0 1 = cc (x .is) in absurd (omega arith)
 encode-no s b made made′ most {e = e} (refuse n q) f x i =
     let j : x .refusal ≡ e = cc (x .is) in
@@ -75,7 +75,7 @@ encode-no s b made made′ most {e = e} (refuse n q) f x i =
     let p : e .place ≡ suc (length s) - q = rw (j, l) at (x .place) in
     record { is = rw (f, p, rw j at (x .number)) }
 
-module _ {s made made′ : List ℕ} (b : List ℕ) {most : ℕ} {a : ReadAnswer} (t : Told ofClosed s made made′ most 0 a (sequence s)) where
+module _ {s made made′ : List ℕ} (b : List ℕ) {most : ℕ} {a : ReadAnswer} (t : ReadTold ofClosed s made made′ most 0 a (sequence s)) where
   pub encode-done : {k : MadeS} {b′ : List ℕ} {r : Answer} → Ready s made → a ≡ ReadMade k → Delivered made′ (k .size) b b′ r → Encodes s b b′ r
   encode-done l i d = encode-yes s b _ made made′ most (sequence s) refl (l .room) (t .after) i d
 
@@ -95,7 +95,7 @@ module _ (s b : List ℕ) {t : Text} (h : textTold t ≡ passing s) where
   read-done e x = let p : passing s ≡ accepted tt = sym h ∙ rw e in x .is ∙ rw (passes s (itemsRead s) p)
 
   pub read-refused : {e : Refusal} → t ≡ TextRefused e → outcomeOf (Refused e) b ≡ read s b
-  unfolding textTold read bytesOf readText itemsRead onward written outcomeOf
+  unfolding textTold read bytesOf readText itemsRead andThen written outcomeOf
   read-refused {e} i =
       let p : passing s ≡ refused (kindNumber (e .kind)) (e .place) = sym h ∙ rw i in
       rw (fails s (itemsRead s) p)

@@ -8,12 +8,12 @@ use Rattle.cbor.specs.Items.{Items}
 use Rattle.cbor.specs.Encode.{encodeAll}
 use Rattle.cbor.specs.Decode.{mostBytes}
 use Rattle.notation.specs.Reading.{sequence}
-use Rattle.operations.specs.Operations.{onward, fitting, written}
-use Rattle.answer.specs.Outcomes.{outcomeOf, laid, Made}
+use Rattle.operations.specs.Operations.{andThen, fitting, written}
+use Rattle.answer.specs.Outcomes.{outcomeOf, laid, Holds}
 use Rattle.answer.specs.declared.Answer.{Answer}
 
 pub record Delivered (m : List ℕ) (n : ℕ) (b b′ : List ℕ) (r : Answer) : Type 0 where
-  pub is : (w : List ℕ) → Made m n w → outcomeOf r b′ ≡ laid b w
+  pub is : (w : List ℕ) → Holds m n w → outcomeOf r b′ ≡ laid b w
 
 -- the tokens of a text that passed, and their items
 unfoldable pub itemsRead : List ℕ → Verdict Items
@@ -25,4 +25,4 @@ pub record Ready (s made : List ℕ) : Type 0 where
   pub room : length made ≡ mostBytes
 
 pub record Encodes (s b b′ : List ℕ) (r : Answer) : Type 0 where
-  pub is : outcomeOf r b′ ≡ written b (λ v. v) (onward (itemsRead s) (λ xs. fitting b (encodeAll xs)))
+  pub is : outcomeOf r b′ ≡ written b (λ v. v) (andThen (itemsRead s) (λ xs. fitting b (encodeAll xs)))

@@ -20,7 +20,7 @@ use Rattle.notation.specs.Reading.{readText}
 use Rattle.notation.specs.Printing.{decimalOf, printText}
 use Rattle.text_output.specs.PrintParts.{Prints, contentOf}
 use Rattle.text_output.proofs.PrintLeaves.{prints-more, prints-as}
-use Rattle.operations.specs.Operations.{Outcome, onward, room, fitting, written, bytesOf, itemsOf, textOf, read, print}
+use Rattle.operations.specs.Operations.{Outcome, andThen, room, fitting, written, bytesOf, itemsOf, textOf, read, print}
 use Rattle.answer.specs.Outcomes.{outcomeOf}
 use Rattle.operations.specs.Programs.{acceptedLine, acceptedLines, atPlace, refusedLine, said, empty, readProgram, printProgram}
 use Rattle.answer.specs.declared.Answer.{Answer}
@@ -74,8 +74,8 @@ room-over : (b w : List ℕ) → length w ≤ room b → length w ≤ length (ov
 unfolding over
 room-over b w h = simp length-append (omega arith)
 
-said-short : (b b′ : List ℕ) {a : Answer} {n : ℕ} {A : Type 0} (u : Verdict A) (f : A → List ℕ) → outcomeOf a b′ ≡ written b (λ w. w) (onward u (λ x. fitting b (f x))) → a ≡ Written n → n ≤ length b′
-unfolding outcomeOf written onward
+said-short : (b b′ : List ℕ) {a : Answer} {n : ℕ} {A : Type 0} (u : Verdict A) (f : A → List ℕ) → outcomeOf a b′ ≡ written b (λ w. w) (andThen u (λ x. fitting b (f x))) → a ≡ Written n → n ≤ length b′
+unfolding outcomeOf written andThen
 said-short b b′ {n = n} (accepted x) f e i = go (leb (length (f x)) (room b)) refl
   where
     go : (v : Bool) → leb (length (f x)) (room b) ≡ v → n ≤ length b′
@@ -92,8 +92,8 @@ said-short b b′ {n = n} (accepted x) f e i = go (leb (length (f x)) (room b)) 
 said-short b b′ (refused k q) f e i = absurd (refused-not-accepted (sym (ap (λ (o : Outcome ℕ). o .answer) (rw i at e))))
 
 -- only the length of the buffer counts
-onward-same : {A : Type 0} (u : Verdict A) (f : A → List ℕ) (b c : List ℕ) → length c ≡ length b → onward u (λ x. fitting c (f x)) ≡ onward u (λ x. fitting b (f x))
-unfolding onward
+onward-same : {A : Type 0} (u : Verdict A) (f : A → List ℕ) (b c : List ℕ) → length c ≡ length b → andThen u (λ x. fitting c (f x)) ≡ andThen u (λ x. fitting b (f x))
+unfolding andThen
 onward-same (accepted x) f b c e = fitting-same b c (f x) e
 onward-same (refused k q) f b c e = refl
 
@@ -103,16 +103,16 @@ empty-length = length-replicate {A = ℕ} mostBytes 0
 
 -- either program, from the operation's answer
 module _ {A : Type 0} (lines : List ℕ → List ℕ) (u : Verdict A) (f : A → List ℕ) (b b′ : List ℕ) (l : length b ≡ mostBytes) where
-  program : said lines (onward u (λ x. fitting b (f x))) ≡ said lines (onward u (λ x. fitting empty (f x)))
+  program : said lines (andThen u (λ x. fitting b (f x))) ≡ said lines (andThen u (λ x. fitting empty (f x)))
   program = ap (said lines) (onward-same u f empty b (l ∙ sym empty-length))
 
-  program-done : {a : Answer} {n : ℕ} {o o′ : List ℕ} {r : ℕ} → outcomeOf a b′ ≡ written b (λ w. w) (onward u (λ x. fitting b (f x))) → a ≡ Written n → Prints o o′ 0 (lines (take n b′)) r
-      → Prints o o′ 0 (said lines (onward u (λ x. fitting empty (f x)))) r
-  program-done {n = n} h i p = prints-as (sym (said-done lines b b′ (onward u (λ x. fitting b (f x))) n h i) ∙ program) p
+  program-done : {a : Answer} {n : ℕ} {o o′ : List ℕ} {r : ℕ} → outcomeOf a b′ ≡ written b (λ w. w) (andThen u (λ x. fitting b (f x))) → a ≡ Written n → Prints o o′ 0 (lines (take n b′)) r
+      → Prints o o′ 0 (said lines (andThen u (λ x. fitting empty (f x)))) r
+  program-done {n = n} h i p = prints-as (sym (said-done lines b b′ (andThen u (λ x. fitting b (f x))) n h i) ∙ program) p
 
-  program-refused : {a : Answer} {e : Refusal} {o o′ : List ℕ} {r : ℕ} → outcomeOf a b′ ≡ written b (λ w. w) (onward u (λ x. fitting b (f x))) → a ≡ Refused e
-      → Prints o o′ 0 (refusedLine (kindNumber (e .kind)) (e .place)) r → Prints o o′ 0 (said lines (onward u (λ x. fitting empty (f x)))) r
-  program-refused {e = e} h i p = prints-as (sym (said-refused lines b b′ (onward u (λ x. fitting b (f x))) e h i) ∙ program) p
+  program-refused : {a : Answer} {e : Refusal} {o o′ : List ℕ} {r : ℕ} → outcomeOf a b′ ≡ written b (λ w. w) (andThen u (λ x. fitting b (f x))) → a ≡ Refused e
+      → Prints o o′ 0 (refusedLine (kindNumber (e .kind)) (e .place)) r → Prints o o′ 0 (said lines (andThen u (λ x. fitting empty (f x)))) r
+  program-refused {e = e} h i p = prints-as (sym (said-refused lines b b′ (andThen u (λ x. fitting b (f x))) e h i) ∙ program) p
 
 module _ (s b b′ : List ℕ) {a : Answer} (h : outcomeOf a b′ ≡ read s b) where
   pub read-short : {n : ℕ} → a ≡ Written n → n ≤ length b′

@@ -2,7 +2,7 @@
 use crate::run::ask;
 use crate::run::gives;
 use edn::correct;
-use rows::compare::Outcome;
+use rows::compare::Reply;
 use rows::compare::lent;
 use rows::compare::refused;
 use rows::compare::same;
@@ -16,7 +16,7 @@ use rows::fill::fill_field;
 use rows::fill::path;
 use rows::fill::put;
 
-fn ask_correct(buffer: &mut [u8], used: usize, path: &[u16], text: &[u8]) -> Outcome {
+fn ask_correct(buffer: &mut [u8], used: usize, path: &[u16], text: &[u8]) -> Reply {
     told(correct(buffer, used, path, text))
 }
 
@@ -28,7 +28,7 @@ fn stands(buffer: &[u8], used: usize, line: &[u8], k: usize, m: usize) -> bool {
     first == used && all < FAILED && same(buffer, part(&want, 0, all))
 }
 
-fn corrected(t: Outcome, buffer: &[u8], used: usize, line: &[u8]) -> bool {
+fn corrected(t: Reply, buffer: &[u8], used: usize, line: &[u8]) -> bool {
     if t.number == 0 {
         return stands(buffer, t.at as usize, line, 5, 6);
     }
@@ -81,14 +81,14 @@ fn text_of(line: &[u8], edited: bool, out: &mut [u8]) -> usize {
 }
 
 // The edited text is read as the bytes that were corrected, or refused where the correction was.
-fn agrees(t: Outcome, buffer: &[u8], text: &[u8], expected: &[u8]) -> bool {
+fn agrees(t: Reply, buffer: &[u8], text: &[u8], expected: &[u8]) -> bool {
     if t.number == 0 {
         return same(expected, b"ok") && gives(false, text, part(buffer, 0, t.at as usize));
     }
     same(expected, b"no") && ask(false, text, &mut lent()).number != 0
 }
 
-fn edited(t: Outcome, buffer: &[u8], line: &[u8]) -> bool {
+fn edited(t: Reply, buffer: &[u8], line: &[u8]) -> bool {
     let mut text = io::large_buffer();
     let n = text_of(line, true, &mut text);
     n < FAILED && agrees(t, buffer, part(&text, 0, n), field(line, 6))

@@ -6,13 +6,13 @@ use rows::cut::pieces;
 ghost use Prim.Native.Nat.{_≤_};
 
 // How many rows were right, how many wrong, and where they end.
-struct Counts {
+struct Tally {
     right: u64,
     wrong: u64,
     end: usize,
 }
 
-// Counts stop at a million.
+// Tally stop at a million.
 fn sum(a: u64, b: u64) -> u64 {
     if a < 1000000 {
         if b < 1000000 {
@@ -61,7 +61,7 @@ fn kind_of(line: &[u8]) -> u8 {
 }
 
 // The rows from a place on, up to the next group.
-fn rows(text: &[u8], from: usize) -> Counts
+fn rows(text: &[u8], from: usize) -> Tally
     ensures { λ r. ⌜ from ≤ r .end ⌝ }
 {
     let mut right: u64 = 0;
@@ -71,7 +71,7 @@ fn rows(text: &[u8], from: usize) -> Counts
         let end = find(text, at, b'\n');
         let kind = kind_of(part(text, at, end));
         if kind == 3 {
-            return Counts {
+            return Tally {
                 right,
                 wrong,
                 end: at,
@@ -84,7 +84,7 @@ fn rows(text: &[u8], from: usize) -> Counts
         wrong = sum(wrong, one_if(kind, 2));
         at = end + 1;
     }
-    Counts {
+    Tally {
         right,
         wrong,
         end: at,

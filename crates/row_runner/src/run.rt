@@ -6,7 +6,7 @@ use edn::Located;
 use edn::Scanned;
 use edn::print;
 use edn::read;
-use rows::compare::Outcome;
+use rows::compare::Reply;
 use rows::compare::denied;
 use rows::compare::equal;
 use rows::compare::equals;
@@ -28,7 +28,7 @@ use rows::fill::fill;
 use rows::fill::path;
 
 // A text is read, or bytes are printed.
-pub fn ask(printing: bool, input: &[u8], out: &mut [u8]) -> Outcome {
+pub fn ask(printing: bool, input: &[u8], out: &mut [u8]) -> Reply {
     if printing {
         return told(print(input, out));
     }

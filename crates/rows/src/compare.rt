@@ -7,23 +7,23 @@ ghost use mathlib.Core.Path.{_≡_};
 ghost use lib.ListN.{length};
 
 // What a call answered: 0 and how many bytes were written, or the number of a refusal and its place.
-pub struct Outcome {
+pub struct Reply {
     pub number: u64,
     pub at: u64,
 }
 
-pub fn told_refusal(e: Refusal) -> Outcome {
+pub fn told_refusal(e: Refusal) -> Reply {
     let kind = e.kind;
-    Outcome {
+    Reply {
         number: refusal::number(kind) as u64,
         at: e.place as u64,
     }
 }
 
-pub fn told(a: Answer) -> Outcome {
+pub fn told(a: Answer) -> Reply {
     match a {
         Answer::Refused(e) => told_refusal(e),
-        Answer::Written(n) => Outcome {
+        Answer::Written(n) => Reply {
             number: 0,
             at: n as u64,
         },
@@ -66,7 +66,7 @@ fn untouched(s: &[u8], from: usize) -> bool {
 }
 
 // Whether bytes were written to the front of a buffer, which behind them is as it was lent.
-pub fn wrote(t: Outcome, out: &[u8], bytes: &[u8]) -> bool {
+pub fn wrote(t: Reply, out: &[u8], bytes: &[u8]) -> bool {
     let n = bytes.len();
     t.number == 0 && t.at == n as u64 && same(part(out, 0, n), bytes) && untouched(out, n)
 }
@@ -90,11 +90,11 @@ pub fn is_refusal(field: &[u8]) -> bool {
 }
 
 // Whether a call was refused as a field says.
-pub fn refused(t: Outcome, field: &[u8]) -> bool {
+pub fn refused(t: Reply, field: &[u8]) -> bool {
     is_refusal(field) && equal(t.number, t.at, b'@', part(field, 1, field.len()))
 }
 
 // Whether it was, and the buffer that was lent is as it was.
-pub fn denied(t: Outcome, field: &[u8], out: &[u8]) -> bool {
+pub fn denied(t: Reply, field: &[u8], out: &[u8]) -> bool {
     refused(t, field) && untouched(out, 0)
 }

@@ -11,7 +11,7 @@ use borrow.Author.Tests.{eqb-true, eqb-false, ne-eqb, eq-eqb, le-leb, lt-leb, le
 use Rattle.cbor.specs.Refusals.{ok}
 use Rattle.cbor.specs.Utf8.{isIn}
 use Rattle.notation.specs.Classes.{Class, blank, slash, hash, letter, digit, classNumber, classRows, classIn, classOf, is, isWord}
-use Rattle.notation.specs.Scanning.{isComment, between, slashed, hashed, Skipped, on, end, skipped, leftIn, skipFrom, skip, fault, whether, expect}
+use Rattle.notation.specs.Scanning.{isComment, between, slashed, hashed, Skipped, skips, stops, skipped, leftIn, skipFrom, skip, fault, whether, expect}
 use Rattle.notation.specs.Reading.{marked}
 use Rattle.scanning.specs.ScanAnswers.{Classed, outsideBy, endsComment, skipBy, stateOf, firstOf, Skips, Ran, isNext, Peeked}
 use Rattle.notation.proofs.ScanningElements.{clash}
@@ -127,13 +127,13 @@ abbrev kept : ℕ → List ℕ → List ℕ → List ℕ
 kept mode c r = elim (eqb mode 0) [ true ↦ r | false ↦ c ]
 
 abbrev stepped : ℕ → List ℕ → Skipped
-stepped m c = elim (eqb m 3) [ true ↦ end c | false ↦ on (stateOf m c) ]
+stepped m c = elim (eqb m 3) [ true ↦ stops c | false ↦ skips (stateOf m c) ]
 
 step-is : (mode b : ℕ) (c r : List ℕ) → mode ≤ 2 → skipped (stateOf mode c) b r ≡ stepped (skipBy mode b) (kept mode c (b ∷ r))
 unfolding skipped stateOf skipBy outsideBy endsComment
 step-is zero b c r h = go (is blank b) (is slash b) (is hash b)
   where
-    go : (u v w : Bool) → _≡_ {A = Skipped} (elim u [ true ↦ on between | false ↦ elim v [ true ↦ on (slashed (b ∷ r)) | false ↦ elim w [ true ↦ on (hashed (b ∷ r)) | false ↦ end (b ∷ r) ] ] ])
+    go : (u v w : Bool) → _≡_ {A = Skipped} (elim u [ true ↦ skips between | false ↦ elim v [ true ↦ skips (slashed (b ∷ r)) | false ↦ elim w [ true ↦ skips (hashed (b ∷ r)) | false ↦ stops (b ∷ r) ] ] ])
         (stepped (elim u [ true ↦ 0 | false ↦ elim v [ true ↦ 1 | false ↦ elim w [ true ↦ 2 | false ↦ 3 ] ] ]) (b ∷ r))
     go true v w = refl
     go false true w = refl
@@ -141,13 +141,13 @@ step-is zero b c r h = go (is blank b) (is slash b) (is hash b)
     go false false false = refl
 step-is (suc zero) b c r h = go (is slash b) (isComment b)
   where
-    go : (u v : Bool) → _≡_ {A = Skipped} (elim u [ true ↦ on between | false ↦ elim v [ true ↦ on (slashed c) | false ↦ end c ] ]) (stepped (elim u [ true ↦ 0 | false ↦ elim v [ true ↦ 1 | false ↦ 3 ] ]) c)
+    go : (u v : Bool) → _≡_ {A = Skipped} (elim u [ true ↦ skips between | false ↦ elim v [ true ↦ skips (slashed c) | false ↦ stops c ] ]) (stepped (elim u [ true ↦ 0 | false ↦ elim v [ true ↦ 1 | false ↦ 3 ] ]) c)
     go true v = refl
     go false true = refl
     go false false = refl
 step-is (suc (suc zero)) b c r h = go (eqb b 0x0a) (isComment b)
   where
-    go : (u v : Bool) → _≡_ {A = Skipped} (elim u [ true ↦ on between | false ↦ elim v [ true ↦ on (hashed c) | false ↦ end c ] ]) (stepped (elim u [ true ↦ 0 | false ↦ elim v [ true ↦ 2 | false ↦ 3 ] ]) c)
+    go : (u v : Bool) → _≡_ {A = Skipped} (elim u [ true ↦ skips between | false ↦ elim v [ true ↦ skips (hashed c) | false ↦ stops c ] ]) (stepped (elim u [ true ↦ 0 | false ↦ elim v [ true ↦ 2 | false ↦ 3 ] ]) c)
     go true v = refl
     go false true = refl
     go false false = refl
@@ -227,7 +227,7 @@ module _ {s : List ℕ} {i at start mode : ℕ} (m : Skimming s i at start mode)
           inside = omega (arith, length-marked s);
         }
       where
-        on-when : (mode′ ≡ 3 → ⊥) → stepped mode′ (drop start′ (marked s)) ≡ on (stateOf mode′ (drop start′ (marked s)))
+        on-when : (mode′ ≡ 3 → ⊥) → stepped mode′ (drop start′ (marked s)) ≡ skips (stateOf mode′ (drop start′ (marked s)))
         on-when n = rw (ne-eqb mode′ 3 n, stepped)
 
     pub skim-stop : mode′ ≡ 3 → Skips s i start′
@@ -238,7 +238,7 @@ module _ {s : List ℕ} {i at start mode : ℕ} (m : Skimming s i at start mode)
           ahead = omega (arith, m .ahead, e, first-bounds .0);
         }
       where
-        end-when : stepped mode′ (drop start′ (marked s)) ≡ end (drop start′ (marked s))
+        end-when : stepped mode′ (drop start′ (marked s)) ≡ stops (drop start′ (marked s))
         end-when = rw q
 
   -- at the end mark, and behind it

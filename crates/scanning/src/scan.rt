@@ -87,13 +87,13 @@ pub fn next_is(text: &[u8], at: usize, c: u8) -> bool
     text[at] == c
 }
 
-pub struct Cursor {
+pub struct TextCursor {
     pub at: usize,
 }
 
-impl Cursor {
+impl TextCursor {
     // Past blanks and comments. A comment that does not end well is not skipped.
-    pub fn skip(self, text: &[u8]) -> Cursor
+    pub fn skip(self, text: &[u8]) -> TextCursor
         requires { ⌜ self .at ≤ length (marked (now text)) ⌝ }
         ensures { λ r. ⌜ Skips (now (text .entry)) (self .at) (r .at) ⌝ }
     {
@@ -104,27 +104,27 @@ impl Cursor {
             start = first_of(mode, start, at);
             mode = skip_step(mode, text[at]);
             if mode == 3 {
-                return Cursor { at: start };
+                return TextCursor { at: start };
             }
             at += 1;
         }
-        Cursor {
+        TextCursor {
             at: first_of(mode, start, at),
         }
     }
 
     // Past letters and digits.
-    pub fn word(self, text: &[u8]) -> Cursor
+    pub fn word(self, text: &[u8]) -> TextCursor
         requires { ⌜ self .at ≤ length (now text) ⌝ }
         ensures { λ r. ⌜ Ran (now (text .entry)) isWord (self .at) (r .at) ⌝ }
     {
         let mut at = self.at;
         while at < text.len() {
             if !is_word(text[at]) {
-                return Cursor { at };
+                return TextCursor { at };
             }
             at += 1;
         }
-        Cursor { at }
+        TextCursor { at }
     }
 }

@@ -17,7 +17,7 @@ use Rattle.notation.specs.Tokens.{Shape, Token, begins, closes, aComma, aColon}
 use Rattle.notation.specs.Cutting.{next, place}
 use Rattle.notation.specs.Reading.{marked}
 use Rattle.token.specs.TokenAnswers.{indicatorNumber, shapeCode, codeOf, markOf, Took}
-use Rattle.encoding.specs.ReadAnswers.{View, Wrote, Room, Told, Strayed}
+use Rattle.encoding.specs.ReadAnswers.{View, Wrote, Room, ReadTold, Strayed}
 use Rattle.token.specs.declared.Token.{Token as Cut}
 use Rattle.encoding.specs.declared.answer.MadeItem.{MadeItem as MadeS}
 use Rattle.encoding.specs.declared.answer.ReadAnswer.{ReadAnswer}
@@ -89,7 +89,7 @@ module _ (L : Row) {s : List ℕ} {i : ℕ} where
       → ((j : Indicator) → t .indicator ≡ indicatorNumber j → k ≡ L .ofAll (empty j) .note)
       → ((tok : Token) (r : List ℕ) → next (drop i (marked s)) ≡ ok tok r → codeOf tok ≡ shapeCode (L .closer) → L .first (drop i (marked s)) ≡ ok (empty (indicatorOf tok)) r)
       → ((j : Indicator) → L .ofAll (empty j) .bytes ≡ []) → ((j : Indicator) → L .ofAll (empty j) .count ≡ 0)
-      → a ≡ Made (record { next = t .next; size = 0; count = 0; note = k }) → Told (L .ofAll) s b b (length (marked s) - i) pos a (L .first (drop i (marked s)))
+      → a ≡ Made (record { next = t .next; size = 0; count = 0; note = k }) → ReadTold (L .ofAll) s b b (length (marked s) - i) pos a (L .first (drop i (marked s)))
   row-empty {t} {b} {pos} tk k empty e nt fe eb ec f =
       let tt = token tk (λ z. omega (arith, shape-low (L .closer))) in
       let c : codeOf (tt .tok) ≡ shapeCode (L .closer) = sym (tt .seen .code) ∙ e in
@@ -126,8 +126,8 @@ pub row-room : (L : Row) {s b₀ : List ℕ} {i pos at n size : ℕ} {b : List �
 row-room L r = record { inside = r .inside; room = omega (arith, r .room .room, r .short) }
 
 module _ (L : Row) {s b₀ : List ℕ} {i pos at n size : ℕ} {b b′ : List ℕ} (a : ReadAnswer)
-    (run : Run L s b₀ i pos at n size b) (told : Told (L .ofElem) s b b′ (length (marked s) - at) (pos + size) a (L .elem (drop at (marked s)))) where
-  pub row-refused : {b″ : List ℕ} {e : Refusal} → a ≡ Refused e → Told (L .ofAll) s b₀ b″ (length (marked s) - i) pos (Refused e) (L .first (drop i (marked s)))
+    (run : Run L s b₀ i pos at n size b) (told : ReadTold (L .ofElem) s b b′ (length (marked s) - at) (pos + size) a (L .elem (drop at (marked s)))) where
+  pub row-refused : {b″ : List ℕ} {e : Refusal} → a ≡ Refused e → ReadTold (L .ofAll) s b₀ b″ (length (marked s) - i) pos (Refused e) (L .first (drop i (marked s)))
   row-refused f =
       told-lost _ _ (lost a told f)
       (run .left ∙ ap (λ (u : Result (L .All)). bind u (λ xs r. ok (run .front xs) r)) (L .rest-is (drop at (marked s))) ∙ bind-assoc (L .elem (drop at (marked s))) _ _)
@@ -192,7 +192,7 @@ module _ (L : Row) {s b₀ : List ℕ} {i pos at n size : ℕ} {b b′ : List �
 
       module _ {a′ : ReadAnswer} where
         pub row-close : (k : ℕ) → t .code ≡ shapeCode (L .closer) → ((j : Indicator) → t .indicator ≡ indicatorNumber j → k ≡ L .kept j)
-            → a′ ≡ Made (record { next = t .next; size = size + m .size; count = n + m .count; note = k }) → Told (L .ofAll) s b₀ b′ (length (marked s) - i) pos a′ (L .first (drop i (marked s)))
+            → a′ ≡ Made (record { next = t .next; size = size + m .size; count = n + m .count; note = k }) → ReadTold (L .ofAll) s b₀ b′ (length (marked s) - i) pos a′ (L .first (drop i (marked s)))
         unfolding bind
         row-close k e nt f =
             let tt = token tk (λ z. omega (arith, shape-low (L .closer))) in
@@ -214,7 +214,7 @@ module _ (L : Row) {s b₀ : List ℕ} {i pos at n size : ℕ} {b b′ : List �
               wrote = rw q written;
             })
 
-        pub row-stray : (t .code ≡ shapeCode (L .closer) → ⊥) → (t .code ≡ 11 → ⊥) → Strayed (L .levels) t a′ → Told (L .ofAll) s b₀ b′ (length (marked s) - i) pos a′ (L .first (drop i (marked s)))
+        pub row-stray : (t .code ≡ shapeCode (L .closer) → ⊥) → (t .code ≡ 11 → ⊥) → Strayed (L .levels) t a′ → ReadTold (L .ofAll) s b₀ b′ (length (marked s) - i) pos a′ (L .first (drop i (marked s)))
         unfolding bind
         row-stray nc n11 f =
             told-stop (L .levels) _ _ tk f behind

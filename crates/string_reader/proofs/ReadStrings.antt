@@ -13,18 +13,18 @@ use Rattle.cbor.specs.Refusals.{Result, ok, refuse, bind, badIndicator, mixedCh
 use Rattle.cbor.specs.Widths.{Width, w8, limit}
 use Rattle.cbor.specs.Items.{unsigned, negative, Kind, byteString, textString, Size, definite, indefinite, Chunk, Item, int, string, chunked, array, map, tag, simple}
 use Rattle.cbor.specs.Heads.{strings, majorNumber, initial, head}
-use Rattle.cbor.specs.Encode.{encodeString, encodeChunks, encode, enclosed, opening, closing}
+use Rattle.cbor.specs.Encode.{encodeString, encodeChunks, encode, enclosed, openingHead, closingBreak}
 use Rattle.cbor.specs.TypedArrays.{chunksLength}
 use Rattle.head.specs.HeadAnswers.{headBytes}
 use Rattle.refusal.specs.declared.Refusal.{Refusal}
 use Rattle.notation.specs.Indicators.{Indicator}
 use Rattle.notation.specs.Tokens.{bracket, brace, tagging, embedding, leaf, literal, chunking, opens, round, Token, begins, closes, aComma, aColon}
 use Rattle.notation.specs.Cutting.{next, place}
-use Rattle.notation.specs.Form.{either, only, one, chunks, Chunks, give, stray, strays, shapeNumber, beginning, oneRule, literalItem, addChunk, afterChunk, isWanted, chunk, chunksRule, rules, obey, reads, closing as closes-by}
+use Rattle.notation.specs.Form.{either, only, one, chunks, Chunks, give, stray, strays, shapeNumber, beginning, oneRule, literalItem, addChunk, afterChunk, isWanted, chunkRule, chunksRule, rules, obey, reads, closingRule as closes-by}
 use Rattle.notation.specs.Reading.{marked}
 use Rattle.scanning.specs.Stands.{Stands}
 use Rattle.token.specs.TokenAnswers.{itemCode, openCode, kindCode, sizeNumber, beginCode, shapeCode, codeOf, markOf, beginMark, numberOf, beginNumber, Written, BeginsAs, Seen, Took}
-use Rattle.encoding.specs.ReadAnswers.{noteOf, ofItem, ofChunk, ofChunks, chunkOf, chunkBy, chunkRead, chunkedRead, kindFor, majorBy, initialBy, MajorBy, noteBy, Wrote, Room, Opened, Strings, Light, Moved, Told, Strayed, Denies, Stringed, LiteralIs, LiteralTold, Ended, ChunksTold}
+use Rattle.encoding.specs.ReadAnswers.{noteOf, ofItem, ofChunk, ofChunks, chunkOf, chunkReadBy, chunkRead, chunkedRead, kindFor, majorBy, initialBy, MajorBy, noteBy, Wrote, Room, Opened, Strings, Light, MovedOn, ReadTold, Strayed, Denies, Stringed, LiteralIs, LiteralTold, Ended, ChunksTold}
 use Rattle.token.specs.declared.Token.{Token as Cut}
 use Rattle.encoding.specs.declared.answer.MadeItem.{MadeItem as MadeS}
 use Rattle.encoding.specs.declared.answer.ReadAnswer.{ReadAnswer}
@@ -108,14 +108,14 @@ literal-light pos tk rm l h =
 
 -- a literal that is an item
 literal-size : (k : Kind) (z : Size) (c : List ℕ) → (1 ≤ length (encode (literalItem k z c))) × (length (encode (literalItem k z c)) ≤ 9 + length c)
-unfolding literalItem encode encodeString enclosed opening closing encodeChunks head
+unfolding literalItem encode encodeString enclosed openingHead closingBreak encodeChunks head
 literal-size k (definite w) c =
     let l : length (head (strings k) w (length c) ++ c) ≡ length (head (strings k) w (length c)) + length c = length-append (head (strings k) w (length c)) c in
     (omega (arith, l), omega (arith, l, head-most (strings k) w (length c)))
 literal-size k indefinite c = (omega arith, omega arith)
 
 pub item-literal : {s b b′ : List ℕ} {at pos : ℕ} {t : Cut} {a : ReadAnswer} (d : ℕ) → Took s at t → Room s at pos → 3 < t .code → t .code ≤ 5 → LiteralTold s t b b′ pos a
-    → Told ofItem s b b′ (length (marked s) - at) pos a (reads (one d) (drop at (marked s)))
+    → ReadTold ofItem s b b′ (length (marked s) - at) pos a (reads (one d) (drop at (marked s)))
 unfolding ofItem oneRule beginning obey
 item-literal {s} {b} {b′} {at} {pos} {t} {a} d tk rm l h to =
     let li = literal-here tk rm l h in
@@ -147,8 +147,8 @@ chunk-step k d c aColon p q r = refl
 abbrev pub Behind : Kind → ℕ → Chunk → List ℕ → Result Chunks
 Behind k d c r = bind (next r) (λ u r′. step (reads (chunks (only k) d)) addChunk (lastChunk k) d round c u (place r) r′)
 
-chunk-by : (k : Kind) (d : ℕ) (t : Token) (p : ℕ) (r : List ℕ) → obey reads (chunksRule (only k) d t) p p r ≡ bind (chunkBy k d t p r) (λ c r′. Behind k d c r′)
-unfolding chunksRule chunk isWanted chunkBy chunkOf obey bind strays
+chunk-by : (k : Kind) (d : ℕ) (t : Token) (p : ℕ) (r : List ℕ) → obey reads (chunksRule (only k) d t) p p r ≡ bind (chunkReadBy k d t p r) (λ c r′. Behind k d c r′)
+unfolding chunksRule chunkRule isWanted chunkReadBy chunkOf obey bind strays
 chunk-by k d (begins (leaf x)) p r = refl
 chunk-by byteString d (begins (literal byteString (definite w) b)) p r = bind-same (next r) _ _ (λ u r′ e. chunk-step byteString d (record { width = w; content = b }) u p (place r) r′)
 chunk-by byteString d (begins (literal textString (definite w) b)) p r = refl
@@ -234,7 +234,7 @@ made-note : (a : ReadAnswer) (m m′ : MadeS) → a ≡ Made m → a ≡ Made m�
 made-note a m m′ f g = cc
 
 module _ {s b₀ : List ℕ} {kind d i pos at n size : ℕ} {b b′ : List ℕ} (a : ReadAnswer)
-    (run : Chunks-run kind d s b₀ i pos at n size b) (told : Told (ofChunk (kindFor kind)) s b b′ (length (marked s) - at) (pos + size) a (chunkRead (kindFor kind) d (drop at (marked s)))) where
+    (run : Chunks-run kind d s b₀ i pos at n size b) (told : ReadTold (ofChunk (kindFor kind)) s b b′ (length (marked s) - at) (pos + size) a (chunkRead (kindFor kind) d (drop at (marked s)))) where
   pub chunks-lost : {b″ : List ℕ} {e : Refusal} → a ≡ Refused e → ChunksTold kind s b₀ b″ (length (marked s) - i) pos (Refused e) (reads (chunks (only (kindFor kind)) d) (drop i (marked s)))
   chunks-lost {e = e} f = record { told = row-refused (chunksRow (kindFor kind) d) a (run .run) told f; kept = λ m g. made-never (Refused e) e m refl g }
 
@@ -269,8 +269,8 @@ module _ {s b₀ : List ℕ} {kind d i pos at n size : ℕ} {b b′ : List ℕ} 
 pub ruleset chunks-ways = (chunks-lost, chunks-close, chunks-stray)
 
 -- ONE CHUNK
-not-literal : (k : Kind) (d : ℕ) (tok : Token) (p : ℕ) (r : List ℕ) → (3 < codeOf tok → codeOf tok ≤ 5 → ⊥) → chunkBy k d tok p r ≡ refuse (stray d tok) p
-unfolding chunkBy codeOf beginCode kindCode
+not-literal : (k : Kind) (d : ℕ) (tok : Token) (p : ℕ) (r : List ℕ) → (3 < codeOf tok → codeOf tok ≤ 5 → ⊥) → chunkReadBy k d tok p r ≡ refuse (stray d tok) p
+unfolding chunkReadBy codeOf beginCode kindCode
 not-literal k d (begins (leaf x)) p r n = refl
 not-literal k d (begins (literal byteString z b)) p r n = absurd (n (omega arith) (omega arith))
 not-literal k d (begins (literal textString z b)) p r n = absurd (n (omega arith) (omega arith))
@@ -312,7 +312,7 @@ mixed-by k k′ indefinite b p r n m = absurd (n refl)
 -- a chunk that was written
 done-by : {s b b′ : List ℕ} {at pos size : ℕ} {t : Cut} {a : ReadAnswer} (k k′ : Kind) (z : Size) (c r : List ℕ) (res : Result Chunk) → Took s at t → (t .indicator ≡ 1 → ⊥) → k′ ≡ k → LiteralIs s t k′ z c
     → res ≡ chunkOf k k′ z c (place (drop at (marked s))) r → Stands (marked s) (t .next) r → length c + t .place < t .next → Stringed s t b b′ pos size
-    → a ≡ Made (record { next = t .next; size = size; count = t .number; note = 0 }) → Told (ofChunk k) s b b′ (length (marked s) - at) pos a res
+    → a ≡ Made (record { next = t .next; size = size; count = t .number; note = 0 }) → ReadTold (ofChunk k) s b b′ (length (marked s) - at) pos a res
 unfolding chunkOf sizeNumber ofChunk encodeString head
 done-by k k′ indefinite c r res tk n1 same l e sn sh sg f = absurd (n1 (l .size))
 done-by {s} {b} {b′} {at} {pos} {size} {t} {a} k k′ (definite w) c r res tk n1 same l e sn sh sg f =
@@ -332,35 +332,35 @@ done-by {s} {b} {b′} {at} {pos} {size} {t} {a} k k′ (definite w) c r res tk 
 
 chunk-is : {s : List ℕ} {at : ℕ} {t : Cut} (k : Kind) (d : ℕ) (li : LiteralHere s at t)
     → chunkRead k d (drop at (marked s)) ≡ chunkOf k (li .kind) (li .size) (li .held) (place (drop at (marked s))) (li .rest)
-unfolding chunkRead chunkBy
+unfolding chunkRead chunkReadBy
 chunk-is {s} {at} k d li = bind-yes (next (drop at (marked s))) _ (begins (literal (li .kind) (li .size) (li .held))) (li .rest) (li .next-is)
 
 module _ {s b b′ : List ℕ} {at pos kind : ℕ} {t : Cut} {a : ReadAnswer} (d : ℕ) (st : Strings s at pos kind) (tk : Took s at t) where
-  chunk-other : (3 < t .code → t .code ≤ 5 → ⊥) → Strayed d t a → Told (ofChunk (kindFor kind)) s b b′ (length (marked s) - at) pos a (chunkRead (kindFor kind) d (drop at (marked s)))
+  chunk-other : (3 < t .code → t .code ≤ 5 → ⊥) → Strayed d t a → ReadTold (ofChunk (kindFor kind)) s b b′ (length (marked s) - at) pos a (chunkRead (kindFor kind) d (drop at (marked s)))
   unfolding chunkRead
   chunk-other n f = told-stop d _ _ tk f refl (λ tok r e u. not-literal (kindFor kind) d tok (place (drop at (marked s))) r (λ l h. n (rw e l) (rw e h)))
 
-  pub chunk-low : t .code ≤ 3 → Strayed d t a → Told (ofChunk (kindFor kind)) s b b′ (length (marked s) - at) pos a (chunkRead (kindFor kind) d (drop at (marked s)))
+  pub chunk-low : t .code ≤ 3 → Strayed d t a → ReadTold (ofChunk (kindFor kind)) s b b′ (length (marked s) - at) pos a (chunkRead (kindFor kind) d (drop at (marked s)))
   chunk-low h f = chunk-other (λ l m. absurd (omega arith)) f
 
-  pub chunk-high : 5 < t .code → Strayed d t a → Told (ofChunk (kindFor kind)) s b b′ (length (marked s) - at) pos a (chunkRead (kindFor kind) d (drop at (marked s)))
+  pub chunk-high : 5 < t .code → Strayed d t a → ReadTold (ofChunk (kindFor kind)) s b b′ (length (marked s) - at) pos a (chunkRead (kindFor kind) d (drop at (marked s)))
   chunk-high h f = chunk-other (λ l m. absurd (omega arith)) f
 
   module _ (l : 3 < t .code) (h : t .code ≤ 5) where
-    pub chunk-open : t .indicator ≡ 1 → Denies badIndicator (t .place) a → Told (ofChunk (kindFor kind)) s b b′ (length (marked s) - at) pos a (chunkRead (kindFor kind) d (drop at (marked s)))
+    pub chunk-open : t .indicator ≡ 1 → Denies badIndicator (t .place) a → ReadTold (ofChunk (kindFor kind)) s b b′ (length (marked s) - at) pos a (chunkRead (kindFor kind) d (drop at (marked s)))
     chunk-open e f =
         let li = literal-here tk (st .room) l h in
         told-no badIndicator (place (drop at (marked s))) _ (chunk-is (kindFor kind) d li ∙ open-by (kindFor kind) (li .kind) (li .size) (li .held) (place (drop at (marked s))) (li .rest) (sym (li .facts .size) ∙ e)) (denied f (place-at tk))
 
     module _ (n1 : t .indicator ≡ 1 → ⊥) where
-      pub chunk-mixed : (t .code ≡ kind → ⊥) → Denies mixedChunks (t .place) a → Told (ofChunk (kindFor kind)) s b b′ (length (marked s) - at) pos a (chunkRead (kindFor kind) d (drop at (marked s)))
+      pub chunk-mixed : (t .code ≡ kind → ⊥) → Denies mixedChunks (t .place) a → ReadTold (ofChunk (kindFor kind)) s b b′ (length (marked s) - at) pos a (chunkRead (kindFor kind) d (drop at (marked s)))
       chunk-mixed n f =
           let li = literal-here tk (st .room) l h in
           told-no mixedChunks (place (drop at (marked s))) _
           (chunk-is (kindFor kind) d li ∙ mixed-by (kindFor kind) (li .kind) (li .size) (li .held) (place (drop at (marked s))) (li .rest) (λ z. n1 (li .facts .size ∙ z)) (λ e. n (li .facts .code ∙ e ∙ st .kinds))) (denied f (place-at tk))
 
       pub chunk-done : {size : ℕ} → t .code ≡ kind → Stringed s t b b′ pos size → a ≡ Made (record { next = t .next; size = size; count = t .number; note = 0 })
-          → Told (ofChunk (kindFor kind)) s b b′ (length (marked s) - at) pos a (chunkRead (kindFor kind) d (drop at (marked s)))
+          → ReadTold (ofChunk (kindFor kind)) s b b′ (length (marked s) - at) pos a (chunkRead (kindFor kind) d (drop at (marked s)))
       chunk-done {size} e sg f =
           let li = literal-here tk (st .room) l h in
           done-by (kindFor kind) (li .kind) (li .size) (li .held) (li .rest) _ tk n1 (wanted-by (kindFor kind) (li .kind) (sym (li .facts .code) ∙ e ∙ sym (st .kinds))) (li .facts) (chunk-is (kindFor kind) d li) (li .stands) (li .short) sg f
@@ -371,8 +371,8 @@ pub chunk-light : {s : List ℕ} {at kind : ℕ} {t : Cut} (pos : ℕ) → Strin
 chunk-light pos st tk l h = literal-light pos tk (st .room) l h
 
 -- A STRING IN CHUNKS
-either-by : (k : Kind) (d : ℕ) (z : Size) (b : List ℕ) (p : ℕ) (r : List ℕ) → obey reads (chunk either d k z b) p p r ≡ obey reads (chunk (only k) d k z b) p p r
-unfolding chunk isWanted
+either-by : (k : Kind) (d : ℕ) (z : Size) (b : List ℕ) (p : ℕ) (r : List ℕ) → obey reads (chunkRule either d k z b) p p r ≡ obey reads (chunkRule (only k) d k z b) p p r
+unfolding chunkRule isWanted
 either-by byteString d (definite w) b p r = refl
 either-by textString d (definite w) b p r = refl
 either-by k d indefinite b p r = refl
@@ -412,16 +412,16 @@ pub open-room : {s : List ℕ} {at place : ℕ} (pos : ℕ) → Opened s at pos 
 open-room pos o = record { inside = o .inside; room = omega (arith, o .room) }
 
 module _ {s b b′ : List ℕ} {at pos place′ : ℕ} {t : Cut} {a : ReadAnswer} (d : ℕ) (o : Opened s at pos place′) (tk : Took s at t) where
-  chunked-other : (3 < t .code → t .code ≤ 5 → ⊥) → Strayed d t a → Told ofItem s b b′ (length (marked s) - at + 1) pos a (chunkedRead d (drop at (marked s)))
+  chunked-other : (3 < t .code → t .code ≤ 5 → ⊥) → Strayed d t a → ReadTold ofItem s b b′ (length (marked s) - at + 1) pos a (chunkedRead d (drop at (marked s)))
   unfolding chunkedRead rules bind
   chunked-other n f =
       told-stop d _ _ tk f (ap (λ (u : Result Chunks). bind u (λ c r. Whole c r)) (reads-is (chunks either d) (drop at (marked s))) ∙ bind-assoc (next (drop at (marked s))) _ _)
       (λ tok r e u. bind-no _ (λ c r. Whole c r) _ _ (not-either d tok (place (drop at (marked s))) r (λ l h. n (rw e l) (rw e h))))
 
-  pub chunked-low : t .code ≤ 3 → Strayed d t a → Told ofItem s b b′ (length (marked s) - at + 1) pos a (chunkedRead d (drop at (marked s)))
+  pub chunked-low : t .code ≤ 3 → Strayed d t a → ReadTold ofItem s b b′ (length (marked s) - at + 1) pos a (chunkedRead d (drop at (marked s)))
   chunked-low h f = chunked-other (λ l m. absurd (omega arith)) f
 
-  pub chunked-high : 5 < t .code → Strayed d t a → Told ofItem s b b′ (length (marked s) - at + 1) pos a (chunkedRead d (drop at (marked s)))
+  pub chunked-high : 5 < t .code → Strayed d t a → ReadTold ofItem s b b′ (length (marked s) - at + 1) pos a (chunkedRead d (drop at (marked s)))
   chunked-high h f = chunked-other (λ l m. absurd (omega arith)) f
 
 kind-noted : {n : ℕ} (k : Kind) (cs : Chunks) → n ≡ ofChunks k cs .note → kindCode (cs .kind) ≡ n
@@ -430,9 +430,9 @@ kind-noted k cs e = sym e
 
 -- the chunks between their first byte and the break
 whole-told : {s b b′ b″ : List ℕ} {at pos place′ first note : ℕ} {m : MadeS} {a′ : ReadAnswer} (k : Kind) (cs : Chunks) (res : Result Item) (r : List ℕ) → res ≡ ok (chunked (cs .kind) (cs .all)) r → cs .kind ≡ k
-    → first ≡ majorBy (kindCode k) * 32 + 31 → note ≡ noteBy (kindCode k) (m .count) → Moved s b b′ (length (marked s) - at) (pos + 1) m (ofChunks k cs) r → Ended b′ b″ pos first m note a′ → Opened s at pos place′
-    → Told ofItem s b b″ (length (marked s) - at + 1) pos a′ res
-unfolding ofItem ofChunks encode enclosed opening closing initial
+    → first ≡ majorBy (kindCode k) * 32 + 31 → note ≡ noteBy (kindCode k) (m .count) → MovedOn s b b′ (length (marked s) - at) (pos + 1) m (ofChunks k cs) r → Ended b′ b″ pos first m note a′ → Opened s at pos place′
+    → ReadTold ofItem s b b″ (length (marked s) - at + 1) pos a′ res
+unfolding ofItem ofChunks encode enclosed openingHead closingBreak initial
 whole-told {s} {b} {b′} {b″} {at} {pos} {place′} {first} {note} {m} {a′} k cs res r e same fe ne mv en o =
     let q : first ≡ majorNumber (strings k) * 32 + 31 = fe ∙ ap (λ (x : ℕ). x * 32 + 31) (kind-major k) in
     let bs : List ℕ = encodeChunks k (cs .all) in
@@ -465,7 +465,7 @@ module _ {s b b′ : List ℕ} {at pos place′ : ℕ} {t : Cut} (d : ℕ) (a : 
       let e : li .kind ≡ kindFor (t .code) = sym (kind-back (li .kind)) ∙ ap kindFor (sym (li .facts .code)) in
       ap (λ (u : Result Chunks). bind u (λ c r. Whole c r)) (chunks-either d li ∙ ap (λ (k : Kind). reads (chunks (only k) d) (drop at (marked s))) e)
 
-  pub chunked-lost : {b″ : List ℕ} {e : Refusal} → a ≡ Refused e → Told ofItem s b b″ (length (marked s) - at + 1) pos (Refused e) (chunkedRead d (drop at (marked s)))
+  pub chunked-lost : {b″ : List ℕ} {e : Refusal} → a ≡ Refused e → ReadTold ofItem s b b″ (length (marked s) - at + 1) pos (Refused e) (chunkedRead d (drop at (marked s)))
   chunked-lost f = told-lost _ _ (lost a (ct .told) f) chunked-is
 
   module _ {m : MadeS} (g : a ≡ Made m) where
@@ -476,7 +476,7 @@ module _ {s b b′ : List ℕ} {at pos place′ : ℕ} {t : Cut} (d : ℕ) (a : 
     chunked-count = record { fits = omega (arith, got a (ct .told) g .moved .short, o .room, got a (ct .told) g .moved .many, got a (ct .told) g .moved .counted) }
 
     pub chunked-done : {b″ : List ℕ} {a′ : ReadAnswer} {major note : ℕ} → MajorBy (t .code) major → note ≡ noteBy (t .code) (m .count) → Ended b′ b″ pos (major * 32 + 31) m note a′
-        → Told ofItem s b b″ (length (marked s) - at + 1) pos a′ (chunkedRead d (drop at (marked s)))
+        → ReadTold ofItem s b b″ (length (marked s) - at + 1) pos a′ (chunkedRead d (drop at (marked s)))
     chunked-done {b″} {a′} {major} {note} mj ne en =
         let it = got a (ct .told) g in
         let code : kindCode (kindFor (t .code)) ≡ t .code = chunked-strings pos o tk l h .kinds in

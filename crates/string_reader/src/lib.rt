@@ -17,7 +17,7 @@ ghost use Prim.Native.Nat.{_+_, _-_};
 ghost use lib.ListN.{length, drop};
 ghost use Rattle.notation.specs.Form.{only, chunks, reads};
 ghost use Rattle.notation.specs.Reading.{marked};
-ghost use Rattle.encoding.specs.ReadAnswers.{chunkRead, chunkedRead, kindFor, noteBy, Filled, Opened, Strings, Light, LiteralTold, Told, Stringed, ChunksTold, ofItem, ofChunk};
+ghost use Rattle.encoding.specs.ReadAnswers.{chunkRead, chunkedRead, kindFor, noteBy, Filled, Opened, Strings, Light, LiteralTold, ReadTold, Stringed, ChunksTold, ofItem, ofChunk};
 
 // The note of a string, by the code of its literals.
 pub fn note_by(code: u8, n: usize) -> usize
@@ -83,7 +83,7 @@ pub fn chunk(
     pos: usize,
 ) -> ReadAnswer
     requires { ⌜ Strings (now text) at pos kind ⌝ }
-    ensures { λ r. ⌜ Told (ofChunk (kindFor kind)) (now (text .entry)) (now (buf .entry)) (now (buf .exit)) (length (marked (now (text .entry))) - at) pos r (chunkRead (kindFor kind) levels (drop at (marked (now (text .entry))))) ⌝ }
+    ensures { λ r. ⌜ ReadTold (ofChunk (kindFor kind)) (now (text .entry)) (now (buf .entry)) (now (buf .exit)) (length (marked (now (text .entry))) - at) pos r (chunkRead (kindFor kind) levels (drop at (marked (now (text .entry))))) ⌝ }
 {
     let t = next_token(text, at);
     let code = t.code;
@@ -142,7 +142,7 @@ pub fn chunks(
 // A string in chunks behind `(_`.
 pub fn chunked(text: &[u8], at: usize, levels: usize, buf: &mut [u8], pos: usize) -> ReadAnswer
     requires { ⌜ Opened (now text) at pos at ⌝ }
-    ensures { λ r. ⌜ Told ofItem (now (text .entry)) (now (buf .entry)) (now (buf .exit)) (length (marked (now (text .entry))) - at + 1) pos r (chunkedRead levels (drop at (marked (now (text .entry))))) ⌝ }
+    ensures { λ r. ⌜ ReadTold ofItem (now (text .entry)) (now (buf .entry)) (now (buf .exit)) (length (marked (now (text .entry))) - at + 1) pos r (chunkedRead levels (drop at (marked (now (text .entry))))) ⌝ }
 {
     let t = next_token(text, at);
     let kind = t.code;

@@ -8,7 +8,7 @@ use lib.ListN.{length}
 use Rattle.cbor.specs.Ascii.{ascii}
 use Rattle.memory.specs.Buffer.{over as overBuffer}
 use Rattle.cbor.specs.Widths.{Width, w0, w1, w2, w4, w8}
-use Rattle.cbor.specs.Items.{Sign, unsigned, negative, Size, definite, indefinite}
+use Rattle.cbor.specs.Items.{Size, definite, indefinite}
 use Rattle.memory.specs.Sums.{capped}
 use Rattle.notation.specs.Words.{simpleWord}
 use Rattle.notation.specs.Printing.{decimalOf, hexOf, escapedOf}
@@ -33,10 +33,6 @@ widthBy i = elim (eqb i 24) [ true ↦ w1 | false ↦ elim (eqb i 25) [ true ↦
 
 unfoldable pub sizeBy : ℕ → Size
 sizeBy i = elim (eqb i 31) [ true ↦ indefinite | false ↦ definite (widthBy i) ]
-
-unfoldable pub signOf : Bool → Sign
-signOf true = negative
-signOf false = unsigned
 
 unfoldable pub quoteOf : Bool → ℕ
 quoteOf true = 0x22

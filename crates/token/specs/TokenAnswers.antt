@@ -9,7 +9,7 @@ use Rattle.cbor.specs.Items.{unsigned, negative, Kind, byteString, textString, 
 use Rattle.notation.specs.Indicators.{Indicator, absent, indefinitely, unknown, wide}
 use Rattle.notation.specs.Scanning.{skip}
 use Rattle.notation.specs.Quoted.{character, unquote}
-use Rattle.notation.specs.Literals.{Content, content, hexContent, base64Content}
+use Rattle.notation.specs.Literals.{Content, standsFor, hexContent, base64Content}
 use Rattle.notation.specs.Tokens.{Opener, bracket, brace, tagging, embedding, Beginning, leaf, literal, chunking, opens, Shape, square, curly, round, angle, whole, Token, begins, closes, aComma, aColon}
 use Rattle.notation.specs.Cutting.{next}
 use Rattle.notation.specs.Reading.{marked}
@@ -132,18 +132,18 @@ numberOf aComma = 0
 numberOf aColon = 0
 
 -- HOW A LITERAL IS WRITTEN: 0 "..", 1 '..', 2 h'..', 3 b64'..'
-pub record Quotes (s : List ℕ) (q start : ℕ) (b : List ℕ) : Type 0 where
+pub record QuotedAs (s : List ℕ) (q start : ℕ) (b : List ℕ) : Type 0 where
   pub rest : List ℕ
   pub is : unquote q character (drop start (marked s)) ≡ ok b rest
 
-pub record Encodes (s : List ℕ) (read : List ℕ → Content) (start stop : ℕ) (b : List ℕ) : Type 0 where
-  pub is : read (take (stop - start) (drop start s)) ≡ content b
+pub record EncodedAs (s : List ℕ) (read : List ℕ → Content) (start stop : ℕ) (b : List ℕ) : Type 0 where
+  pub is : read (take (stop - start) (drop start s)) ≡ standsFor b
 
 unfoldable pub Spelled : List ℕ → ℕ → ℕ → ℕ → List ℕ → Type 0
-Spelled s zero start stop b = Quotes s 0x22 start b
-Spelled s (suc zero) start stop b = Quotes s 0x27 start b
-Spelled s (suc (suc zero)) start stop b = Encodes s hexContent start stop b
-Spelled s (suc (suc (suc form))) start stop b = Encodes s base64Content start stop b
+Spelled s zero start stop b = QuotedAs s 0x22 start b
+Spelled s (suc zero) start stop b = QuotedAs s 0x27 start b
+Spelled s (suc (suc zero)) start stop b = EncodedAs s hexContent start stop b
+Spelled s (suc (suc (suc form))) start stop b = EncodedAs s base64Content start stop b
 
 unfoldable pub BeginsAs : List ℕ → Cut → Beginning → Type 0
 BeginsAs s t (leaf x) = Unit {0}
@@ -194,7 +194,7 @@ pub record Refused (k p : ℕ) (t : Cut) : Type 0 where
   pub kind : t .indicator ≡ k
   pub place : t .place ≡ p
 
-pub record Made (c i n p x : ℕ) (t : Cut) : Type 0 where
+pub record TokenMade (c i n p x : ℕ) (t : Cut) : Type 0 where
   pub code : t .code ≡ c
   pub indicator : t .indicator ≡ i
   pub number : t .number ≡ n

@@ -1,5 +1,5 @@
 // A token, as the code hands it on.
-ghost use Rattle.token.specs.TokenAnswers.{Refused, Made};
+ghost use Rattle.token.specs.TokenAnswers.{Refused, TokenMade};
 
 // A token. Its code: 1 an unsigned integer, 2 a negative one, 3 a simple value, 4 a text literal, 5 a byte literal, 6 the opening of a
 // tag, else the class of its first byte (21: the end of the text); 0 a refusal, by the number that is in `indicator`. The
@@ -34,7 +34,7 @@ pub fn refuse(kind: u8, place: usize) -> Token
 
 // A token that is no literal.
 pub fn made(code: u8, indicator: u8, number: u64, place: usize, next: usize) -> Token
-    ensures { λ r. ⌜ Made code indicator number place next r ⌝ }
+    ensures { λ r. ⌜ TokenMade code indicator number place next r ⌝ }
 {
     Token {
         code,

@@ -3,7 +3,7 @@ use crate::string::quoted;
 use crate::string::word;
 use numbers::indicator::indicator_at;
 use numbers::number::number;
-use scanning::scan::Cursor;
+use scanning::scan::TextCursor;
 use scanning::scan::next_is;
 use token::Token;
 use token::made;
@@ -103,6 +103,6 @@ pub fn next_token(text: &[u8], at: usize) -> Token
     requires { ⌜ at ≤ length (marked (now text)) ⌝ }
     ensures { λ r. ⌜ Took (now (text .entry)) at r ⌝ }
 {
-    let here = Cursor { at }.skip(text);
+    let here = TextCursor { at }.skip(text);
     cut(text, here.at)
 }

@@ -4,13 +4,13 @@ ghost use mathlib.Core.List.{_∷_, []};
 ghost use Prim.Native.Nat.{_<_};
 ghost use lib.ListN.{length, drop};
 ghost use Rattle.cbor.specs.Utf8.{_to_, follow, areIn, firstBad};
-ghost use Rattle.cbor.specs.Sequences.{behind, Sequence};
+ghost use Rattle.cbor.specs.Sequences.{behindFirst, Sequence};
 
 // What a first byte says: how long its sequence is, 0 where none begins so, and the bounds of the second byte.
 struct Lead(u8, u8, u8);
 
 fn lead_of(b: u8) -> Lead
-    ensures { λ r. ⌜ follow b ≡ behind (r .0) (r .1) (r .2) ⌝ }
+    ensures { λ r. ⌜ follow b ≡ behindFirst (r .0) (r .1) (r .2) ⌝ }
 {
     if b < 0x80 {
         return Lead(1, 0x80, 0xbf);

@@ -11,11 +11,11 @@ use borrow.Author.Tests.{leb-true}
 use Rattle.cbor.specs.Refusals.{Result, ok, refuse, bind, notUtf8, notWellFormed, endsInside, float, badTypedArray}
 use Rattle.cbor.specs.Widths.{Width, w0, w1, w2, w4, w8, argumentBytes, information, valueFrom}
 use Rattle.cbor.specs.Items.{Kind, Size, definite, indefinite, Chunk, Item, chunked, array, map, tag, none, more, none₂}
-use Rattle.cbor.specs.Heads.{Major, integers, strings, arrays, maps, tags, simples, majorNumber, majorOf, Head, Information, argument, reserved, indefinitely, informationOf, isFloat, isAllowed, isIndefinite, taking, started, argued, headBy, nextHead}
+use Rattle.cbor.specs.Heads.{Major, integers, strings, arrays, maps, tags, simples, majorNumber, majorOf, Head, Information, argument, reserved, openEnded, informationOf, isFloat, isAllowed, isIndefinite, taking, started, argued, headBy, nextHead}
 use Rattle.cbor.specs.TypedArrays.{chunksLength, mayTag}
 use Rattle.cbor.specs.Valid.{isText}
-use Rattle.cbor.specs.Decode.{Until, broken, several, content, chunkBy, chunk, entry, extent, tagged, elements, pair, entries, chunks, itemBy, itemWith, item}
-use Rattle.walk.specs.WalkAnswers.{contents, contentsAll, contentsAll₂, sized, below, entryContents, chunkContents}
+use Rattle.cbor.specs.Decode.{Until, broken, several, contentAt, chunkBy, chunkAt, entryAt, extent, tagged, elements, pair, entries, chunksOf, itemBy, itemWith, item}
+use Rattle.walk.specs.WalkAnswers.{contents, contentsAll, contentsAll₂, mapResult, below, entryContents, chunkContents}
 use Rattle.cbor.proofs.DecodeEncode.{enterAt}
 use Rattle.walk.proofs.Leaves.{Left, Leaves, left-cut, left-weak, left-on, leaves-behind, leaves-bind, same, leaves-sized, sized-leaves, several-sized, several-leaves}
 
@@ -28,13 +28,13 @@ nought x = 0
 abbrev Low : ℕ → Information → Type 0
 Low i (argument w) = information w i ≤ 27
 Low i reserved = Unit
-Low i indefinitely = Unit
+Low i openEnded = Unit
 
 information-low : (i : ℕ) → Low i (informationOf i)
 unfolding informationOf information
 information-low i = by (leb i 23) refl
   where
-    wide : (k : ℕ) → Low i (getD (argument w1 ∷ argument w2 ∷ argument w4 ∷ argument w8 ∷ reserved ∷ reserved ∷ reserved ∷ []) k indefinitely)
+    wide : (k : ℕ) → Low i (getD (argument w1 ∷ argument w2 ∷ argument w4 ∷ argument w8 ∷ reserved ∷ reserved ∷ reserved ∷ []) k openEnded)
     wide zero = omega arith
     wide (suc zero) = omega arith
     wide (suc (suc zero)) = omega arith
@@ -45,7 +45,7 @@ information-low i = by (leb i 23) refl
     wide (suc (suc (suc (suc (suc (suc (suc k))))))) = tt
 
     by : (t : Bool) → leb i 23 ≡ t
-        → Low i (elim t [ true ↦ argument w0 | false ↦ getD (argument w1 ∷ argument w2 ∷ argument w4 ∷ argument w8 ∷ reserved ∷ reserved ∷ reserved ∷ []) (i - 24) indefinitely ])
+        → Low i (elim t [ true ↦ argument w0 | false ↦ getD (argument w1 ∷ argument w2 ∷ argument w4 ∷ argument w8 ∷ reserved ∷ reserved ∷ reserved ∷ []) (i - 24) openEnded ])
     by true e = omega (arith, leb-true i 23 e)
     by false e = wide (i - 24)
 
@@ -121,7 +121,7 @@ module _ (b : ℕ) (s : List ℕ) (m : Major) where
               go true e = behind-one (drop k s) 0 (left-cut 0 0 k s (omega arith) (omega arith) (leb-true k (length s) e))
               go false e = omega arith
   by-leaves reserved i h = omega arith
-  by-leaves indefinitely i h = by (isIndefinite m) refl
+  by-leaves openEnded i h = by (isIndefinite m) refl
     where
       by : (t : Bool) → isIndefinite m ≡ t → HeadLeaves (b ∷ s) m (elim t [ true ↦ ok (record { major = m; size = indefinite; argument = 0 }) s | false ↦ refuse notWellFormed (suc (length s)) ])
       by true e = record { left = left-cut 1 0 1 (b ∷ s) (omega arith) (omega arith) (omega arith); major = refl; low = e }
@@ -145,8 +145,8 @@ head-within s = head-weak s (majorOf (getD s 0 0 / 32)) (nextHead s) (head-leave
 -- STRINGS
 
 module _ (s r : List ℕ) (l : Left 1 s r 0) where
-  pub content-leaves : (k : Kind) (n : ℕ) → Leaves 1 length s (content k n (length s) r)
-  unfolding content taking bind
+  pub content-leaves : (k : Kind) (n : ℕ) → Leaves 1 length s (contentAt k n (length s) r)
+  unfolding contentAt taking bind
   content-leaves k n = by (leb n (length r)) refl
     where
       text : (b : List ℕ) (t : Bool) → length b ≤ n → n ≤ length r → Leaves {A = List ℕ} 1 length s (elim t [ true ↦ ok b (drop n r) | false ↦ refuse notUtf8 (length s) ])
@@ -160,11 +160,11 @@ module _ (s r : List ℕ) (l : Left 1 s r 0) where
 
   by-chunk-leaves : (k : Kind) (z : Size) (n : ℕ) → Leaves 1 chunkContents s (chunkBy k z n (length s) r)
   unfolding chunkBy chunkContents
-  by-chunk-leaves k (definite w) n = leaves-bind length chunkContents (content k n (length s) r) _ (content-leaves k n) (λ b t i. i)
+  by-chunk-leaves k (definite w) n = leaves-bind length chunkContents (contentAt k n (length s) r) _ (content-leaves k n) (λ b t i. i)
   by-chunk-leaves k indefinite n = omega arith
 
-pub chunk-leaves : (k : Kind) (s : List ℕ) → Leaves 1 chunkContents s (chunk k s)
-unfolding chunk
+pub chunk-leaves : (k : Kind) (s : List ℕ) → Leaves 1 chunkContents s (chunkAt k s)
+unfolding chunkAt
 chunk-leaves k [] = omega arith
 chunk-leaves k (b ∷ s) = by (eqb (b / 32) (majorNumber (strings k)))
   where
@@ -173,28 +173,28 @@ chunk-leaves k (b ∷ s) = by (eqb (b / 32) (majorNumber (strings k)))
     by true = leaves-bind nought chunkContents (nextHead (b ∷ s)) _ (head-within (b ∷ s)) (λ h r l. by-chunk-leaves (b ∷ s) r l k (h .size) (h .argument))
     by false = omega arith
 
-pub chunks-sized : (k : Kind) (s : List ℕ) → sized chunksLength (chunks k s) ≡ several 0 _+_ (λ t. sized chunkContents (chunk k t)) broken s
-unfolding chunks chunksLength chunkContents
-chunks-sized k s = several-sized [] _∷_ (chunk k) chunkContents chunksLength refl (λ c cs. refl) broken s
+pub chunks-sized : (k : Kind) (s : List ℕ) → mapResult chunksLength (chunksOf k s) ≡ several 0 _+_ (λ t. mapResult chunkContents (chunkAt k t)) broken s
+unfolding chunksOf chunksLength chunkContents
+chunks-sized k s = several-sized [] _∷_ (chunkAt k) chunkContents chunksLength refl (λ c cs. refl) broken s
 
 -- ITEMS
 
 abbrev pub ItemLeaves : (List ℕ → Result Item) → Type 0
 ItemLeaves rd = (s : List ℕ) → Leaves 1 contents s (rd s)
 
-pub entry-leaves : (rd : List ℕ → Result Item) → ItemLeaves rd → (s : List ℕ) → Leaves 1 entryContents s (entry rd s)
-unfolding entry entryContents
+pub entry-leaves : (rd : List ℕ → Result Item) → ItemLeaves rd → (s : List ℕ) → Leaves 1 entryContents s (entryAt rd s)
+unfolding entryAt entryContents
 entry-leaves rd well s =
     leaves-bind contents entryContents (rd s) _ (well s)
     (λ k r l. leaves-bind (λ x. contents k + contents x) entryContents (rd r) _ (leaves-behind 1 contents (λ x. contents k + contents x) l (λ x. omega arith) (rd r) (well r)) (λ x t i. i))
 
-pub elements-sized : (rd : List ℕ → Result Item) (u : Until) (s : List ℕ) → sized contentsAll (elements rd u s) ≡ several 0 _+_ (λ t. sized contents (rd t)) u s
+pub elements-sized : (rd : List ℕ → Result Item) (u : Until) (s : List ℕ) → mapResult contentsAll (elements rd u s) ≡ several 0 _+_ (λ t. mapResult contents (rd t)) u s
 unfolding elements contentsAll
 elements-sized rd u s = several-sized none more rd contents contentsAll refl (λ x xs. refl) u s
 
-pub entries-sized : (rd : List ℕ → Result Item) (u : Until) (s : List ℕ) → sized contentsAll₂ (entries rd u s) ≡ several 0 _+_ (λ t. sized entryContents (entry rd t)) u s
+pub entries-sized : (rd : List ℕ → Result Item) (u : Until) (s : List ℕ) → mapResult contentsAll₂ (entries rd u s) ≡ several 0 _+_ (λ t. mapResult entryContents (entryAt rd t)) u s
 unfolding entries contentsAll₂ entryContents
-entries-sized rd u s = several-sized none₂ pair (entry rd) entryContents contentsAll₂ refl (λ x xs. refl) u s
+entries-sized rd u s = several-sized none₂ pair (entryAt rd) entryContents contentsAll₂ refl (λ x xs. refl) u s
 
 -- what reads one level down
 abbrev Deeper : ℕ → Type 0
@@ -203,7 +203,7 @@ Deeper (suc d) = ItemLeaves (item d)
 
 -- several behind a head, of which a number is kept
 several-behind : {L : Type 0} (g : L → ℕ) (made : L → Item) (s r : List ℕ) → Left 1 s r 0 → (rd : List ℕ → Result ℕ) → ((t : List ℕ) → Leaves 1 same t (rd t)) → (u : Until) (res : Result L)
-    → sized g res ≡ several 0 _+_ rd u r → ((xs : L) → contents (made xs) ≡ g xs) → Leaves 1 contents s (bind res (λ xs r′. ok (made xs) r′))
+    → mapResult g res ≡ several 0 _+_ rd u r → ((xs : L) → contents (made xs) ≡ g xs) → Leaves 1 contents s (bind res (λ xs r′. ok (made xs) r′))
 several-behind g made s r l rd one u res e law =
     leaves-bind g contents res _ (leaves-behind {a = 0} 0 g g l (λ xs. omega arith) res (sized-leaves 0 g r res (rw e (several-leaves rd one u r))))
     (λ xs t i. left-weak (omega arith) (omega (arith, law xs)) i)
@@ -223,16 +223,16 @@ module _ (s r : List ℕ) (l : Left 1 s r 0) where
   unfolding itemBy contents
   item-by-leaves d i (integers g) (definite w) n = l
   item-by-leaves d i (integers g) indefinite n = omega arith
-  item-by-leaves d i (strings k) (definite w) n = leaves-bind length contents (content k n (length s) r) _ (content-leaves s r l k n) (λ b t j. j)
+  item-by-leaves d i (strings k) (definite w) n = leaves-bind length contents (contentAt k n (length s) r) _ (content-leaves s r l k n) (λ b t j. j)
   item-by-leaves d i (strings k) indefinite n =
-      several-behind chunksLength (chunked k) s r l (λ t. sized chunkContents (chunk k t)) (λ t. leaves-sized 1 chunkContents t (chunk k t) (chunk-leaves k t)) broken (chunks k r) (chunks-sized k r) (λ cs. refl)
+      several-behind chunksLength (chunked k) s r l (λ t. mapResult chunkContents (chunkAt k t)) (λ t. leaves-sized 1 chunkContents t (chunkAt k t) (chunk-leaves k t)) broken (chunksOf k r) (chunks-sized k r) (λ cs. refl)
   item-by-leaves zero i arrays z n = omega arith
   item-by-leaves (suc d) i arrays z n =
-      several-behind contentsAll (array z) s r l (λ t. sized contents (item d t)) (λ t. leaves-sized 1 contents t (item d t) (i t)) (extent z n) (elements (item d) (extent z n) r) (elements-sized (item d) (extent z n) r)
+      several-behind contentsAll (array z) s r l (λ t. mapResult contents (item d t)) (λ t. leaves-sized 1 contents t (item d t) (i t)) (extent z n) (elements (item d) (extent z n) r) (elements-sized (item d) (extent z n) r)
       (λ xs. refl)
   item-by-leaves zero i maps z n = omega arith
   item-by-leaves (suc d) i maps z n =
-      several-behind contentsAll₂ (map z) s r l (λ t. sized entryContents (entry (item d) t)) (λ t. leaves-sized 1 entryContents t (entry (item d) t) (entry-leaves (item d) i t)) (extent z n)
+      several-behind contentsAll₂ (map z) s r l (λ t. mapResult entryContents (entryAt (item d) t)) (λ t. leaves-sized 1 entryContents t (entryAt (item d) t) (entry-leaves (item d) i t)) (extent z n)
       (entries (item d) (extent z n) r) (entries-sized (item d) (extent z n) r) (λ ps. refl)
   item-by-leaves zero i tags (definite w) n = omega arith
   item-by-leaves (suc d) i tags (definite w) n = tag-leaves d i w n

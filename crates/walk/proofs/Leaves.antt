@@ -11,8 +11,8 @@ use lib.ListN.{length, drop, length-drop}
 use lib.Seq.{drop-drop}
 use Rattle.cbor.specs.Refusals.{Result, ok, refuse, bind}
 use Rattle.cbor.specs.Heads.{break}
-use Rattle.cbor.specs.Decode.{Until, counted, broken, ended, Step, over, another, stepAt, severalBy, severalWithin, several}
-use Rattle.walk.specs.WalkAnswers.{sized}
+use Rattle.cbor.specs.Decode.{Until, counted, broken, ended, Step, finished, another, stepAt, severalBy, severalWithin, several}
+use Rattle.walk.specs.WalkAnswers.{mapResult}
 
 -- r is an end of s, with at least k bytes before it, and a number of bytes among these
 pub record Left (k : ℕ) (s r : List ℕ) (size : ℕ) : Type 0 where
@@ -64,13 +64,13 @@ leaves-weak k j f s h (refuse n left) l = l
 abbrev pub same : ℕ → ℕ
 same n = n
 
-pub leaves-sized : {A : Type 0} (k : ℕ) (f : A → ℕ) (s : List ℕ) (res : Result A) → Leaves k f s res → Leaves k same s (sized f res)
-unfolding sized
+pub leaves-sized : {A : Type 0} (k : ℕ) (f : A → ℕ) (s : List ℕ) (res : Result A) → Leaves k f s res → Leaves k same s (mapResult f res)
+unfolding mapResult
 leaves-sized k f s (ok x r) l = l
 leaves-sized k f s (refuse n left) l = l
 
-pub sized-leaves : {A : Type 0} (k : ℕ) (f : A → ℕ) (s : List ℕ) (res : Result A) → Leaves k same s (sized f res) → Leaves k f s res
-unfolding sized
+pub sized-leaves : {A : Type 0} (k : ℕ) (f : A → ℕ) (s : List ℕ) (res : Result A) → Leaves k same s (mapResult f res) → Leaves k f s res
+unfolding mapResult
 sized-leaves k f s (ok x r) l = l
 sized-leaves k f s (refuse n left) l = l
 
@@ -89,7 +89,7 @@ module _ {A L : Type 0} (nil : L) (cons : A → L → L) (rd : List ℕ → Resu
   by-same : (go to : Until → List ℕ → Result L) (s : List ℕ) → ((u : Until) (r : List ℕ) → length r < length s → go u r ≡ to u r) → (t : Step)
       → severalBy nil cons rd go t s ≡ severalBy nil cons rd to t s
   unfolding severalBy bind
-  by-same go to s h (over r) = refl
+  by-same go to s h (finished r) = refl
   by-same go to s h (another u) = by (rd s) (leaves-fewer f s (rd s) (one s))
     where
       by : (res : Result A) → Fewer s res → bind res (λ x r. bind (go u r) (λ xs r′. ok (cons x xs) r′)) ≡ bind res (λ x r. bind (to u r) (λ xs r′. ok (cons x xs) r′))
@@ -110,33 +110,33 @@ module _ {A L : Type 0} (nil : L) (cons : A → L → L) (rd : List ℕ → Resu
 
 -- only a number of what was read is kept
 module _ {A L : Type 0} (nil : L) (cons : A → L → L) (rd : List ℕ → Result A) (f : A → ℕ) (g : L → ℕ) (z : g nil ≡ 0) (p : (x : A) (xs : L) → g (cons x xs) ≡ f x + g xs) where
-  last-sized : (x : A) (res : Result L) (k : Result ℕ) → sized g res ≡ k → sized g (bind res (λ xs r. ok (cons x xs) r)) ≡ bind k (λ m r. ok (f x + m) r)
-  unfolding sized bind
+  last-sized : (x : A) (res : Result L) (k : Result ℕ) → mapResult g res ≡ k → mapResult g (bind res (λ xs r. ok (cons x xs) r)) ≡ bind k (λ m r. ok (f x + m) r)
+  unfolding mapResult bind
   last-sized x (ok xs r) k e = rw (← e) (ap (λ (m : ℕ). ok m r) (p x xs))
   last-sized x (refuse i left) k e = rw (← e)
 
-  by-sized : (go : Until → List ℕ → Result L) (to : Until → List ℕ → Result ℕ) (s : List ℕ) → ((u : Until) (r : List ℕ) → sized g (go u r) ≡ to u r) → (t : Step)
-      → sized g (severalBy nil cons rd go t s) ≡ severalBy 0 _+_ (λ t. sized f (rd t)) to t s
-  unfolding severalBy sized bind
-  by-sized go to s h (over r) = ap (λ (m : ℕ). ok m r) z
+  by-sized : (go : Until → List ℕ → Result L) (to : Until → List ℕ → Result ℕ) (s : List ℕ) → ((u : Until) (r : List ℕ) → mapResult g (go u r) ≡ to u r) → (t : Step)
+      → mapResult g (severalBy nil cons rd go t s) ≡ severalBy 0 _+_ (λ t. mapResult f (rd t)) to t s
+  unfolding severalBy mapResult bind
+  by-sized go to s h (finished r) = ap (λ (m : ℕ). ok m r) z
   by-sized go to s h (another u) = by (rd s)
     where
-      by : (res : Result A) → sized g (bind res (λ x r. bind (go u r) (λ xs r′. ok (cons x xs) r′))) ≡ bind (sized f res) (λ m r. bind (to u r) (λ ms r′. ok (m + ms) r′))
+      by : (res : Result A) → mapResult g (bind res (λ x r. bind (go u r) (λ xs r′. ok (cons x xs) r′))) ≡ bind (mapResult f res) (λ m r. bind (to u r) (λ ms r′. ok (m + ms) r′))
       by (ok x r) = last-sized x (go u r) (to u r) (h u r)
       by (refuse i left) = refl
 
-  within-sized : (n : ℕ) (u : Until) (s : List ℕ) → sized g (severalWithin nil cons rd n u s) ≡ severalWithin 0 _+_ (λ t. sized f (rd t)) n u s
-  unfolding severalWithin sized
+  within-sized : (n : ℕ) (u : Until) (s : List ℕ) → mapResult g (severalWithin nil cons rd n u s) ≡ severalWithin 0 _+_ (λ t. mapResult f (rd t)) n u s
+  unfolding severalWithin mapResult
   within-sized zero u s = refl
-  within-sized (suc n) u s = by-sized (severalWithin nil cons rd n) (severalWithin 0 _+_ (λ t. sized f (rd t)) n) s (within-sized n) (stepAt u s)
+  within-sized (suc n) u s = by-sized (severalWithin nil cons rd n) (severalWithin 0 _+_ (λ t. mapResult f (rd t)) n) s (within-sized n) (stepAt u s)
 
-  pub several-sized : (u : Until) (s : List ℕ) → sized g (several nil cons rd u s) ≡ several 0 _+_ (λ t. sized f (rd t)) u s
+  pub several-sized : (u : Until) (s : List ℕ) → mapResult g (several nil cons rd u s) ≡ several 0 _+_ (λ t. mapResult f (rd t)) u s
   unfolding several
   several-sized u s = within-sized (suc (length s)) u s
 
 -- what several leave
 abbrev StepLeft : List ℕ → Step → Type 0
-StepLeft s (over r) = Left 0 s r 0
+StepLeft s (finished r) = Left 0 s r 0
 StepLeft s (another u) = Unit
 
 step-left : (u : Until) (s : List ℕ) → StepLeft s (stepAt u s)
@@ -146,7 +146,7 @@ step-left (counted (suc n)) s = tt
 step-left broken [] = tt
 step-left broken (b ∷ s) = by (eqb b break)
   where
-    by : (t : Bool) → StepLeft (b ∷ s) (elim t [ true ↦ over s | false ↦ another broken ])
+    by : (t : Bool) → StepLeft (b ∷ s) (elim t [ true ↦ finished s | false ↦ another broken ])
     by true = left-cut 0 0 1 (b ∷ s) (omega arith) (omega arith) (omega arith)
     by false = tt
 step-left ended [] = left-all []
@@ -155,7 +155,7 @@ step-left ended (b ∷ s) = tt
 module _ (rd : List ℕ → Result ℕ) (one : (s : List ℕ) → Leaves 1 same s (rd s)) where
   by-leaves : (go : Until → List ℕ → Result ℕ) (s : List ℕ) → ((u : Until) (r : List ℕ) → Leaves 0 same r (go u r)) → (t : Step) → StepLeft s t → Leaves 0 same s (severalBy 0 _+_ rd go t s)
   unfolding severalBy
-  by-leaves go s h (over r) l = l
+  by-leaves go s h (finished r) l = l
   by-leaves go s h (another u) l =
       leaves-bind same same (rd s) _ (leaves-weak 1 0 same s (omega arith) (rd s) (one s))
       (λ x r i. leaves-bind (λ m. x + m) same (go u r) _ (leaves-behind 0 same (λ m. x + m) i (λ m. omega arith) (go u r) (h u r)) (λ m r′ j. j))

@@ -11,13 +11,14 @@ use lib.Seq.{drop-drop, take-all}
 use borrow.Author.Tests.{eq-eqb, ne-eqb}
 use Rattle.cbor.specs.Refusals.{Result, ok, refuse, bind, tooDeep}
 use Rattle.cbor.specs.Items.{Item}
-use Rattle.cbor.specs.Decode.{Until, Step, over, another, stepAt, severalBy, chunk, entry, item}
+use Rattle.cbor.specs.Decode.{Until, Step, finished, another, stepAt, severalBy, chunkAt, entryAt, item}
 use Rattle.refusal.specs.RefusalKinds.{kindNumber}
-use Rattle.walk.specs.WalkAnswers.{PassTold, passed, refused, passTold, walkTold, asSpan, walkOf, contents, sized, toldOf, passOf, below, kindOf, entryContents, chunkContents, oneOf, allOf, untilOf, turnOf, Inner, Turned, afterTold, Within}
+use Rattle.walk.specs.WalkAnswers.{PassTold, passed, passRefused, passTold, walkTold, asSpan, walkOf, contents, mapResult, toldOf, passOf, below, entryContents, chunkContents, oneOf, allOf, untilOf, turnOf, TurnInside, Turned, afterTold, Within}
+use Rattle.cbor.specs.Flags.{kindOf}
 use Rattle.refusal.specs.declared.Refusal.{Refusal}
 use Rattle.refusal.specs.declared.RefusalKind.the-variants.{TooDeep}
 use Rattle.walk.specs.declared.Walked.{Walked}
-use Rattle.walk.specs.declared.Span.{Span}
+use Rattle.walk.specs.declared.Passage.{Passage}
 use Rattle.walk.specs.declared.Passed.{Passed}
 use Rattle.walk.specs.declared.Passed.the-variants.{Span as SpanV, Refused as RefusedV}
 use Rattle.walk.specs.declared.Extent.{Extent}
@@ -29,20 +30,20 @@ use Rattle.walk.proofs.ItemLeaves.{chunk-leaves, entry-leaves, below-le
 -- ANSWERS
 
 -- the place at which n bytes less n are
-pub at-front : (k n : ℕ) → _≡_ {A = PassTold} (refused k 0) (refused k (n - n))
-at-front k n = let z : 0 ≡ n - n = omega arith in ap (refused k) z
+pub at-front : (k n : ℕ) → _≡_ {A = PassTold} (passRefused k 0) (passRefused k (n - n))
+at-front k n = let z : 0 ≡ n - n = omega arith in ap (passRefused k) z
 
-pub record Reached (n : ℕ) (m : Span) (res : Result ℕ) : Type 0 where
+pub record Reached (n : ℕ) (m : Passage) (res : Result ℕ) : Type 0 where
   pub rest : List ℕ
   pub is : res ≡ ok (m .size) rest
   pub ends : m .end ≡ n - length rest
 
-reached-of : (n : ℕ) (m : Span) (res : Result ℕ) → passTold (SpanV m) ≡ toldOf n res → Reached n m res
+reached-of : (n : ℕ) (m : Passage) (res : Result ℕ) → passTold (SpanV m) ≡ toldOf n res → Reached n m res
 unfolding passTold toldOf
 reached-of n m (ok k r) e = let i : m .size ≡ k = cc in record { rest = r; is = ap (λ (x : ℕ). ok x r) (sym i); ends = cc }
 reached-of n m (refuse k l) e = let z : _≡_ {A = ℕ} 0 1 = cc in absurd (omega arith)
 
-pub reached : {n : ℕ} {m : Span} (res : Result ℕ) (a : Passed) → passTold a ≡ toldOf n res → a ≡ SpanV m → Reached n m res
+pub reached : {n : ℕ} {m : Passage} (res : Result ℕ) (a : Passed) → passTold a ≡ toldOf n res → a ≡ SpanV m → Reached n m res
 reached res a e i = reached-of _ _ res (rw i at e)
 
 lost-of : (n : ℕ) (e : Refusal) (res : Result ℕ) (go : ℕ → List ℕ → Result ℕ) → passTold (RefusedV e) ≡ toldOf n res → passTold (RefusedV e) ≡ toldOf n (bind res go)
@@ -70,18 +71,18 @@ after-told s at size (ok k r) h z l v =
 after-told s at size (refuse k q) h z l v =
     let d = length-drop at s in
     let p : min (at + (length (drop at s) - q)) (2 ^ 64 - 1) ≡ length s - q = omega arith in
-    ap (refused k) p
+    ap (passRefused k) p
 
 -- ONE LEVEL DOWN
 
-pub below-none : (d : ℕ) (s : List ℕ) {t : PassTold} → d ≡ 0 → t ≡ refused (kindNumber TooDeep) 0 → t ≡ passOf (length s) (below d s)
-unfolding passOf below sized toldOf kindNumber
+pub below-none : (d : ℕ) (s : List ℕ) {t : PassTold} → d ≡ 0 → t ≡ passRefused (kindNumber TooDeep) 0 → t ≡ passOf (length s) (below d s)
+unfolding passOf below mapResult toldOf kindNumber
 below-none zero s z e = e ∙ at-front tooDeep (length s)
 below-none (suc d) s z e = absurd (omega arith)
 
 -- an item that was walked over, passed over
 pub span-told : (n : ℕ) (res : Result Item) → asSpan (walkOf n res) ≡ passOf n res
-unfolding asSpan walkOf passOf sized toldOf
+unfolding asSpan walkOf passOf mapResult toldOf
 span-told n (ok x r) = refl
 span-told n (refuse k l) = refl
 
@@ -97,27 +98,27 @@ pub ruleset below-ways = (below-none, below-some)
 -- ENTRIES
 
 entry-sized : (rd : List ℕ → Result Item) (s : List ℕ)
-    → sized entryContents (entry rd s) ≡ bind (sized contents (rd s)) (λ k r. bind (sized contents (rd r)) (λ x r′. ok (k + x) r′))
-unfolding entry entryContents bind sized
+    → mapResult entryContents (entryAt rd s) ≡ bind (mapResult contents (rd s)) (λ k r. bind (mapResult contents (rd r)) (λ x r′. ok (k + x) r′))
+unfolding entryAt entryContents bind mapResult
 entry-sized rd s = by (rd s)
   where
-    last : (k : Item) (res : Result Item) → sized entryContents (bind res (λ x r. ok (record { key = k; value = x }) r)) ≡ bind (sized contents res) (λ x r. ok (contents k + x) r)
+    last : (k : Item) (res : Result Item) → mapResult entryContents (bind res (λ x r. ok (record { key = k; value = x }) r)) ≡ bind (mapResult contents res) (λ x r. ok (contents k + x) r)
     last k (ok x r) = refl
     last k (refuse n l) = refl
 
-    by : (res : Result Item) → sized entryContents (bind res (λ k r. bind (rd r) (λ x r′. ok (record { key = k; value = x }) r′))) ≡ bind (sized contents res) (λ k r. bind (sized contents (rd r)) (λ x r′. ok (k + x) r′))
+    by : (res : Result Item) → mapResult entryContents (bind res (λ k r. bind (rd r) (λ x r′. ok (record { key = k; value = x }) r′))) ≡ bind (mapResult contents res) (λ k r. bind (mapResult contents (rd r)) (λ x r′. ok (k + x) r′))
     by (ok k r) = last k (rd r)
     by (refuse n l) = refl
 
 module _ (d : ℕ) (s : List ℕ) (key : Passed) (told : passTold key ≡ passOf (length s) (below d s)) where
-  pub entry-refused : {e : Refusal} → key ≡ RefusedV e → passTold (RefusedV e) ≡ toldOf (length s) (sized entryContents (entry (below d) s))
+  pub entry-refused : {e : Refusal} → key ≡ RefusedV e → passTold (RefusedV e) ≡ toldOf (length s) (mapResult entryContents (entryAt (below d) s))
   unfolding passOf
-  entry-refused h = lost (length s) (sized contents (below d s)) _ key told h ∙ ap (toldOf (length s)) (sym (entry-sized (below d) s))
+  entry-refused h = lost (length s) (mapResult contents (below d s)) _ key told h ∙ ap (toldOf (length s)) (sym (entry-sized (below d) s))
 
-  module _ {k : Span} (e : key ≡ SpanV k) where
-    at-key : Reached (length s) k (sized contents (below d s))
+  module _ {k : Passage} (e : key ≡ SpanV k) where
+    at-key : Reached (length s) k (mapResult contents (below d s))
     unfolding passOf
-    at-key = reached (sized contents (below d s)) key told e
+    at-key = reached (mapResult contents (below d s)) key told e
 
     key-left : Left 1 s (at-key .rest) (k .size)
     key-left = rw (at-key .is) at (leaves-sized 1 contents s (below d s) (below-leaves d s))
@@ -126,17 +127,17 @@ module _ (d : ℕ) (s : List ℕ) (key : Passed) (told : passTold key ≡ passOf
     entry-room = omega (arith, at-key .ends)
 
     pub entry-made : (part : Passed) {t : PassTold} → length s * 1 < 2 ^ 63 → passTold part ≡ passOf (length (take (length s - k .end) (drop (k .end) s))) (below d (take (length s - k .end) (drop (k .end) s))) → t ≡ afterTold (k .end) (k .size) (passTold part)
-        → t ≡ toldOf (length s) (sized entryContents (entry (below d) s))
+        → t ≡ toldOf (length s) (mapResult entryContents (entryAt (below d) s))
     unfolding passOf bind
     entry-made part long p h =
         let g = at-key in
         let l = key-left in
         let small : k .size ≤ k .end = omega (arith, g .ends, l .small) in
         let r : g .rest ≡ drop (k .end) s = l .drops ∙ ap (λ (n : ℕ). drop n s) (sym (g .ends)) in
-        h ∙ ap (afterTold (k .end) (k .size)) (p ∙ ap (λ (t : List ℕ). toldOf (length t) (sized contents (below d t))) (tail-is s (k .end)))
-        ∙ after-told s (k .end) (k .size) (sized contents (below d (drop (k .end) s))) entry-room small (omega arith) (leaves-sized 1 contents (drop (k .end) s) (below d (drop (k .end) s)) (below-leaves d (drop (k .end) s)))
-        ∙ ap (λ (t : List ℕ). toldOf (length s) (bind (sized contents (below d t)) (λ x r′. ok (k .size + x) r′))) (sym r)
-        ∙ sym (ap (toldOf (length s)) (entry-sized (below d) s ∙ ap (λ (u : Result ℕ). bind u (λ k r. bind (sized contents (below d r)) (λ x r′. ok (k + x) r′))) (g .is)))
+        h ∙ ap (afterTold (k .end) (k .size)) (p ∙ ap (λ (t : List ℕ). toldOf (length t) (mapResult contents (below d t))) (tail-is s (k .end)))
+        ∙ after-told s (k .end) (k .size) (mapResult contents (below d (drop (k .end) s))) entry-room small (omega arith) (leaves-sized 1 contents (drop (k .end) s) (below d (drop (k .end) s)) (below-leaves d (drop (k .end) s)))
+        ∙ ap (λ (t : List ℕ). toldOf (length s) (bind (mapResult contents (below d t)) (λ x r′. ok (k .size + x) r′))) (sym r)
+        ∙ sym (ap (toldOf (length s)) (entry-sized (below d) s ∙ ap (λ (u : Result ℕ). bind u (λ k r. bind (mapResult contents (below d r)) (λ x r′. ok (k + x) r′))) (g .is)))
 
 pub ruleset entry-ways = (entry-refused, entry-made)
 
@@ -147,11 +148,11 @@ module _ (n major d : ℕ) (s : List ℕ) {t : PassTold} where
   unfolding passOf oneOf
   one-item e h = h ∙ rw (e, oneOf)
 
-  pub one-entry : (major ≡ 4 → ⊥) → major ≡ 5 → t ≡ toldOf n (sized entryContents (entry (below d) s)) → t ≡ toldOf n (oneOf major d s)
+  pub one-entry : (major ≡ 4 → ⊥) → major ≡ 5 → t ≡ toldOf n (mapResult entryContents (entryAt (below d) s)) → t ≡ toldOf n (oneOf major d s)
   unfolding oneOf
   one-entry o e h = h ∙ rw (ne-eqb major 4 o, oneOf) (rw (eq-eqb major 5 e))
 
-  pub one-chunk : (major ≡ 4 → ⊥) → (major ≡ 5 → ⊥) → t ≡ toldOf n (sized chunkContents (chunk (kindOf (eqb major 3)) s)) → t ≡ toldOf n (oneOf major d s)
+  pub one-chunk : (major ≡ 4 → ⊥) → (major ≡ 5 → ⊥) → t ≡ toldOf n (mapResult chunkContents (chunkAt (kindOf (eqb major 3)) s)) → t ≡ toldOf n (oneOf major d s)
   unfolding oneOf
   one-chunk o e h = h ∙ rw (ne-eqb major 4 o, oneOf) (rw (ne-eqb major 5 e))
 
@@ -162,10 +163,10 @@ unfolding oneOf
 one-leaves major d s = by (eqb major 4) (eqb major 5)
   where
     by : (a b : Bool)
-        → Leaves {A = ℕ} 1 same s (elim a [ true ↦ sized contents (below d s) | false ↦ elim b [ true ↦ sized entryContents (entry (below d) s) | false ↦ sized chunkContents (chunk (kindOf (eqb major 3)) s) ] ])
+        → Leaves {A = ℕ} 1 same s (elim a [ true ↦ mapResult contents (below d s) | false ↦ elim b [ true ↦ mapResult entryContents (entryAt (below d) s) | false ↦ mapResult chunkContents (chunkAt (kindOf (eqb major 3)) s) ] ])
     by true b = leaves-sized 1 contents s (below d s) (below-leaves d s)
-    by false true = leaves-sized 1 entryContents s (entry (below d) s) (entry-leaves (below d) (below-leaves d) s)
-    by false false = leaves-sized 1 chunkContents s (chunk (kindOf (eqb major 3)) s) (chunk-leaves (kindOf (eqb major 3)) s)
+    by false true = leaves-sized 1 entryContents s (entryAt (below d) s) (entry-leaves (below d) (below-leaves d) s)
+    by false false = leaves-sized 1 chunkContents s (chunkAt (kindOf (eqb major 3)) s) (chunk-leaves (kindOf (eqb major 3)) s)
 
 -- SEVERAL
 
@@ -198,14 +199,14 @@ module _ {major d : ℕ} {s : List ℕ} {from : ℕ} {first : Extent} {at size :
       ∙ ap (λ (y : Step). severalBy 0 _+_ (oneOf major d) (allOf major d) y (drop at s)) (sym (tu .is) ∙ e))
 
   pub run-over : {end : ℕ} {t : PassTold} → turn ≡ Over end → t ≡ passed end size → t ≡ toldOf (length s) (allOf major d (untilOf first) (drop from s))
-  unfolding turnOf Inner severalBy bind toldOf
+  unfolding turnOf TurnInside severalBy bind toldOf
   run-over {end} e h =
       let i : end ≤ length s = inner turn e (tu .inside (run .inside)) in
       let p : end ≡ length s - length (drop end s) = omega (arith, length-drop end s) in
       let q : size ≡ size + 0 = omega arith in
-      h ∙ (λ j. passed (p j) (q j)) ∙ sym (ap (toldOf (length s)) (run-eq (over (drop end s)) (ap (turnOf s) e)))
+      h ∙ (λ j. passed (p j) (q j)) ∙ sym (ap (toldOf (length s)) (run-eq (finished (drop end s)) (ap (turnOf s) e)))
     where
-      inner : (x : Turn) → x ≡ Over end → Inner s x → end ≤ length s
+      inner : (x : Turn) → x ≡ Over end → TurnInside s x → end ≤ length s
       inner x f g = rw f at g
 
   module _ {next : Extent} (e : turn ≡ Another next) (one : Passed) (long : length s * 1 < 2 ^ 63) (told : passTold one ≡ toldOf (length (take (length s - at) (drop at s))) (oneOf major d (take (length s - at) (drop at s))))
@@ -231,7 +232,7 @@ module _ {major d : ℕ} {s : List ℕ} {from : ℕ} {first : Extent} {at size :
     pub run-refused : {x : Refusal} → part ≡ RefusedV x → passTold (RefusedV x) ≡ toldOf (length s) (allOf major d (untilOf first) (drop from s))
     run-refused h = lost (length s) (bind (oneOf major d (drop at s)) (λ m r. ok (size + m) r)) (others major d (untilOf next)) part part-told h ∙ ap (toldOf (length s)) (sym on)
 
-    module _ {m : Span} (h : part ≡ SpanV m) where
+    module _ {m : Passage} (h : part ≡ SpanV m) where
       at-part : Reached (length s) m (bind (oneOf major d (drop at s)) (λ m r. ok (size + m) r))
       at-part = reached _ part part-told h
 

@@ -13,16 +13,17 @@ use Rattle.cbor.specs.Items.{unsigned, negative, Kind, byteString, textString, 
 use Rattle.cbor.specs.Heads.{Major, integers, strings, arrays, maps, tags, simples, majorNumber, majorOf, itemMajor, nextHead, isIndefinite}
 use Rattle.cbor.specs.TypedArrays.{chunksLength, elementSize, divides, asked, mayTag}
 use Rattle.typed_array.specs.TypedArrayAnswers.{mayTagBy}
-use Rattle.cbor.specs.Decode.{Until, broken, ended, content, extent, tagged, elements, entries, chunks, itemBy, itemWith, item, decode}
+use Rattle.cbor.specs.Decode.{Until, broken, ended, contentAt, extent, tagged, elements, entries, chunksOf, itemBy, itemWith, item, decode}
 use Rattle.refusal.specs.RefusalKinds.{kindNumber}
 use Rattle.head.specs.HeadAnswers.{headTold, headAt}
-use Rattle.walk.specs.WalkAnswers.{PassTold, passed, refused, passTold, WalkTold, made, refused as refusedW, walkTold, withMajor, walkOf, contents, contentsAll, contentsAll₂, sized, toldOf, passOf, walkAllOf, below, kindOf, oneOf, allOf, tagOf, untilOf, afterTold, itemAfter, Headed, Within}
+use Rattle.walk.specs.WalkAnswers.{PassTold, passed, passRefused, passTold, WalkTold, itemPassed, walkRefused, walkTold, withMajor, walkOf, contents, contentsAll, contentsAll₂, mapResult, toldOf, passOf, walkAllOf, below, oneOf, allOf, tagOf, untilOf, afterTold, itemAfter, Headed, Within}
+use Rattle.cbor.specs.Flags.{kindOf}
 use Rattle.refusal.specs.declared.Refusal.{Refusal}
 use Rattle.refusal.specs.declared.RefusalKind.the-variants.{TooLong, TooDeep, BadTypedArray, NotWellFormed}
 use Rattle.head.specs.declared.HeadAt.{HeadAt}
 use Rattle.head.specs.declared.HeadRead.{HeadRead}
 use Rattle.head.specs.declared.HeadRead.the-variants.{Head as HeadV, Refused as HeadRefusedV}
-use Rattle.walk.specs.declared.Made.{Made}
+use Rattle.walk.specs.declared.WalkedItem.{WalkedItem}
 use Rattle.walk.specs.declared.Walked.{Walked}
 use Rattle.walk.specs.declared.Walked.the-variants.{Made as MadeV, Refused as WalkRefusedV}
 use Rattle.walk.specs.declared.Passed.{Passed}
@@ -60,8 +61,8 @@ by-major : (d : ℕ) (m : Major) (z : Size) (n left : ℕ) (r : List ℕ) → Ma
 unfolding itemBy itemMajor
 by-major d (integers g) (definite w) n left r = refl
 by-major d (integers g) indefinite n left r = tt
-by-major d (strings k) (definite w) n left r = made-major (strings k) (string k w) (λ b. refl) (content k n left r)
-by-major d (strings k) indefinite n left r = made-major (strings k) (chunked k) (λ cs. refl) (chunks k r)
+by-major d (strings k) (definite w) n left r = made-major (strings k) (string k w) (λ b. refl) (contentAt k n left r)
+by-major d (strings k) indefinite n left r = made-major (strings k) (chunked k) (λ cs. refl) (chunksOf k r)
 by-major zero arrays z n left r = tt
 by-major (suc d) arrays z n left r = made-major arrays (array z) (λ xs. refl) (elements (item d) (extent z n) r)
 by-major zero maps z n left r = tt
@@ -79,8 +80,8 @@ item-eq zero s = refl
 item-eq (suc d) s = refl
 
 with-major : (n : ℕ) (m : Major) (res : Result Item) → MajorIn m res → withMajor (majorNumber m) (passOf n res) ≡ walkOf n res
-unfolding withMajor passOf sized toldOf walkOf
-with-major n m (ok x r) h = ap (λ (k : Major). made (n - length r) (majorNumber k) (contents x)) (sym h)
+unfolding withMajor passOf mapResult toldOf walkOf
+with-major n m (ok x r) h = ap (λ (k : Major). itemPassed (n - length r) (majorNumber k) (contents x)) (sym h)
 with-major n m (refuse k l) h = refl
 
 -- FROM A PLACE ON
@@ -103,11 +104,11 @@ unfolding itemAfter walkOf
 after-item s at (ok x r) h l v =
     let d = length-drop at s in
     let p : min (at + (length (drop at s) - length r)) (2 ^ 64 - 1) ≡ length s - length r = omega (arith, v .less) in
-    ap (λ (e : ℕ). made e (majorNumber (itemMajor x)) (contents x)) p
+    ap (λ (e : ℕ). itemPassed e (majorNumber (itemMajor x)) (contents x)) p
 after-item s at (refuse k q) h l v =
     let d = length-drop at s in
     let p : min (at + (length (drop at s) - q)) (2 ^ 64 - 1) ≡ length s - q = omega arith in
-    ap (refusedW k) p
+    ap (walkRefused k) p
 
 pub item-told : (d : ℕ) (s : List ℕ) (at : ℕ) (inner part : Walked) → at ≤ length s → length s * 1 < 2 ^ 63
     → walkTold inner ≡ walkOf (length (take (length s - at) (drop at s))) (item d (take (length s - at) (drop at s))) → walkTold part ≡ itemAfter at (walkTold inner)
@@ -141,13 +142,13 @@ tag-lost size e (ok x r) go h = let z : _≡_ {A = ℕ} 0 1 = cc in absurd (omeg
 tag-lost size e (refuse k l) go h =
     let i : kindNumber (e .kind) ≡ k = cc in
     let j : e .place ≡ size - l = cc in
-    λ z. refused (i z) (j z)
+    λ z. passRefused (i z) (j z)
 
 -- what is told of the tag, by what is told of its item
-abbrev tagTold : ℕ → Made → Bool → PassTold
-tagTold size m v = elim v [ true ↦ passed (m .end) (m .size) | false ↦ refused badTypedArray (size - size) ]
+abbrev tagTold : ℕ → WalkedItem → Bool → PassTold
+tagTold size m v = elim v [ true ↦ passed (m .end) (m .size) | false ↦ passRefused badTypedArray (size - size) ]
 
-tag-told : (n size : ℕ) (m : Made) (v : Bool) (res : Result Item) → walkTold (MadeV m) ≡ walkOf size res → v ≡ mayTagBy n (eqb (m .major) 2) (m .size)
+tag-told : (n size : ℕ) (m : WalkedItem) (v : Bool) (res : Result Item) → walkTold (MadeV m) ≡ walkOf size res → v ≡ mayTagBy n (eqb (m .major) 2) (m .size)
     → tagTold size m v ≡ toldOf size (bind res (λ x r. elim (mayTag n x) [ true ↦ ok (contents x) r | false ↦ refuse badTypedArray size ]))
 unfolding walkTold walkOf toldOf bind
 tag-told n size m v (ok x r) h e = ap (tagTold size m) may ∙ by (mayTag n x)
@@ -175,7 +176,7 @@ module _ (n d : ℕ) {s : List ℕ} {from : ℕ} (w : Within s from) (inner : Wa
   unfolding tagOf
   tag-refused h = tag-lost (length s) _ (item d (drop from s)) _ (rw h at part-is)
 
-  module _ {m : Made} (h : part ≡ MadeV m) {v : Bool} (j : v ≡ mayTagBy n (eqb (m .major) 2) (m .size)) where
+  module _ {m : WalkedItem} (h : part ≡ MadeV m) {v : Bool} (j : v ≡ mayTagBy n (eqb (m .major) 2) (m .size)) where
     tag-is : tagTold (length s) m v ≡ toldOf (length s) (tagOf n d (length s) (drop from s))
     unfolding tagOf
     tag-is = tag-told n (length s) m v (item d (drop from s)) (rw h at part-is) j
@@ -183,7 +184,7 @@ module _ (n d : ℕ) {s : List ℕ} {from : ℕ} (w : Within s from) (inner : Wa
     pub tag-good : {t : PassTold} → v ≡ true → t ≡ passed (m .end) (m .size) → t ≡ toldOf (length s) (tagOf n d (length s) (drop from s))
     tag-good y f = f ∙ ap (tagTold (length s) m) (sym y) ∙ tag-is
 
-    pub tag-bad : {t : PassTold} → v ≡ false → t ≡ refused (kindNumber BadTypedArray) 0 → t ≡ toldOf (length s) (tagOf n d (length s) (drop from s))
+    pub tag-bad : {t : PassTold} → v ≡ false → t ≡ passRefused (kindNumber BadTypedArray) 0 → t ≡ toldOf (length s) (tagOf n d (length s) (drop from s))
     unfolding kindNumber
     tag-bad y f = f ∙ at-front badTypedArray (length s) ∙ ap (tagTold (length s) m) (sym y) ∙ tag-is
 
@@ -192,12 +193,12 @@ pub ruleset tag-turns = (tag-refused, tag-good, tag-bad)
 -- ITEMS
 
 lost-item : (n : ℕ) (e : Refusal) (res : Result Item) → passTold (RefusedV e) ≡ passOf n res → walkTold (WalkRefusedV e) ≡ walkOf n res
-unfolding passTold passOf sized toldOf walkTold walkOf
+unfolding passTold passOf mapResult toldOf walkTold walkOf
 lost-item n e (ok x r) h = let z : _≡_ {A = ℕ} 0 1 = cc in absurd (omega arith)
 lost-item n e (refuse k l) h =
     let i : kindNumber (e .kind) ≡ k = cc in
     let j : e .place ≡ n - l = cc in
-    λ z. refusedW (i z) (j z)
+    λ z. walkRefused (i z) (j z)
 
 module _ (d : ℕ) (s : List ℕ) (a : HeadRead) (told : headTold a ≡ headAt s 0) where
   pub item-refused : {e : Refusal} → a ≡ HeadRefusedV e → walkTold (WalkRefusedV e) ≡ walkOf (length s) (item d s)
@@ -213,16 +214,16 @@ module _ (d : ℕ) (s : List ℕ) (a : HeadRead) (told : headTold a ≡ headAt s
 pub ruleset item-ways = (item-refused, item-made)
 
 -- several inside an item, as the code walks over them
-all-chunks : (k : Kind) (d : ℕ) (s : List ℕ) → allOf (majorNumber (strings k)) d broken s ≡ sized chunksLength (chunks k s)
+all-chunks : (k : Kind) (d : ℕ) (s : List ℕ) → allOf (majorNumber (strings k)) d broken s ≡ mapResult chunksLength (chunksOf k s)
 unfolding allOf oneOf majorNumber kindOf
 all-chunks byteString d s = sym (chunks-sized byteString s)
 all-chunks textString d s = sym (chunks-sized textString s)
 
-all-items : (d : ℕ) (u : Until) (s : List ℕ) → allOf 4 d u s ≡ sized contentsAll (elements (below d) u s)
+all-items : (d : ℕ) (u : Until) (s : List ℕ) → allOf 4 d u s ≡ mapResult contentsAll (elements (below d) u s)
 unfolding allOf oneOf
 all-items d u s = sym (elements-sized (below d) u s)
 
-all-entries : (d : ℕ) (u : Until) (s : List ℕ) → allOf 5 d u s ≡ sized contentsAll₂ (entries (below d) u s)
+all-entries : (d : ℕ) (u : Until) (s : List ℕ) → allOf 5 d u s ≡ mapResult contentsAll₂ (entries (below d) u s)
 unfolding allOf oneOf
 all-entries d u s = sym (entries-sized (below d) u s)
 
@@ -233,11 +234,11 @@ text-back textString = refl
 
 -- what the item behind a head is told to be: m, z, n its head; r what stands behind it
 abbrev Behind : ℕ → ℕ → Major → Size → ℕ → List ℕ → PassTold → Type 0
-Behind d size m z n r t = t ≡ toldOf size (sized contents (itemBy (enterAt d) m z n size r))
+Behind d size m z n r t = t ≡ toldOf size (mapResult contents (itemBy (enterAt d) m z n size r))
 
 module _ (d size : ℕ) {t : PassTold} where
   leaf : (m : Major) (z : Size) (n : ℕ) (r : List ℕ) → LowSize m z n → majorNumber m ≤ 1 → t ≡ passed (size - length r) 0 → Behind d size m z n r t
-  unfolding itemBy sized contents toldOf majorNumber isIndefinite
+  unfolding itemBy mapResult contents toldOf majorNumber isIndefinite
   leaf (integers g) (definite w) n r l h e = e
   leaf (integers g) indefinite n r l h e = let z : _≡_ {A = ℕ} 0 1 = cc in absurd (omega arith)
   leaf (strings byteString) z n r l h e = absurd (omega arith)
@@ -247,12 +248,12 @@ module _ (d size : ℕ) {t : PassTold} where
   leaf tags z n r l h e = absurd (omega arith)
   leaf simples z n r l h e = absurd (omega arith)
 
-  a-string : (m : Major) (w : _) (n : ℕ) (r : List ℕ) → 1 < majorNumber m → majorNumber m ≤ 3 → t ≡ toldOf size (sized length (content (kindOf (eqb (majorNumber m) 3)) n size r)) → Behind d size m (definite w) n r t
+  a-string : (m : Major) (w : _) (n : ℕ) (r : List ℕ) → 1 < majorNumber m → majorNumber m ≤ 3 → t ≡ toldOf size (mapResult length (contentAt (kindOf (eqb (majorNumber m) 3)) n size r)) → Behind d size m (definite w) n r t
   unfolding itemBy contents majorNumber
   a-string (integers unsigned) w n r l h e = absurd (omega arith)
   a-string (integers negative) w n r l h e = absurd (omega arith)
   a-string (strings k) w n r l h e =
-      e ∙ ap (λ (x : Kind). toldOf size (sized length (content x n size r))) (text-back k) ∙ ap (toldOf size) (sym (sized-made contents length (string k w) (λ b. refl) (content k n size r)))
+      e ∙ ap (λ (x : Kind). toldOf size (mapResult length (contentAt x n size r))) (text-back k) ∙ ap (toldOf size) (sym (sized-made contents length (string k w) (λ b. refl) (contentAt k n size r)))
   a-string arrays w n r l h e = absurd (omega arith)
   a-string maps w n r l h e = absurd (omega arith)
   a-string tags w n r l h e = absurd (omega arith)
@@ -262,14 +263,14 @@ module _ (d size : ℕ) {t : PassTold} where
   unfolding itemBy contents majorNumber
   a-chunked (integers unsigned) n r l h e = absurd (omega arith)
   a-chunked (integers negative) n r l h e = absurd (omega arith)
-  a-chunked (strings k) n r l h e = e ∙ ap (toldOf size) (all-chunks k d r ∙ sym (sized-made contents chunksLength (chunked k) (λ cs. refl) (chunks k r)))
+  a-chunked (strings k) n r l h e = e ∙ ap (toldOf size) (all-chunks k d r ∙ sym (sized-made contents chunksLength (chunked k) (λ cs. refl) (chunksOf k r)))
   a-chunked arrays n r l h e = absurd (omega arith)
   a-chunked maps n r l h e = absurd (omega arith)
   a-chunked tags n r l h e = absurd (omega arith)
   a-chunked simples n r l h e = absurd (omega arith)
 
-  too-deep : (m : Major) (z : Size) (n : ℕ) (r : List ℕ) → LowSize m z n → d ≡ 0 → 3 < majorNumber m → (majorNumber m ≡ 7 → ⊥) → t ≡ refused tooDeep 0 → Behind d size m z n r t
-  unfolding itemBy sized toldOf majorNumber isIndefinite
+  too-deep : (m : Major) (z : Size) (n : ℕ) (r : List ℕ) → LowSize m z n → d ≡ 0 → 3 < majorNumber m → (majorNumber m ≡ 7 → ⊥) → t ≡ passRefused tooDeep 0 → Behind d size m z n r t
+  unfolding itemBy mapResult toldOf majorNumber isIndefinite
   too-deep (integers unsigned) z n r l o h s e = absurd (omega arith)
   too-deep (integers negative) z n r l o h s e = absurd (omega arith)
   too-deep (strings byteString) z n r l o h s e = absurd (omega arith)
@@ -283,16 +284,16 @@ module _ (d size : ℕ) {t : PassTold} where
 -- with a level left
 module _ (size : ℕ) {t : PassTold} where
   a-tag : (d : ℕ) (z : Size) (n : ℕ) (r : List ℕ) → LowSize tags z n → (d ≡ 0 → ⊥) → t ≡ toldOf size (tagOf n (d - 1) size r) → Behind d size tags z n r t
-  unfolding itemBy tagOf tagged contents isIndefinite sized bind
+  unfolding itemBy tagOf tagged contents isIndefinite mapResult bind
   a-tag zero z n r l o e = absurd (o refl)
   a-tag (suc d) (definite w) n r l o e = let k : suc d - 1 ≡ d = omega arith in e ∙ ap (λ (j : ℕ). toldOf size (tagOf n j size r)) k ∙ ap (toldOf size) (by (item d r))
     where
       check : (x : Item) (r′ : List ℕ) (v : Bool)
-          → elim v [ true ↦ ok (contents x) r′ | false ↦ refuse badTypedArray size ] ≡ sized contents (elim v [ true ↦ ok (tag w n x) r′ | false ↦ refuse badTypedArray size ])
+          → elim v [ true ↦ ok (contents x) r′ | false ↦ refuse badTypedArray size ] ≡ mapResult contents (elim v [ true ↦ ok (tag w n x) r′ | false ↦ refuse badTypedArray size ])
       check x r′ true = refl
       check x r′ false = refl
 
-      by : (res : Result Item) → bind res (λ x r′. elim (mayTag n x) [ true ↦ ok (contents x) r′ | false ↦ refuse badTypedArray size ]) ≡ sized contents (bind res (λ x r′. elim (mayTag n x) [ true ↦ ok (tag w n x) r′ | false ↦ refuse badTypedArray size ]))
+      by : (res : Result Item) → bind res (λ x r′. elim (mayTag n x) [ true ↦ ok (contents x) r′ | false ↦ refuse badTypedArray size ]) ≡ mapResult contents (bind res (λ x r′. elim (mayTag n x) [ true ↦ ok (tag w n x) r′ | false ↦ refuse badTypedArray size ]))
       by (ok x r′) = check x r′ (mayTag n x)
       by (refuse k q) = refl
   a-tag (suc d) indefinite n r l o e = let z : _≡_ {A = ℕ} 0 1 = cc in absurd (omega arith)
@@ -337,18 +338,18 @@ module _ {s : List ℕ} {h : HeadAt} (hd : Headed s h) where
   module _ (d : ℕ) {t : PassTold} where
     known : Behind d (length s) (g .head .major) (g .head .size) (g .head .argument) (g .rest) t → t ≡ passOf (length s) (item d s)
     unfolding passOf
-    known e = e ∙ ap (λ (u : Result Item). toldOf (length s) (sized contents u)) (sym (by-head d s (g .head) (g .rest) (g .is)))
+    known e = e ∙ ap (λ (u : Result Item). toldOf (length s) (mapResult contents u)) (sym (by-head d s (g .head) (g .rest) (g .is)))
 
     pub behind-leaf : h .major ≤ 1 → t ≡ passed (h .end) 0 → t ≡ passOf (length s) (item d s)
     behind-leaf l e = known (leaf d (length s) (g .head .major) (g .head .size) (g .head .argument) (g .rest) low (omega (arith, g .major)) (e ∙ ap (λ (n : ℕ). passed n 0) (g .ends)))
 
     module _ (l : 1 < h .major) (u : h .major ≤ 3) where
-      pub behind-string : (h .info ≡ 31 → ⊥) → t ≡ toldOf (length s) (sized length (content (kindOf (eqb (h .major) 3)) (h .argument) (length s) (drop (h .end) s))) → t ≡ passOf (length s) (item d s)
+      pub behind-string : (h .info ≡ 31 → ⊥) → t ≡ toldOf (length s) (mapResult length (contentAt (kindOf (eqb (h .major) 3)) (h .argument) (length s) (drop (h .end) s))) → t ≡ passOf (length s) (item d s)
       behind-string o e =
           known (size-definite (g .left) (λ z. Behind d (length s) (g .head .major) z (g .head .argument) (g .rest) t) (λ x. o (g .info ∙ x))
           (λ w. a-string d (length s) (g .head .major) w (g .head .argument) (g .rest) (omega (arith, g .major)) (omega (arith, g .major))
-          (e ∙ got-both g (λ n r. toldOf (length s) (sized length (content (kindOf (eqb (h .major) 3)) n (length s) r)))
-          ∙ ap (λ (m : ℕ). toldOf (length s) (sized length (content (kindOf (eqb m 3)) (g .head .argument) (length s) (g .rest)))) (g .major))))
+          (e ∙ got-both g (λ n r. toldOf (length s) (mapResult length (contentAt (kindOf (eqb (h .major) 3)) n (length s) r)))
+          ∙ ap (λ (m : ℕ). toldOf (length s) (mapResult length (contentAt (kindOf (eqb m 3)) (g .head .argument) (length s) (g .rest)))) (g .major))))
 
       pub behind-chunks : h .info ≡ 31 → t ≡ toldOf (length s) (allOf (h .major) d (untilOf Broken) (drop (h .end) s)) → t ≡ passOf (length s) (item d s)
       unfolding untilOf
@@ -358,18 +359,18 @@ module _ {s : List ℕ} {h : HeadAt} (hd : Headed s h) where
           (e ∙ ap (λ (r : List ℕ). toldOf (length s) (allOf (h .major) d broken r)) (g .drops) ∙ ap (λ (m : ℕ). toldOf (length s) (allOf m d broken (g .rest))) (g .major))))
 
     module _ (e : h .major ≡ 7) where
-      pub behind-break : h .info ≡ 31 → t ≡ refused (kindNumber NotWellFormed) 0 → t ≡ passOf (length s) (item d s)
-      unfolding itemBy sized toldOf kindNumber
+      pub behind-break : h .info ≡ 31 → t ≡ passRefused (kindNumber NotWellFormed) 0 → t ≡ passOf (length s) (item d s)
+      unfolding itemBy mapResult toldOf kindNumber
       behind-break o f = known (rw (simply e, size-indefinite (g .left) (sym (g .info) ∙ o)) (f ∙ at-front notWellFormed (length s)))
 
       pub behind-simple : (h .info ≡ 31 → ⊥) → t ≡ passed (h .end) 0 → t ≡ passOf (length s) (item d s)
-      unfolding itemBy sized toldOf contents
+      unfolding itemBy mapResult toldOf contents
       behind-simple o f =
           known (size-definite (g .left) (λ z. Behind d (length s) (g .head .major) z (g .head .argument) (g .rest) t) (λ x. o (g .info ∙ x))
           (λ w. rw (simply e) (f ∙ ap (λ (n : ℕ). passed n 0) (g .ends))))
 
     module _ (l : 3 < h .major) (o : h .major ≡ 7 → ⊥) where
-      pub behind-deep : d ≡ 0 → t ≡ refused (kindNumber TooDeep) 0 → t ≡ passOf (length s) (item d s)
+      pub behind-deep : d ≡ 0 → t ≡ passRefused (kindNumber TooDeep) 0 → t ≡ passOf (length s) (item d s)
       unfolding kindNumber
       behind-deep z e = known (too-deep d (length s) (g .head .major) (g .head .size) (g .head .argument) (g .rest) low z (omega (arith, g .major)) (λ x. o (g .major ∙ x)) e)
 
@@ -398,8 +399,8 @@ pub ruleset behind-ways = (behind-leaf, behind-string, behind-chunks, behind-bre
 
 -- THE WHOLE
 
-pub all-long : (s : List ℕ) {t : PassTold} → 65535 < length s → t ≡ refused (kindNumber TooLong) 0 → t ≡ walkAllOf (length s) (decode s)
-unfolding walkAllOf decode sized toldOf kindNumber
+pub all-long : (s : List ℕ) {t : PassTold} → 65535 < length s → t ≡ passRefused (kindNumber TooLong) 0 → t ≡ walkAllOf (length s) (decode s)
+unfolding walkAllOf decode mapResult toldOf kindNumber
 all-long s h e = e ∙ rw (lt-leb (length s) 65535 h, decode) (at-front tooLong (length s))
 
 pub all-short : (s : List ℕ) {t : PassTold} → length s ≤ 65535 → t ≡ toldOf (length s) (allOf 4 17 (untilOf Ended) (drop 0 s)) → t ≡ walkAllOf (length s) (decode s)

@@ -16,20 +16,21 @@ use Rattle.cbor.specs.Items.{Kind, Size, definite, indefinite, Chunk}
 use Rattle.cbor.specs.Heads.{Major, strings, majorNumber, majorOf, Head, nextHead, taking}
 use Rattle.cbor.specs.Utf8.{firstBad, isUtf8}
 use Rattle.cbor.specs.Valid.{isText}
-use Rattle.cbor.specs.Decode.{counted, another, stepAt, content, chunkBy, chunk}
+use Rattle.cbor.specs.Decode.{counted, another, stepAt, contentAt, chunkBy, chunkAt}
 use Rattle.refusal.specs.RefusalKinds.{kindNumber}
-use Rattle.head.specs.HeadAnswers.{head, headTold, sizeInformation, headFrom, headAt}
-use Rattle.walk.specs.WalkAnswers.{PassTold, passed, refused, passTold, walkTold, withMajor, asSpan, sized, toldOf, kindOf, chunkContents, untilOf, turnOf, Inner, Turned, afterTold, itemAfter, Headed, Within}
+use Rattle.head.specs.HeadAnswers.{headFound, headTold, sizeInformation, headFrom, headAt}
+use Rattle.walk.specs.WalkAnswers.{PassTold, passed, passRefused, passTold, walkTold, withMajor, asSpan, mapResult, toldOf, chunkContents, untilOf, turnOf, TurnInside, Turned, afterTold, itemAfter, Headed, Within}
+use Rattle.cbor.specs.Flags.{kindOf}
 use Rattle.refusal.specs.declared.Refusal.{Refusal}
 use Rattle.refusal.specs.declared.RefusalKind.{RefusalKind}
 use Rattle.refusal.specs.declared.RefusalKind.the-variants.{NotUtf8, EndsInside, NotWellFormed}
 use Rattle.head.specs.declared.HeadAt.{HeadAt}
 use Rattle.head.specs.declared.HeadRead.{HeadRead}
 use Rattle.head.specs.declared.HeadRead.the-variants.{Head as HeadV, Refused as HeadRefusedV}
-use Rattle.walk.specs.declared.Made.{Made}
+use Rattle.walk.specs.declared.WalkedItem.{WalkedItem}
 use Rattle.walk.specs.declared.Walked.{Walked}
 use Rattle.walk.specs.declared.Walked.the-variants.{Made as MadeV, Refused as WalkRefusedV}
-use Rattle.walk.specs.declared.Span.{Span}
+use Rattle.walk.specs.declared.Passage.{Passage}
 use Rattle.walk.specs.declared.Passed.{Passed}
 use Rattle.walk.specs.declared.Passed.the-variants.{Span as SpanV, Refused as RefusedV}
 use Rattle.walk.specs.declared.Extent.{Extent}
@@ -43,17 +44,17 @@ pub told-span : (end size : ℕ) → passTold (SpanV (record { end = end; size =
 unfolding passTold
 told-span end size = refl
 
-pub told-refused : (kind : RefusalKind) (place : ℕ) → passTold (RefusedV (record { kind = kind; place = place })) ≡ refused (kindNumber kind) place
+pub told-refused : (kind : RefusalKind) (place : ℕ) → passTold (RefusedV (record { kind = kind; place = place })) ≡ passRefused (kindNumber kind) place
 unfolding passTold
 told-refused kind place = refl
 
 module _ (from size : ℕ) {t : PassTold} {part : Passed} {x y : ℕ} where
-  pub after-made : {m : Span} → part ≡ SpanV m → x ≡ capped from (m .end) → y ≡ capped size (m .size) → t ≡ passed x y → t ≡ afterTold from size (passTold part)
+  pub after-made : {m : Passage} → part ≡ SpanV m → x ≡ capped from (m .end) → y ≡ capped size (m .size) → t ≡ passed x y → t ≡ afterTold from size (passTold part)
   unfolding passTold afterTold
   after-made e i j h = h ∙ rw (e, i, j)
 
 module _ (from size : ℕ) {t : PassTold} {part : Passed} {x : ℕ} where
-  pub after-refused : {e : Refusal} → part ≡ RefusedV e → x ≡ capped from (e .place) → t ≡ refused (kindNumber (e .kind)) x → t ≡ afterTold from size (passTold part)
+  pub after-refused : {e : Refusal} → part ≡ RefusedV e → x ≡ capped from (e .place) → t ≡ passRefused (kindNumber (e .kind)) x → t ≡ afterTold from size (passTold part)
   unfolding passTold afterTold
   after-refused e i h = h ∙ rw (e, i)
 
@@ -62,7 +63,7 @@ pub ruleset after-ways = (after-made, after-refused)
 -- AN ITEM AND WHAT WAS PASSED OVER
 
 module _ (major : ℕ) {span : Passed} where
-  pub major-made : {m : Span} → span ≡ SpanV m → walkTold (MadeV (record { end = m .end; major = major; size = m .size })) ≡ withMajor major (passTold span)
+  pub major-made : {m : Passage} → span ≡ SpanV m → walkTold (MadeV (record { end = m .end; major = major; size = m .size })) ≡ withMajor major (passTold span)
   unfolding walkTold passTold withMajor
   major-made e = rw e
 
@@ -73,7 +74,7 @@ module _ (major : ℕ) {span : Passed} where
 pub ruleset with-ways = (major-made, major-refused)
 
 module _ {whole : Walked} where
-  pub span-made : {m : Made} {t : PassTold} → whole ≡ MadeV m → t ≡ passed (m .end) (m .size) → t ≡ asSpan (walkTold whole)
+  pub span-made : {m : WalkedItem} {t : PassTold} → whole ≡ MadeV m → t ≡ passed (m .end) (m .size) → t ≡ asSpan (walkTold whole)
   unfolding walkTold asSpan
   span-made e h = h ∙ rw e
 
@@ -84,7 +85,7 @@ module _ {whole : Walked} where
 pub ruleset span-ways = (span-made, span-refused)
 
 module _ (from x : ℕ) {inner : Walked} where
-  pub item-after-made : {m : Made} → inner ≡ MadeV m → x ≡ capped from (m .end) → walkTold (MadeV (record { end = x; major = m .major; size = m .size })) ≡ itemAfter from (walkTold inner)
+  pub item-after-made : {m : WalkedItem} → inner ≡ MadeV m → x ≡ capped from (m .end) → walkTold (MadeV (record { end = x; major = m .major; size = m .size })) ≡ itemAfter from (walkTold inner)
   unfolding walkTold itemAfter
   item-after-made e h = rw (e, h)
 
@@ -106,31 +107,31 @@ count-down (suc n) t h = let e : suc n - 1 ≡ n = omega arith in ap (λ (k : �
 
 module _ (s : List ℕ) (at : ℕ) {u : Extent} where
   pub turn-none : {n : ℕ} → u ≡ Counted n → n ≡ 0 → Turned s at u (Over at)
-  unfolding untilOf turnOf Inner stepAt
+  unfolding untilOf turnOf TurnInside stepAt
   turn-none e z = record { is = rw (e, z); inside = λ h. h }
 
   pub turn-count : {n : ℕ} → u ≡ Counted n → (n ≡ 0 → ⊥) → Turned s at u (Another (Counted (n - 1)))
-  unfolding untilOf turnOf Inner
+  unfolding untilOf turnOf TurnInside
   turn-count {n} e z = record { is = rw e (count-down n (drop at s) z); inside = λ h. tt }
 
   pub turn-past : u ≡ Broken → length s ≤ at → Turned s at u (Another Broken)
-  unfolding untilOf turnOf Inner stepAt
+  unfolding untilOf turnOf TurnInside stepAt
   turn-past e h = record { is = rw (e, drop-of-length-le s h); inside = λ h. tt }
 
   pub turn-break : u ≡ Broken → at < length s → getD s at 0 ≡ 255 → Turned s at u (Over (at + 1))
-  unfolding untilOf turnOf Inner stepAt
+  unfolding untilOf turnOf TurnInside stepAt
   turn-break e h b = record { is = rw (e, front s at h) (rw (eq-eqb (getD s at 0) 255 b, stepAt)); inside = λ l. omega arith }
 
   pub turn-on : u ≡ Broken → at < length s → (getD s at 0 ≡ 255 → ⊥) → Turned s at u (Another Broken)
-  unfolding untilOf turnOf Inner stepAt
+  unfolding untilOf turnOf TurnInside stepAt
   turn-on e h b = record { is = rw (e, front s at h) (rw (ne-eqb (getD s at 0) 255 b, stepAt)); inside = λ l. tt }
 
   pub turn-end : u ≡ Ended → length s ≤ at → Turned s at u (Over at)
-  unfolding untilOf turnOf Inner stepAt
+  unfolding untilOf turnOf TurnInside stepAt
   turn-end e h = record { is = rw (e, drop-of-length-le s h); inside = λ l. l }
 
   pub turn-more : u ≡ Ended → at < length s → Turned s at u (Another Ended)
-  unfolding untilOf turnOf Inner stepAt
+  unfolding untilOf turnOf TurnInside stepAt
   turn-more e h = record { is = rw (e, front s at h); inside = λ l. tt }
 
 pub ruleset turn-ways = (turn-none, turn-count, turn-past, turn-break, turn-on, turn-end, turn-more)
@@ -157,36 +158,36 @@ major-bytes t e = rw e
 
 pub ruleset major-ways = (major-text, major-bytes)
 
-content-is : (k : Kind) (n : ℕ) (left : ℕ) (r : List ℕ) → n ≤ length r → content k n left r ≡ elim (isText k (take n r)) [ true ↦ ok (take n r) (drop n r) | false ↦ refuse notUtf8 left ]
-unfolding content taking bind
-content-is k n left r h = rw (le-leb n (length r) h, content, taking)
+content-is : (k : Kind) (n : ℕ) (left : ℕ) (r : List ℕ) → n ≤ length r → contentAt k n left r ≡ elim (isText k (take n r)) [ true ↦ ok (take n r) (drop n r) | false ↦ refuse notUtf8 left ]
+unfolding contentAt taking bind
+content-is k n left r h = rw (le-leb n (length r) h, contentAt, taking)
 
 module _ (s : List ℕ) (from n : ℕ) (k : Bool) {t : PassTold} where
-  pub content-short : length s - from < n → t ≡ refused (kindNumber EndsInside) 0 → t ≡ toldOf (length s) (sized length (content (kindOf k) n (length s) (drop from s)))
-  unfolding content taking bind sized toldOf kindNumber
+  pub content-short : length s - from < n → t ≡ passRefused (kindNumber EndsInside) 0 → t ≡ toldOf (length s) (mapResult length (contentAt (kindOf k) n (length s) (drop from s)))
+  unfolding contentAt taking bind mapResult toldOf kindNumber
   content-short h e =
       let l : length (drop from s) < n = omega (arith, length-drop from s) in
       let z : 0 ≡ length s - length s = omega arith in
-      e ∙ rw (lt-leb n (length (drop from s)) l, content, taking) (ap (refused endsInside) z)
+      e ∙ rw (lt-leb n (length (drop from s)) l, contentAt, taking) (ap (passRefused endsInside) z)
 
 module _ {s : List ℕ} {from : ℕ} (n : ℕ) (k : Bool) {v : Bool} (w : Within s from) (h : n ≤ length s - from) (i : v ≡ isText (kindOf k) (take (from + n - from) (drop from s))) where
-  content-at : content (kindOf k) n (length s) (drop from s) ≡ elim v [ true ↦ ok (take n (drop from s)) (drop n (drop from s)) | false ↦ refuse notUtf8 (length s) ]
+  content-at : contentAt (kindOf k) n (length s) (drop from s) ≡ elim v [ true ↦ ok (take n (drop from s)) (drop n (drop from s)) | false ↦ refuse notUtf8 (length s) ]
   content-at =
       let l : n ≤ length (drop from s) = omega (arith, length-drop from s) in
       let m : from + n - from ≡ n = omega arith in
       content-is (kindOf k) n (length s) (drop from s) l
       ∙ ap (λ (b : Bool). elim b [ true ↦ ok (take n (drop from s)) (drop n (drop from s)) | false ↦ refuse notUtf8 (length s) ]) (sym (i ∙ ap (λ (k′ : ℕ). isText (kindOf k) (take k′ (drop from s))) m))
 
-  pub content-good : {t : PassTold} → v ≡ true → t ≡ passed (from + n) (from + n - from) → t ≡ toldOf (length s) (sized length (content (kindOf k) n (length s) (drop from s)))
-  unfolding sized toldOf
+  pub content-good : {t : PassTold} → v ≡ true → t ≡ passed (from + n) (from + n - from) → t ≡ toldOf (length s) (mapResult length (contentAt (kindOf k) n (length s) (drop from s)))
+  unfolding mapResult toldOf
   content-good y e =
       let p : from + n ≡ length s - length (drop n (drop from s)) = omega (arith, length-drop n (drop from s), length-drop from s, w .inside) in
       let q : from + n - from ≡ length (take n (drop from s)) = omega (arith, length-take n (drop from s), length-drop from s) in
       e ∙ rw content-at (rw y (λ j. passed (p j) (q j)))
 
-  pub content-bad : {t : PassTold} → v ≡ false → t ≡ refused (kindNumber NotUtf8) 0 → t ≡ toldOf (length s) (sized length (content (kindOf k) n (length s) (drop from s)))
-  unfolding sized toldOf kindNumber
-  content-bad y e = let z : 0 ≡ length s - length s = omega arith in e ∙ rw content-at (rw y (ap (refused notUtf8) z))
+  pub content-bad : {t : PassTold} → v ≡ false → t ≡ passRefused (kindNumber NotUtf8) 0 → t ≡ toldOf (length s) (mapResult length (contentAt (kindOf k) n (length s) (drop from s)))
+  unfolding mapResult toldOf kindNumber
+  content-bad y e = let z : 0 ≡ length s - length s = omega arith in e ∙ rw content-at (rw y (ap (passRefused notUtf8) z))
 
 pub ruleset content-ways = (content-short, content-good, content-bad)
 
@@ -227,23 +228,23 @@ head-room {s} e = let g = got e in record { inside = omega (arith, g .ends) }
 
 -- a head that is refused, and whatever begins with it
 lost-of : {A : Type 0} (f : A → ℕ) (s : List ℕ) (e : Refusal) (res : Result Head) (go : Head → List ℕ → Result A) → headTold (HeadRefusedV e) ≡ headFrom (length s) res
-    → passTold (RefusedV e) ≡ toldOf (length s) (sized f (bind res go))
-unfolding headTold headFrom passTold toldOf sized bind
+    → passTold (RefusedV e) ≡ toldOf (length s) (mapResult f (bind res go))
+unfolding headTold headFrom passTold toldOf mapResult bind
 lost-of f s e (ok d r) go h = let z : _≡_ {A = ℕ} 0 1 = cc in absurd (omega arith)
 lost-of f s e (refuse n left) go h =
     let i : kindNumber (e .kind) ≡ n = cc in
     let j : e .place ≡ length s - left = cc in
-    λ k. refused (i k) (j k)
+    λ k. passRefused (i k) (j k)
 
 pub head-lost : {A : Type 0} (s : List ℕ) {e : Refusal} (f : A → ℕ) (go : Head → List ℕ → Result A) (a : HeadRead) → headTold a ≡ headAt s 0 → a ≡ HeadRefusedV e
-    → passTold (RefusedV e) ≡ toldOf (length s) (sized f (bind (nextHead s) go))
+    → passTold (RefusedV e) ≡ toldOf (length s) (mapResult f (bind (nextHead s) go))
 unfolding headAt
 head-lost s {e} f go a h i = lost-of f s e (nextHead s) go (rw i at h)
 
 -- CHUNKS
 
-pub sized-made : {A B : Type 0} (f : B → ℕ) (g : A → ℕ) (mk : A → B) → ((x : A) → f (mk x) ≡ g x) → (res : Result A) → sized f (bind res (λ x r. ok (mk x) r)) ≡ sized g res
-unfolding sized bind
+pub sized-made : {A B : Type 0} (f : B → ℕ) (g : A → ℕ) (mk : A → B) → ((x : A) → f (mk x) ≡ g x) → (res : Result A) → mapResult f (bind res (λ x r. ok (mk x) r)) ≡ mapResult g res
+unfolding mapResult bind
 sized-made f g mk h (ok x r) = ap (λ (n : ℕ). ok n r) (h x)
 sized-made f g mk h (refuse n left) = refl
 
@@ -265,57 +266,57 @@ size-indefinite {m = m} {h = h} l e = by (h .size) (l .low) e
     by (definite w) i e = absurd (omega arith)
     by indefinite i e = refl
 
-pub chunk-none : (k : Bool) (s : List ℕ) {t : PassTold} → length s ≡ 0 → t ≡ refused (kindNumber EndsInside) 0 → t ≡ toldOf (length s) (sized chunkContents (chunk (kindOf k) s))
-unfolding chunk sized toldOf kindNumber
+pub chunk-none : (k : Bool) (s : List ℕ) {t : PassTold} → length s ≡ 0 → t ≡ passRefused (kindNumber EndsInside) 0 → t ≡ toldOf (length s) (mapResult chunkContents (chunkAt (kindOf k) s))
+unfolding chunkAt mapResult toldOf kindNumber
 chunk-none k [] h e = e
 chunk-none k (b ∷ s) h e = absurd (omega arith)
 
-pub chunk-other : (k : Bool) (s : List ℕ) {m : ℕ} {t : PassTold} → (length s ≡ 0 → ⊥) → m ≡ majorNumber (strings (kindOf k)) → (getD s 0 0 / 32 ≡ m → ⊥) → t ≡ refused (kindNumber NotWellFormed) 0
-    → t ≡ toldOf (length s) (sized chunkContents (chunk (kindOf k) s))
-unfolding chunk sized toldOf kindNumber
+pub chunk-other : (k : Bool) (s : List ℕ) {m : ℕ} {t : PassTold} → (length s ≡ 0 → ⊥) → m ≡ majorNumber (strings (kindOf k)) → (getD s 0 0 / 32 ≡ m → ⊥) → t ≡ passRefused (kindNumber NotWellFormed) 0
+    → t ≡ toldOf (length s) (mapResult chunkContents (chunkAt (kindOf k) s))
+unfolding chunkAt mapResult toldOf kindNumber
 chunk-other k [] n i h e = absurd (n refl)
 chunk-other k (b ∷ s) {m} n i h e =
     let z : 0 ≡ suc (length s) - suc (length s) = omega arith in
-    e ∙ rw (ne-eqb (b / 32) (majorNumber (strings (kindOf k))) (λ x. h (x ∙ sym i)), chunk) (ap (refused notWellFormed) z)
+    e ∙ rw (ne-eqb (b / 32) (majorNumber (strings (kindOf k))) (λ x. h (x ∙ sym i)), chunkAt) (ap (passRefused notWellFormed) z)
 
 -- a chunk of the right major type, by its head
 chunk-is : (k : Kind) (s : List ℕ) {m : ℕ} → (length s ≡ 0 → ⊥) → m ≡ majorNumber (strings k) → getD s 0 0 / 32 ≡ m
-    → chunk k s ≡ bind (nextHead s) (λ h r. chunkBy k (h .size) (h .argument) (length s) r)
-unfolding chunk
+    → chunkAt k s ≡ bind (nextHead s) (λ h r. chunkBy k (h .size) (h .argument) (length s) r)
+unfolding chunkAt
 chunk-is k [] n i h = absurd (n refl)
-chunk-is k (b ∷ s) n i h = rw (eq-eqb (b / 32) (majorNumber (strings k)) (h ∙ i), chunk)
+chunk-is k (b ∷ s) n i h = rw (eq-eqb (b / 32) (majorNumber (strings k)) (h ∙ i), chunkAt)
 
 module _ (k : Bool) (s : List ℕ) {m : ℕ} (n : length s ≡ 0 → ⊥) (i : m ≡ majorNumber (strings (kindOf k))) (j : getD s 0 0 / 32 ≡ m) (a : HeadRead) (told : headTold a ≡ headAt s 0) where
-  pub chunk-lost : {e : Refusal} → a ≡ HeadRefusedV e → passTold (RefusedV e) ≡ toldOf (length s) (sized chunkContents (chunk (kindOf k) s))
+  pub chunk-lost : {e : Refusal} → a ≡ HeadRefusedV e → passTold (RefusedV e) ≡ toldOf (length s) (mapResult chunkContents (chunkAt (kindOf k) s))
   chunk-lost h = rw (chunk-is (kindOf k) s n i j) (head-lost s chunkContents _ a told h)
 
   module _ {h : HeadAt} (e : a ≡ HeadV h) where
     pub chunk-room : Within s (h .end)
     chunk-room = head-room (headed s a told e)
 
-    chunk-at : (g : Got s h) → chunk (kindOf k) s ≡ chunkBy (kindOf k) (g .head .size) (g .head .argument) (length s) (g .rest)
+    chunk-at : (g : Got s h) → chunkAt (kindOf k) s ≡ chunkBy (kindOf k) (g .head .size) (g .head .argument) (length s) (g .rest)
     unfolding bind
     chunk-at g = chunk-is (kindOf k) s n i j ∙ rw (g .is)
 
-    pub chunk-open : {t : PassTold} → h .info ≡ 31 → t ≡ refused (kindNumber NotWellFormed) 0 → t ≡ toldOf (length s) (sized chunkContents (chunk (kindOf k) s))
-    unfolding chunkBy sized toldOf kindNumber
+    pub chunk-open : {t : PassTold} → h .info ≡ 31 → t ≡ passRefused (kindNumber NotWellFormed) 0 → t ≡ toldOf (length s) (mapResult chunkContents (chunkAt (kindOf k) s))
+    unfolding chunkBy mapResult toldOf kindNumber
     chunk-open o f =
         let g = got (headed s a told e) in
         let z : 0 ≡ length s - length s = omega arith in
-        f ∙ ap (refused notWellFormed) z
-        ∙ sym (ap (λ (u : Result Chunk). toldOf (length s) (sized chunkContents u)) (chunk-at g
+        f ∙ ap (passRefused notWellFormed) z
+        ∙ sym (ap (λ (u : Result Chunk). toldOf (length s) (mapResult chunkContents u)) (chunk-at g
         ∙ ap (λ (x : Size). chunkBy (kindOf k) x (g .head .argument) (length s) (g .rest)) (size-indefinite (g .left) (sym (g .info) ∙ o))))
 
-    pub chunk-content : {t : PassTold} → (h .info ≡ 31 → ⊥) → t ≡ toldOf (length s) (sized length (content (kindOf k) (h .argument) (length s) (drop (h .end) s)))
-        → t ≡ toldOf (length s) (sized chunkContents (chunk (kindOf k) s))
+    pub chunk-content : {t : PassTold} → (h .info ≡ 31 → ⊥) → t ≡ toldOf (length s) (mapResult length (contentAt (kindOf k) (h .argument) (length s) (drop (h .end) s)))
+        → t ≡ toldOf (length s) (mapResult chunkContents (chunkAt (kindOf k) s))
     unfolding chunkBy chunkContents
     chunk-content o f =
         let g = got (headed s a told e) in
-        f ∙ got-both g (λ n r. toldOf (length s) (sized length (content (kindOf k) n (length s) r)))
+        f ∙ got-both g (λ n r. toldOf (length s) (mapResult length (contentAt (kindOf k) n (length s) r)))
         ∙ size-definite (g .left)
-        (λ z. toldOf (length s) (sized length (content (kindOf k) (g .head .argument) (length s) (g .rest))) ≡ toldOf (length s) (sized chunkContents (chunkBy (kindOf k) z (g .head .argument) (length s) (g .rest))))
+        (λ z. toldOf (length s) (mapResult length (contentAt (kindOf k) (g .head .argument) (length s) (g .rest))) ≡ toldOf (length s) (mapResult chunkContents (chunkBy (kindOf k) z (g .head .argument) (length s) (g .rest))))
         (λ x. o (g .info ∙ x))
-        (λ w. ap (toldOf (length s)) (sym (sized-made chunkContents length (λ b. record { width = w; content = b }) (λ b. refl) (content (kindOf k) (g .head .argument) (length s) (g .rest)))))
-        ∙ sym (ap (λ (u : Result Chunk). toldOf (length s) (sized chunkContents u)) (chunk-at g))
+        (λ w. ap (toldOf (length s)) (sym (sized-made chunkContents length (λ b. record { width = w; content = b }) (λ b. refl) (contentAt (kindOf k) (g .head .argument) (length s) (g .rest)))))
+        ∙ sym (ap (λ (u : Result Chunk). toldOf (length s) (mapResult chunkContents u)) (chunk-at g))
 
 pub ruleset chunk-ways = (chunk-none, chunk-other, chunk-lost, chunk-open, chunk-content)

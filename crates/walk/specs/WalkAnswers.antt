@@ -7,10 +7,11 @@ use lib.Dec.{eqb}
 use lib.ListN.{length, drop}
 use Rattle.memory.specs.Sums.{capped}
 use Rattle.cbor.specs.Refusals.{Result, ok, refuse, bind, tooDeep, badTypedArray}
-use Rattle.cbor.specs.Items.{Kind, byteString, textString, Chunk, Item, int, string, chunked, array, map, tag, simple, Items, none, more, Pairs, none₂, more₂}
+use Rattle.cbor.specs.Flags.{kindOf}
+use Rattle.cbor.specs.Items.{Chunk, Item, int, string, chunked, array, map, tag, simple, Items, none, more, Pairs, none₂, more₂}
 use Rattle.cbor.specs.Heads.{majorNumber, itemMajor}
 use Rattle.cbor.specs.TypedArrays.{chunksLength, mayTag}
-use Rattle.cbor.specs.Decode.{Until, counted, broken, ended, Step, over, another, stepAt, several, chunk, Entry, entry, item}
+use Rattle.cbor.specs.Decode.{Until, counted, broken, ended, Step, finished, another, stepAt, several, chunkAt, Entry, entryAt, item}
 use Rattle.refusal.specs.RefusalKinds.{kindNumber}
 use Rattle.head.specs.HeadAnswers.{headTold, headAt}
 use Rattle.head.specs.declared.HeadAt.{HeadAt}
@@ -29,28 +30,28 @@ use Rattle.walk.specs.declared.Turn.the-variants.{Over, Another}
 -- of several items, or a part of one: where it ends and how many bytes of strings it has; or a refusal's number and place
 pub data PassTold : Type 0 where
   passed : ℕ → ℕ → PassTold
-  refused : ℕ → ℕ → PassTold
+  passRefused : ℕ → ℕ → PassTold
 
 unfoldable pub passTold : Passed → PassTold
 passTold (SpanV m) = passed (m .end) (m .size)
-passTold (PassRefusedV e) = refused (kindNumber (e .kind)) (e .place)
+passTold (PassRefusedV e) = passRefused (kindNumber (e .kind)) (e .place)
 
 -- of an item: its major type as well, between the two
 pub data WalkTold : Type 0 where
-  made : ℕ → ℕ → ℕ → WalkTold
-  refused : ℕ → ℕ → WalkTold
+  itemPassed : ℕ → ℕ → ℕ → WalkTold
+  walkRefused : ℕ → ℕ → WalkTold
 
 unfoldable pub walkTold : Walked → WalkTold
-walkTold (MadeV m) = made (m .end) (m .major) (m .size)
-walkTold (RefusedV e) = refused (kindNumber (e .kind)) (e .place)
+walkTold (MadeV m) = itemPassed (m .end) (m .major) (m .size)
+walkTold (RefusedV e) = walkRefused (kindNumber (e .kind)) (e .place)
 
 unfoldable pub withMajor : ℕ → PassTold → WalkTold
-withMajor m (passed e k) = made e m k
-withMajor m (refused i p) = refused i p
+withMajor m (passed e k) = itemPassed e m k
+withMajor m (passRefused i p) = walkRefused i p
 
 unfoldable pub asSpan : WalkTold → PassTold
-asSpan (made e m k) = passed e k
-asSpan (refused i p) = refused i p
+asSpan (itemPassed e m k) = passed e k
+asSpan (walkRefused i p) = passRefused i p
 
 -- the bytes of the strings in an item: of a string its own, chunked or not
 unfoldable mutual
@@ -72,24 +73,24 @@ unfoldable mutual
   contentsAll₂ (more₂ k x ps) = (contents k + contents x) + contentsAll₂ ps
 
 -- a result of whose value something is known: a number, or a text
-unfoldable pub sized : {A B : Type 0} → (A → B) → Result A → Result B
-sized f (ok x r) = ok (f x) r
-sized f (refuse n left) = refuse n left
+unfoldable pub mapResult : {A B : Type 0} → (A → B) → Result A → Result B
+mapResult f (ok x r) = ok (f x) r
+mapResult f (refuse n left) = refuse n left
 
 -- of what was read from n bytes
 unfoldable pub toldOf : ℕ → Result ℕ → PassTold
 toldOf n (ok k r) = passed (n - length r) k
-toldOf n (refuse i left) = refused i (n - left)
+toldOf n (refuse i left) = passRefused i (n - left)
 
 unfoldable pub passOf : ℕ → Result Item → PassTold
-passOf n res = toldOf n (sized contents res)
+passOf n res = toldOf n (mapResult contents res)
 
 unfoldable pub walkOf : ℕ → Result Item → WalkTold
-walkOf n (ok x r) = made (n - length r) (majorNumber (itemMajor x)) (contents x)
-walkOf n (refuse i left) = refused i (n - left)
+walkOf n (ok x r) = itemPassed (n - length r) (majorNumber (itemMajor x)) (contents x)
+walkOf n (refuse i left) = walkRefused i (n - left)
 
 unfoldable pub walkAllOf : ℕ → Result Items → PassTold
-walkAllOf n res = toldOf n (sized contentsAll res)
+walkAllOf n res = toldOf n (mapResult contentsAll res)
 
 -- INSIDE THE CYCLE
 
@@ -97,10 +98,6 @@ walkAllOf n res = toldOf n (sized contentsAll res)
 unfoldable pub below : ℕ → List ℕ → Result Item
 below zero s = refuse tooDeep (length s)
 below (suc d) s = item d s
-
-unfoldable pub kindOf : Bool → Kind
-kindOf true = textString
-kindOf false = byteString
 
 unfoldable pub entryContents : Entry → ℕ
 entryContents e = contents (e .key) + contents (e .value)
@@ -112,8 +109,8 @@ chunkContents c = length (c .content)
 unfoldable pub oneOf : ℕ → ℕ → List ℕ → Result ℕ
 oneOf major d s =
     elim (eqb major 4) [
-      | true ↦ sized contents (below d s)
-      | false ↦ elim (eqb major 5) [ true ↦ sized entryContents (entry (below d) s) | false ↦ sized chunkContents (chunk (kindOf (eqb major 3)) s) ]
+      | true ↦ mapResult contents (below d s)
+      | false ↦ elim (eqb major 5) [ true ↦ mapResult entryContents (entryAt (below d) s) | false ↦ mapResult chunkContents (chunkAt (kindOf (eqb major 3)) s) ]
     ]
 
 -- all of them
@@ -130,25 +127,25 @@ untilOf Broken = broken
 untilOf Ended = ended
 
 unfoldable pub turnOf : List ℕ → Turn → Step
-turnOf s (Over e) = over (drop e s)
+turnOf s (Over e) = finished (drop e s)
 turnOf s (Another u) = another (untilOf u)
 
-unfoldable pub Inner : List ℕ → Turn → Type 0
-Inner s (Over e) = e ≤ length s
-Inner s (Another u) = Unit
+unfoldable pub TurnInside : List ℕ → Turn → Type 0
+TurnInside s (Over e) = e ≤ length s
+TurnInside s (Another u) = Unit
 
 pub record Turned (s : List ℕ) (at : ℕ) (u : Extent) (r : Turn) : Type 0 where
   pub is : turnOf s r ≡ stepAt (untilOf u) (drop at s)
-  pub inside : at ≤ length s → Inner s r
+  pub inside : at ≤ length s → TurnInside s r
 
 -- the same answer counted from `from` places before, with `size` bytes of strings before it
 unfoldable pub afterTold : ℕ → ℕ → PassTold → PassTold
 afterTold from size (passed e k) = passed (capped from e) (capped size k)
-afterTold from size (refused i p) = refused i (capped from p)
+afterTold from size (passRefused i p) = passRefused i (capped from p)
 
 unfoldable pub itemAfter : ℕ → WalkTold → WalkTold
-itemAfter from (made e m k) = made (capped from e) m k
-itemAfter from (refused i p) = refused i (capped from p)
+itemAfter from (itemPassed e m k) = itemPassed (capped from e) m k
+itemAfter from (walkRefused i p) = walkRefused i (capped from p)
 
 -- the head at the front
 pub record Headed (s : List ℕ) (h : HeadAt) : Type 0 where

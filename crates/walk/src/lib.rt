@@ -10,31 +10,32 @@ ghost use Prim.Native.Nat.{_/_, _≤_};
 ghost use mathlib.Core.Bool.{true, false};
 ghost use lib.ListN.{length, drop};
 ghost use Rattle.cbor.specs.Heads.{majorNumber, strings};
-ghost use Rattle.cbor.specs.Decode.{content, chunk, entry, item, decode};
+ghost use Rattle.cbor.specs.Decode.{contentAt, chunkAt, entryAt, item, decode};
 ghost use Rattle.cbor.specs.Valid.{isText};
 ghost use Rattle.refusal.specs.RefusalKinds.{kindNumber};
-ghost use Rattle.walk.specs.WalkAnswers.{passed, refused, passTold, walkTold, withMajor, asSpan, sized, toldOf, passOf, walkOf, walkAllOf, below, kindOf, entryContents, chunkContents, oneOf, allOf, tagOf, untilOf, Turned, afterTold, itemAfter, Headed, Within};
+ghost use Rattle.walk.specs.WalkAnswers.{passed, passRefused, passTold, walkTold, withMajor, asSpan, mapResult, toldOf, passOf, walkOf, walkAllOf, below, entryContents, chunkContents, oneOf, allOf, tagOf, untilOf, Turned, afterTold, itemAfter, Headed, Within};
+ghost use Rattle.cbor.specs.Flags.{kindOf};
 
 // An item ends before `end`; `major` is its major type, `size` the number of bytes of strings in it: of a string its length.
-pub struct Made {
+pub struct WalkedItem {
     pub end: usize,
     pub major: u8,
     pub size: usize,
 }
 
 pub enum Walked {
-    Made(Made),
+    Made(WalkedItem),
     Refused(Refusal),
 }
 
 // Several items, or a part of one: an entry, a chunk, what stands behind a head.
-pub struct Span {
+pub struct Passage {
     pub end: usize,
     pub size: usize,
 }
 
 pub enum Passed {
-    Span(Span),
+    Span(Passage),
     Refused(Refusal),
 }
 
@@ -54,11 +55,11 @@ pub enum Turn {
 fn reached(end: usize, size: usize) -> Passed
     ensures { λ r. ⌜ passTold r ≡ passed end size ⌝ }
 {
-    Passed::Span(Span { end, size })
+    Passed::Span(Passage { end, size })
 }
 
 fn refuse(kind: RefusalKind, place: usize) -> Passed
-    ensures { λ r. ⌜ passTold r ≡ refused (kindNumber kind) place ⌝ }
+    ensures { λ r. ⌜ passTold r ≡ passRefused (kindNumber kind) place ⌝ }
 {
     Passed::Refused(Refusal { kind, place })
 }
@@ -68,7 +69,7 @@ fn with_major(major: u8, span: Passed) -> Walked
     ensures { λ r. ⌜ walkTold r ≡ withMajor major (passTold span) ⌝ }
 {
     match span {
-        Passed::Span(m) => Walked::Made(Made {
+        Passed::Span(m) => Walked::Made(WalkedItem {
             end: m.end,
             major,
             size: m.size,
@@ -105,7 +106,7 @@ pub fn item_after(from: usize, inner: Walked) -> Walked
     ensures { λ r. ⌜ walkTold r ≡ itemAfter from (walkTold inner) ⌝ }
 {
     match inner {
-        Walked::Made(m) => Walked::Made(Made {
+        Walked::Made(m) => Walked::Made(WalkedItem {
             end: sum(from, m.end),
             major: m.major,
             size: m.size,
@@ -164,7 +165,7 @@ fn is_text(bytes: &[u8], text: bool) -> bool
 // The content of a string: `n` bytes behind its head, which is at the front.
 fn content(bytes: &[u8], from: usize, n: u64, text: bool) -> Passed
     requires { ⌜ Within (now bytes) from ⌝ }
-    ensures { λ r. ⌜ passTold r ≡ toldOf (length (now (bytes .entry))) (sized length (content (kindOf text) n (length (now (bytes .entry))) (drop from (now (bytes .entry))))) ⌝ }
+    ensures { λ r. ⌜ passTold r ≡ toldOf (length (now (bytes .entry))) (mapResult length (contentAt (kindOf text) n (length (now (bytes .entry))) (drop from (now (bytes .entry))))) ⌝ }
 {
     if ((bytes.len() - from) as u64) < n {
         return refuse(RefusalKind::EndsInside, 0);
@@ -184,7 +185,7 @@ fn string_major(text: bool) -> u8
 
 // A chunk of a string.
 fn chunk(bytes: &[u8], text: bool) -> Passed
-    ensures { λ r. ⌜ passTold r ≡ toldOf (length (now (bytes .entry))) (sized chunkContents (chunk (kindOf text) (now (bytes .entry)))) ⌝ }
+    ensures { λ r. ⌜ passTold r ≡ toldOf (length (now (bytes .entry))) (mapResult chunkContents (chunkAt (kindOf text) (now (bytes .entry)))) ⌝ }
 {
     if bytes.len() == 0 {
         return refuse(RefusalKind::EndsInside, 0);
@@ -279,7 +280,7 @@ fn tag(bytes: &[u8], from: usize, n: u64, levels: usize) -> Passed
 
 // An entry of a map: a key and its value.
 fn entry(bytes: &[u8], levels: usize) -> Passed
-    ensures { λ r. ⌜ passTold r ≡ toldOf (length (now (bytes .entry))) (sized entryContents (entry (below levels) (now (bytes .entry)))) ⌝ }
+    ensures { λ r. ⌜ passTold r ≡ toldOf (length (now (bytes .entry))) (mapResult entryContents (entryAt (below levels) (now (bytes .entry)))) ⌝ }
 {
     let key = below(bytes, levels);
     match key {

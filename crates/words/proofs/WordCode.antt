@@ -21,9 +21,10 @@ use Rattle.notation.specs.Cutting.{startsWith, afterMinus}
 use Rattle.notation.specs.Reading.{marked}
 use Rattle.scanning.specs.Stands.{span}
 use Rattle.scanning.specs.ScanAnswers.{Classed, isNext, Peeked}
-use Rattle.token.specs.TokenAnswers.{itemCode, beginCode, codeOf, itemMark, beginMark, markOf, itemNumber, beginNumber, numberOf, BeginsAs, Written, Says, Refused, Made}
-use Rattle.numbers.specs.NumberAnswers.{heavy, Counts, Scans, Counted, signOf}
-use Rattle.words.specs.WordAnswers.{Part, Enclosed, otherWord, valueWord, prefixWord, Simples, SimpleIn, frontClass, Stood}
+use Rattle.token.specs.TokenAnswers.{itemCode, beginCode, codeOf, itemMark, beginMark, markOf, itemNumber, beginNumber, numberOf, BeginsAs, Written, Says, Refused, TokenMade}
+use Rattle.numbers.specs.NumberAnswers.{heavy, Counts, ScansDigits, Counted}
+use Rattle.cbor.specs.Flags.{signOf}
+use Rattle.words.specs.WordAnswers.{WordPart, Enclosed, otherWord, valueWord, prefixWord, Simples, SimpleIn, frontClass, Stood}
 use Rattle.numbers.specs.declared.amount.Amount.{Amount}
 use Rattle.numbers.specs.declared.amount.Digits.{Digits}
 use Rattle.token.specs.declared.Token.{Token as Cut}
@@ -83,7 +84,7 @@ same-starts [] (y ∷ b) r e = absurd (omega arith)
 same-starts (x ∷ a) [] r e = absurd (omega arith)
 same-starts (x ∷ a) (y ∷ b) r e = let h = same-starts a b r (omega arith) in rw (h, eqb-sym y x)
 
-module _ {s : List ℕ} {from end : ℕ} (u : List ℕ) (p : Part s from end) where
+module _ {s : List ℕ} {from end : ℕ} (u : List ℕ) (p : WordPart s from end) where
   pub part-inside : from ≤ length s
   part-inside = omega (arith, p .ahead, p .inside)
 
@@ -166,7 +167,7 @@ unfolding isPlainDecimal
 several b [] h = absurd (omega arith)
 several b (c ∷ l) h = refl
 
-module _ {s : List ℕ} {from end : ℕ} (p : Part s from end) where
+module _ {s : List ℕ} {from end : ℕ} (p : WordPart s from end) where
   pub plain-none : end - from ≡ 0 → false ≡ isPlainDecimal (span from end (marked s))
   unfolding isPlainDecimal
   plain-none e = let f : end ≡ from = omega (arith, p .ahead) in rw (f, span-none from (marked s))
@@ -227,7 +228,7 @@ simple-value a n c e = go (a .over) refl
     go true f = absurd (clash (sym e ∙ sym (simple-over a f .is n c)))
     go false f = sym (amount-is a f n c)
 
-pub enclosed-part : {s : List ℕ} {from end : ℕ} → Enclosed s from end → Part s from end
+pub enclosed-part : {s : List ℕ} {from end : ℕ} → Enclosed s from end → WordPart s from end
 enclosed-part p = record { ahead = p .ahead; inside = omega (arith, p .inside) }
 
 module _ {s : List ℕ} {place from end : ℕ} {a : Amount} {t : Cut} (q : Enclosed s from end) (u : Bool) (f : u ≡ isPlainDecimal (span from end (marked s))) where
@@ -240,7 +241,7 @@ module _ {s : List ℕ} {place from end : ℕ} {a : Amount} {t : Cut} (q : Enclo
     unfolding simpleBy
     simple-bad k r = record { is = λ c. says-as (rw (sym f ∙ h, simpleBy) (rw (sym (g .is _ c) ∙ k))) (says-refuse 0 r) }
 
-    pub simple-good : v ≡ true → Made 3 0 (a .value) place (end + 1) t → SimpleIn s place from end a t
+    pub simple-good : v ≡ true → TokenMade 3 0 (a .value) place (end + 1) t → SimpleIn s place from end a t
     unfolding simpleBy codeOf beginCode itemCode markOf beginMark itemMark numberOf beginNumber itemNumber Written BeginsAs
     simple-good k m =
         record {
@@ -253,7 +254,7 @@ module _ {s : List ℕ} {place from end : ℕ} {a : Amount} {t : Cut} (q : Enclo
 
 pub ruleset simple-ins = (simple-shape, simple-bad, simple-good)
 
-pub simple-scans : {s : List ℕ} {at : ℕ} {t : Bool} → Peeked s at 0x28 t → t ≡ true → Scans s (at + 1) 10 0
+pub simple-scans : {s : List ℕ} {at : ℕ} {t : Bool} → Peeked s at 0x28 t → t ≡ true → ScansDigits s (at + 1) 10 0
 simple-scans p e = record { inside = p .inside e; least = omega arith; most = omega arith; start = omega arith }
 
 pub simple-enclosed : {s : List ℕ} {from : ℕ} {d : Digits} {t : Bool} → Counted s from 10 0 d → Peeked s (d .next) 0x29 t → t ≡ true → Enclosed s from (d .next)
@@ -301,14 +302,14 @@ worded-is w r = go (same w falseWord) (same w trueWord) (same w nullWord) (same 
 by-number : (w r : List ℕ) (k : ℕ) → k ≡ valueWord w → worded w r ≡ wordedBy k r
 by-number w r k e = worded-is w r ∙ ap (λ (j : ℕ). wordedBy j r) (sym e)
 
-module _ {s : List ℕ} {place end : ℕ} {t : Cut} (p : Part s place end) (k : ℕ) (e : k ≡ valueWord (span place end (marked s))) where
+module _ {s : List ℕ} {place end : ℕ} {t : Cut} (p : WordPart s place end) (k : ℕ) (e : k ≡ valueWord (span place end (marked s))) where
   pub worded-simple : k ≡ 24 → Says s place t (simpleToken (drop end (marked s))) → Says s place t (worded (span place end (marked s)) (drop end (marked s)))
   worded-simple f h = says-as (by-number (span place end (marked s)) (drop end (marked s)) k e ∙ rw f) h
 
   pub worded-refused : (k ≡ 24 → ⊥) → k < 20 → Refused k place t → Says s place t (worded (span place end (marked s)) (drop end (marked s)))
   worded-refused n l r = says-as (by-number (span place end (marked s)) (drop end (marked s)) k e ∙ (rw (ne-eqb k 24 n, wordedBy) (rw (lt-ltb k 20 l)))) (says-refuse 0 r)
 
-  pub worded-value : (k ≡ 24 → ⊥) → 20 ≤ k → Made 3 0 k place end t → Says s place t (worded (span place end (marked s)) (drop end (marked s)))
+  pub worded-value : (k ≡ 24 → ⊥) → 20 ≤ k → TokenMade 3 0 k place end t → Says s place t (worded (span place end (marked s)) (drop end (marked s)))
   unfolding value codeOf beginCode itemCode markOf beginMark itemMark numberOf beginNumber itemNumber Written BeginsAs
   worded-value n l m = says-as (by-number (span place end (marked s)) (drop end (marked s)) k e ∙ (rw (ne-eqb k 24 n, wordedBy) (rw (le-ltb k 20 l)))) (says-made m (begins (leaf (simple k))) refl refl refl tt (p .inside))
 

@@ -16,7 +16,7 @@ use Rattle.numbers.specs.declared.amount.Amount.{Amount}
 use Rattle.token.specs.declared.Token.{Token as Cut}
 
 -- a part of a text
-pub record Part (s : List ℕ) (from end : ℕ) : Type 0 where
+pub record WordPart (s : List ℕ) (from end : ℕ) : Type 0 where
   pub ahead : from ≤ end
   pub inside : end ≤ length s
 

@@ -15,7 +15,7 @@ ghost use Rattle.notation.specs.Cutting.{startsWith, afterMinus};
 ghost use Rattle.notation.specs.Reading.{marked};
 ghost use Rattle.scanning.specs.Stands.{span};
 ghost use Rattle.token.specs.TokenAnswers.{Says};
-ghost use Rattle.words.specs.WordAnswers.{Part, Enclosed, otherWord, valueWord, prefixWord, Simples, SimpleIn, Stood};
+ghost use Rattle.words.specs.WordAnswers.{WordPart, Enclosed, otherWord, valueWord, prefixWord, Simples, SimpleIn, Stood};
 
 // Whether a word begins at a place.
 fn starts_with(text: &[u8], at: usize, word: &[u8]) -> bool
@@ -34,7 +34,7 @@ fn starts_with(text: &[u8], at: usize, word: &[u8]) -> bool
 
 // Whether a part of a text is a word.
 fn is_same(text: &[u8], from: usize, end: usize, word: &[u8]) -> bool
-    requires { ⌜ Part (now text) from end ⌝ }
+    requires { ⌜ WordPart (now text) from end ⌝ }
     ensures { λ r. ⌜ r ≡ same (span from end (marked (now (text .entry)))) (now (word .entry)) ⌝ }
 {
     if end - from == word.len() {
@@ -45,7 +45,7 @@ fn is_same(text: &[u8], from: usize, end: usize, word: &[u8]) -> bool
 
 // Why a word is refused.
 fn other_word(text: &[u8], from: usize, end: usize) -> u8
-    requires { ⌜ Part (now text) from end ⌝ }
+    requires { ⌜ WordPart (now text) from end ⌝ }
     ensures { λ r. ⌜ r ≡ otherWord (span from end (marked (now (text .entry)))) ⌝ }
 {
     if is_same(text, from, end, b"NaN") {
@@ -59,7 +59,7 @@ fn other_word(text: &[u8], from: usize, end: usize) -> u8
 
 // The number of a word.
 fn value_word(text: &[u8], from: usize, end: usize) -> u8
-    requires { ⌜ Part (now text) from end ⌝ }
+    requires { ⌜ WordPart (now text) from end ⌝ }
     ensures { λ r. ⌜ r ≡ valueWord (span from end (marked (now (text .entry)))) ⌝ }
 {
     if is_same(text, from, end, b"false") {
@@ -82,7 +82,7 @@ fn value_word(text: &[u8], from: usize, end: usize) -> u8
 
 // The form of literal that a prefix gives, 2 or 3.
 pub fn prefix_word(text: &[u8], from: usize, end: usize) -> u8
-    requires { ⌜ Part (now text) from end ⌝ }
+    requires { ⌜ WordPart (now text) from end ⌝ }
     ensures { λ r. ⌜ r ≡ prefixWord (span from end (marked (now (text .entry)))) ⌝ }
 {
     if is_same(text, from, end, b"h") {
@@ -96,7 +96,7 @@ pub fn prefix_word(text: &[u8], from: usize, end: usize) -> u8
 
 // Whether digits are a decimal without leading zero.
 fn plain_decimal(text: &[u8], from: usize, end: usize) -> bool
-    requires { ⌜ Part (now text) from end ⌝ }
+    requires { ⌜ WordPart (now text) from end ⌝ }
     ensures { λ r. ⌜ r ≡ isPlainDecimal (span from end (marked (now (text .entry)))) ⌝ }
 {
     let size = end - from;
@@ -160,7 +160,7 @@ fn simple_token(text: &[u8], place: usize, at: usize) -> Token
 
 // A word with no `'` behind it.
 pub fn worded(text: &[u8], place: usize, end: usize) -> Token
-    requires { ⌜ Part (now text) place end ⌝ }
+    requires { ⌜ WordPart (now text) place end ⌝ }
     ensures { λ r. ⌜ Says (now (text .entry)) place r (worded (span place end (marked (now (text .entry)))) (drop end (marked (now (text .entry))))) ⌝ }
 {
     let k = value_word(text, place, end);

@@ -1,7 +1,7 @@
 -- `tokens::scan::Cursor::word` meets its contract.
 -- Assumes nothing.
-use Rattle.scanning.proofs.scan.Cursor.word.Statement.{statement}
-use Rattle.scanning.proofs.scan.Cursor.word.Tie as tie
+use Rattle.scanning.proofs.scan.TextCursor.word.Statement.{statement}
+use Rattle.scanning.proofs.scan.TextCursor.word.Tie as tie
 use borrow.Author.Needs.{needs}
 use Rattle.scanning.proofs.ScanCode.{word-start, word-step, word-stop, word-end}
 use Rattle.scanning.proofs.Marked.{Running}

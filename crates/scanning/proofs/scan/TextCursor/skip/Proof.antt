@@ -1,7 +1,7 @@
 -- `tokens::scan::Cursor::skip` meets its contract.
 -- Assumes nothing.
-use Rattle.scanning.proofs.scan.Cursor.skip.Statement.{statement}
-use Rattle.scanning.proofs.scan.Cursor.skip.Tie as tie
+use Rattle.scanning.proofs.scan.TextCursor.skip.Statement.{statement}
+use Rattle.scanning.proofs.scan.TextCursor.skip.Tie as tie
 use borrow.Author.Needs.{needs}
 use Rattle.scanning.proofs.ScanCode.{Skimming, skim-start, skim-step, skim-stop, skim-end}
 use Prim.Native.Nat.{_-_}
