@@ -196,14 +196,14 @@ refuses-refused {B = B} s m n (refuse k w) f h = go (leb (length s) mostBytes) (
     go false b = (tooLong, 0, refl)
 
 -- a text and the items that it has
-record Read (t : List ℕ) (xs : Items) : Type 0 where
-  passes : Passes t
-  closed : Closed
-  rest : List ℕ
-  reading : sequence t ≡ ok closed rest
-  all : closed .all ≡ xs
+pub record Read (t : List ℕ) (xs : Items) : Type 0 where
+  pub passes : Passes t
+  pub closed : Closed
+  pub rest : List ℕ
+  pub reading : sequence t ≡ ok closed rest
+  pub all : closed .all ≡ xs
 
-read-ok : (t : List ℕ) (xs : Items) → readText t ≡ accepted xs → Read t xs
+pub read-ok : (t : List ℕ) (xs : Items) → readText t ≡ accepted xs → Read t xs
 unfolding readText
 read-ok t xs e =
     let c = checked-ok t _ e in
@@ -216,7 +216,7 @@ unfolding readText verdictOf
 read-is t c r h e = checked-is t _ h ∙ ap (verdictOf (suc (length t))) (bind-ok _ e)
 
 -- nothing more is skipped of what is left
-skip-twice : (s : List ℕ) → skip (skip s) ≡ skip s
+pub skip-twice : (s : List ℕ) → skip (skip s) ≡ skip s
 skip-twice s = let f = lexing .skips s in sym (f .2 (skip s)) ∙ ap skip (sym (f .1))
 
 skip-most : (s : List ℕ) → length (skip s) ≤ length s
@@ -259,7 +259,7 @@ module _ (t : List ℕ) (xs : Items) (k : ℕ) (p : List ℕ) (z : Span) (rd : R
   own-is : reads (one (levelsAt mostLevels p)) (skip (sp .from)) ≡ ok (sp .old) (sp .behind)
   own-is = reads-skips (one (levelsAt mostLevels p)) (sp .from) (skip (sp .from)) (skip-twice (sp .from)) ∙ sp .was
 
-  own : Took (λ m n. reads (one (levelsAt mostLevels p))) (skip (sp .from)) (sp .old) (sp .behind)
+  pub own : Took (λ m n. reads (one (levelsAt mostLevels p))) (skip (sp .from)) (sp .old) (sp .behind)
   own = took (one (levelsAt mostLevels p)) (skip (sp .from)) own-is
 
   starts-at : marked (dropN (z .start) t) ≡ skip (sp .from)
@@ -280,7 +280,7 @@ module _ (t : List ℕ) (xs : Items) (k : ℕ) (p : List ℕ) (z : Span) (rd : R
       omega
       (arith, sp .start, sp .end, simp length-append at (ap length (own .split)), simp (length-append, length-drop) at (ap length starts-at), simp (length-append, length-drop) at (ap length ends-at))
 
-  own-text : textAt t z ≡ own .used
+  pub own-text : textAt t z ≡ own .used
   unfolding textAt
   own-text = ap (takeN (z .end - z .start)) own-split ∙ take-at (own .used) (dropN (z .end) t) (z .end - z .start) own-length
 

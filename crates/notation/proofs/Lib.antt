@@ -27,3 +27,5 @@ pub mod TextQuoted
 pub mod SoundToken
 pub mod SoundForm
 pub mod SoundRead
+pub mod Ways
+pub mod AllFound

@@ -168,7 +168,7 @@ pairs-element true d = record { begin = λ g s r i. pairs-begin true d g s r i; 
 pairs-element false d = record { begin = λ g s r i. pairs-begin false d g s r i; bar = λ h′ i k hard f p q s. f }
 
 -- THE WAY PAST AN ITEM AND A SEPARATOR
-tokenOf : Separator → Token
+unfoldable pub tokenOf : Separator → Token
 tokenOf byComma = aComma
 tokenOf byColon = aColon
 

@@ -1,5 +1,5 @@
--- Every token is well formed and leaves a text in UTF-8: leaves are well formed items, literals strings that fit their heads, tags
--- fit theirs. What it holds is at most nine times its text.
+-- Every token is well formed and leaves a text in UTF-8: leaves are well formed items of no level, literals strings that fit their
+-- heads, tags fit theirs. What it holds is at most nine times its text.
 use Prim.Native.Nat.{ℕ, zero, suc, _+_, _*_, _≤_, _<_}
 use native.Mathlib.Omega.{arith}
 use mathlib.Core.Path.{_≡_, refl}
@@ -11,7 +11,7 @@ use lib.ListN.{length}
 use borrow.Author.Tests.{leb-true, ltb-true, eqb-true}
 use Rattle.cbor.specs.Refusals.{Result, ok, refuse, bind, noToken, unknownWord, badIndicator}
 use Rattle.cbor.specs.Widths.{Width, w0, w1, w2, w4, w8, argumentBytes, limit, fits, shortest}
-use Rattle.cbor.specs.Items.{Sign, unsigned, negative, Kind, byteString, textString, Size, definite, indefinite}
+use Rattle.cbor.specs.Items.{Sign, unsigned, negative, Kind, byteString, textString, Size, definite, indefinite, levels}
 use Rattle.cbor.specs.Heads.{Major, integers, simples, head}
 use Rattle.cbor.specs.Encode.{encode}
 use Rattle.cbor.specs.Utf8.{Range, isUtf8}
@@ -47,7 +47,7 @@ OpenerSound (tagging w n) = n ≤ limit w
 OpenerSound embedding = Unit
 
 abbrev pub TokenSound : Token → Type 0
-TokenSound (begins (leaf x)) = Valid x × (length (encode x) ≤ 9)
+TokenSound (begins (leaf x)) = Valid x × (length (encode x) ≤ 9) × (levels x ≡ 0)
 TokenSound (begins (literal k z b)) = LiteralSound k z b
 TokenSound (begins chunking) = Unit
 TokenSound (begins (opens o)) = OpenerSound o
@@ -107,8 +107,8 @@ choose-fits (wide w) n h = tested (Chose n) (leb n (limit w)) _ _ (λ e. leb-tru
 -- INTEGERS AND TAGS, read from n
 
 int-sound : (g : Sign) (m : ℕ) (w : Width) → m ≤ limit w → TokenSound (integerToken g m w) × (weight (integerToken g m w) ≡ 0)
-unfolding integerToken Valid encode
-int-sound g m w h = ((h, head-most (integers g) w m), refl)
+unfolding integerToken Valid encode levels
+int-sound g m w h = ((h, head-most (integers g) w m, refl), refl)
 
 -- a letter that gives a radix is ASCII
 abbrev Radix : ℕ → ℕ → Type 0
@@ -231,8 +231,8 @@ module _ (n : ℕ) (short : n ≤ most) where
   -- WORDS
 
   value-cuts : (m : ℕ) → isSimple m ≡ true → (r : List ℕ) → Text true [] r → length r ≤ n → Cut n (value m r)
-  unfolding value Valid encode
-  value-cuts m h r t l = (t, ((h, head-most simples (shortest m) m), omega arith))
+  unfolding value Valid encode levels
+  value-cuts m h r t l = (t, ((h, head-most simples (shortest m) m, refl), omega arith))
 
   simple-cuts : (s : List ℕ) → Text true [] s → length s ≤ n → Cut n (simpleToken s)
   unfolding simpleToken simpleBy value

@@ -81,7 +81,7 @@ unfolding alone
 alone-ok d x [] e = ap (λ (v : Item). ok v []) (cc)
 alone-ok d x (b ∷ z) e = absurd (outside-not d (b ∷ z) e)
 
-single-ok : (d : ℕ) (new : List ℕ) {y : Item} {r : List ℕ} → single d new ≡ ok y r → reads (one d) new ≡ ok y []
+pub single-ok : (d : ℕ) (new : List ℕ) {y : Item} {r : List ℕ} → single d new ≡ ok y r → reads (one d) new ≡ ok y []
 unfolding single
 single-ok d new {y} {r} e = go (eqb (place new) (length new)) e
   where
