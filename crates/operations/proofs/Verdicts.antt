@@ -13,7 +13,7 @@ use Rattle.cbor.specs.Decode.{mostBytes}
 use Rattle.memory.specs.Buffer.{over}
 use Rattle.cbor.proofs.Results.{refused-not-accepted}
 use Rattle.operations.specs.Operations.{andThen, room, fitting, written, zeroed}
-use Rattle.operations.specs.Demands.{Agree}
+use Rattle.operations.specs.Demands.{Kept, Agree}
 
 pub onward-ok : {A B : Type 0} (v : Verdict A) (k : A → Verdict B) {y : B} → andThen v k ≡ accepted y → (x : A) × (v ≡ accepted x) × (k x ≡ accepted y)
 unfolding andThen
@@ -68,13 +68,25 @@ pub agree-same : (buffer fresh : List ℕ) (used : ℕ) (v : Verdict (List ℕ))
 unfolding written zeroed
 agree-same buffer fresh used (accepted w) =
     record {
-      success = λ n. (λ e. e, λ e. e);
-      bytes = λ n e. let m : length w ≡ n = cc in rw (← m) (front buffer w (replicate (used - length w) 0) ∙ sym (front-all fresh w));
+      success = (λ e. e, λ e. e);
+      lengths = λ n m e f. cc;
+      bytes = λ n e f. let m : length w ≡ n = cc in rw (← m) (front buffer w (replicate (used - length w) 0) ∙ sym (front-all fresh w));
     }
-agree-same buffer fresh used (refused n q) = record { success = λ m. (λ e. e, λ e. e); bytes = λ m e. absurd (refused-not-accepted e) }
+agree-same buffer fresh used (refused n q) =
+    record { success = (λ e. e, λ e. e); lengths = λ n m e f. absurd (refused-not-accepted e); bytes = λ n e f. absurd (refused-not-accepted e) }
 
 -- two refusals
 pub agree-refused : (buffer fresh : List ℕ) (f g : List ℕ → List ℕ) (v w : Verdict (List ℕ)) {n q m r : ℕ} → v ≡ refused n q → w ≡ refused m r → Agree (written buffer f v) (written fresh g w)
 unfolding written
 agree-refused buffer fresh f g v w i j =
-    rw (i, j) (record { success = λ n. (λ e. absurd (refused-not-accepted e), λ e. absurd (refused-not-accepted e)); bytes = λ n e. absurd (refused-not-accepted e) })
+    rw (i, j) (record {
+      success = (λ e. absurd (refused-not-accepted (e .1)), λ e. absurd (refused-not-accepted (e .1)));
+      lengths = λ n m e f. absurd (refused-not-accepted e);
+      bytes = λ n e f. absurd (refused-not-accepted e);
+    })
+
+-- a refusal is written nowhere
+pub written-kept : (buffer : List ℕ) (laid : List ℕ → List ℕ) (v : Verdict (List ℕ)) → Kept buffer (written buffer laid v)
+unfolding written
+written-kept buffer laid (accepted w) n q e = absurd (refused-not-accepted (sym e))
+written-kept buffer laid (refused k p) n q e = refl
