@@ -48,7 +48,7 @@ unfoldable pub count₂ : Pairs → ℕ
 count₂ none₂ = 0
 count₂ (more₂ k x ps) = suc (count₂ ps)
 
--- "Each array, map, tag and << is one level; strings and chunked strings are none" (document 01, Sizes; << is a string in bytes)
+-- "Each array, map, tag and `<<` is one level; strings and chunked strings are none." (document 01, Sizes; in bytes `<<` is a string)
 unfoldable mutual
   pub levels : Item → ℕ
   levels (int g w n) = 0
