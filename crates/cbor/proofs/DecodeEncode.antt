@@ -7,14 +7,14 @@ use mathlib.Core.List.{List, [], _∷_, _++_, append-assoc, append-nil}
 use lib.Dec.{leb, eqb}
 use lib.ListN.{length, length-append}
 use borrow.Author.Tests.{eq-eqb, le-leb, lt-leb, leb-true, leb-false}
-use Rattle.cbor.specs.Refusals.{Result, ok, refuse, bind, tooDeep}
-use Rattle.cbor.specs.Widths.{Width, w0, w1, w2, w4, w8, limit, fits, shortest, information}
+use Rattle.cbor.specs.Refusals.{ok, refuse, bind, tooDeep}
+use Rattle.cbor.specs.Widths.{Width, w0, w1, limit, fits, shortest, information}
 use Rattle.cbor.specs.Items.{Sign, unsigned, negative, Kind, byteString, textString, Size, definite, indefinite, Chunk, Item, int, string, chunked, array, map, tag, simple, Items, none, more, Pairs, none₂, more₂, count, count₂, levels, levelsAll, levelsAll₂}
-use Rattle.cbor.specs.Heads.{Major, integers, strings, arrays, maps, tags, simples, majorNumber, initial, head, Head, isFloat, isAllowed, isIndefinite, taking, nextHead, break}
-use Rattle.cbor.specs.Encode.{encodeString, opening, closing, enclosed, encodeChunks, encode, encodeAll, encodeAll₂}
+use Rattle.cbor.specs.Heads.{Major, integers, strings, arrays, maps, tags, simples, majorNumber, initial, head, Head, isFloat, isAllowed, isIndefinite, nextHead}
+use Rattle.cbor.specs.Encode.{encodeString, openingHead, closingBreak, enclosed, encodeChunks, encode, encodeAll, encodeAll₂}
 use Rattle.cbor.specs.TypedArrays.{mayTag}
-use Rattle.cbor.specs.Valid.{Bytes, isText, ValidString, ValidChunks, Fits, isSimple, Valid, ValidAll, ValidAll₂}
-use Rattle.cbor.specs.Decode.{Until, counted, broken, ended, several, content, chunkBy, chunk, Entry, entry, extent, tagged, elements, pair, entries, chunks, Enter, itemBy, itemWith, item, decode, mostBytes, mostLevels}
+use Rattle.cbor.specs.Valid.{isText, ValidString, ValidChunks, Fits, isSimple, Valid, ValidAll, ValidAll₂}
+use Rattle.cbor.specs.Decode.{broken, ended, several, contentAt, chunkBy, chunkAt, entryAt, extent, tagged, elements, pair, entries, chunksOf, Enter, itemBy, itemWith, item, decode, mostBytes, mostLevels}
 use Rattle.cbor.specs.Theorems.{ItemOfEncode, DecodeOfEncode}
 use Rattle.cbor.proofs.Heads.{major-most, information-most, head-read, opening-read, taking-all}
 use Rattle.cbor.proofs.Several.{tailOf, Meets, Begins, begins-more, Reads, reads-nil, reads-cons, reads-all}
@@ -53,8 +53,8 @@ plain-tags : Plain tags
 unfolding isFloat isAllowed majorNumber
 plain-tags = record { whole = λ w. refl; free = λ w n. refl; most = omega arith }
 
-begins-opening : (m : Major) (z : Size) (n : ℕ) → Plain m → Fits z n → Begins (opening m z n)
-unfolding opening Fits initial
+begins-opening : (m : Major) (z : Size) (n : ℕ) → Plain m → Fits z n → Begins (openingHead m z n)
+unfolding openingHead Fits initial
 begins-opening m (definite w) n p h = begins-head m w n h
 begins-opening m indefinite n p h = record { first = _; rest = _; is = refl; low = omega (arith, p .most) }
 
@@ -117,13 +117,13 @@ shown (definite w) n = n
 shown indefinite n = 0
 
 pub opening-shown : (m : Major) (z : Size) (n : ℕ) (r : List ℕ) → Plain m → isIndefinite m ≡ true → Fits z n
-    → nextHead (opening m z n ++ r) ≡ ok (record { major = m; size = z; argument = shown z n }) r
-unfolding opening Fits
+    → nextHead (openingHead m z n ++ r) ≡ ok (record { major = m; size = z; argument = shown z n }) r
+unfolding openingHead Fits
 opening-shown m (definite w) n r p i h = head-read m w n r h (p .whole w) (p .free w n)
 opening-shown m indefinite n r p i h = opening-read m r i
 
-pub closing-tail : (z : Size) (n : ℕ) (r : List ℕ) → closing z ++ r ≡ tailOf (extent z n) r
-unfolding closing extent
+pub closing-tail : (z : Size) (n : ℕ) (r : List ℕ) → closingBreak z ++ r ≡ tailOf (extent z n) r
+unfolding closingBreak extent
 closing-tail (definite w) n r = refl
 closing-tail indefinite n r = refl
 
@@ -137,11 +137,11 @@ enclosed-read : (d : ℕ) (m : Major) (z : Size) (n : ℕ) (c r : List ℕ) → 
     → (left : ℕ) × (item d (enclosed m z n c ++ r) ≡ itemBy (enterAt d) m z (shown z n) left (c ++ tailOf (extent z (shown z n)) r))
 unfolding enclosed
 enclosed-read d m z n c r p i h =
-    let split : (opening m z n ++ (c ++ closing z)) ++ r ≡ opening m z n ++ (c ++ tailOf (extent z (shown z n)) r) = simp append-assoc (rw (closing-tail z (shown z n) r)) in
+    let split : (openingHead m z n ++ (c ++ closingBreak z)) ++ r ≡ openingHead m z n ++ (c ++ tailOf (extent z (shown z n)) r) = simp append-assoc (rw (closing-tail z (shown z n) r)) in
     (_, ap (item d) split ∙ by-head d _ _ _ (opening-shown m z n (c ++ tailOf (extent z (shown z n)) r) p i h))
 
-content-read : (k : Kind) (b r : List ℕ) (left : ℕ) → isText k b ≡ true → content k (length b) left (b ++ r) ≡ ok b r
-unfolding content bind
+content-read : (k : Kind) (b r : List ℕ) (left : ℕ) → isText k b ≡ true → contentAt k (length b) left (b ++ r) ≡ ok b r
+unfolding contentAt bind
 content-read k b r left e = rw (taking-all (length b) left b r refl) (rw (e, bind))
 
 string-head : (k : Kind) (w : Width) (b r : List ℕ) → ValidString k w b
@@ -153,27 +153,27 @@ string-head k w b r v =
 -- CHUNKS
 
 pub chunk-by : (k : Kind) (b : ℕ) (s : List ℕ) (h : Head) (r : List ℕ) → b / 32 ≡ majorNumber (strings k) → nextHead (b ∷ s) ≡ ok h r
-    → chunk k (b ∷ s) ≡ chunkBy k (h .size) (h .argument) (suc (length s)) r
-unfolding chunk bind
-chunk-by k b s h r e f = rw (eq-eqb (b / 32) (majorNumber (strings k)) e, chunk) (rw f)
+    → chunkAt k (b ∷ s) ≡ chunkBy k (h .size) (h .argument) (suc (length s)) r
+unfolding chunkAt bind
+chunk-by k b s h r e f = rw (eq-eqb (b / 32) (majorNumber (strings k)) e, chunkAt) (rw f)
 
-chunk-read : (k : Kind) (c : Chunk) (r : List ℕ) → ValidString k (c .width) (c .content) → chunk k (encodeString k (c .width) (c .content) ++ r) ≡ ok c r
+chunk-read : (k : Kind) (c : Chunk) (r : List ℕ) → ValidString k (c .width) (c .content) → chunkAt k (encodeString k (c .width) (c .content) ++ r) ≡ ok c r
 unfolding chunkBy bind encodeString head initial
 chunk-read k c r v =
     let m : (majorNumber (strings k) * 32 + information (c .width) (length (c .content))) / 32 ≡ majorNumber (strings k) = omega (arith, information-most (c .width) (length (c .content)) (v .fit)) in
     chunk-by k _ _ _ _ m (string-head k (c .width) (c .content) r v) ∙ rw (content-read k (c .content) r _ (v .good))
 
-chunks-read : (k : Kind) (cs : List Chunk) → ValidChunks k cs → Reads [] _∷_ (chunk k) cs (length cs) (encodeChunks k cs)
+chunks-read : (k : Kind) (cs : List Chunk) → ValidChunks k cs → Reads [] _∷_ (chunkAt k) cs (length cs) (encodeChunks k cs)
 unfolding ValidChunks encodeChunks
-chunks-read k [] v = reads-nil [] _∷_ (chunk k)
+chunks-read k [] v = reads-nil [] _∷_ (chunkAt k)
 chunks-read k (c ∷ cs) v =
-    reads-cons [] _∷_ (chunk k) c cs (length cs) _ _ (begins-string k (c .width) (c .content) (v .0)) (λ s. chunk-read k c s (v .0)) (chunks-read k cs (v .1))
+    reads-cons [] _∷_ (chunkAt k) c cs (length cs) _ _ (begins-string k (c .width) (c .content) (v .0)) (λ s. chunk-read k c s (v .0)) (chunks-read k cs (v .1))
 
 -- ITEMS
 
 entry-read : (d : ℕ) (a b : List ℕ) (k x : Item) → ((s : List ℕ) → item d (a ++ s) ≡ ok k s) → ((s : List ℕ) → item d (b ++ s) ≡ ok x s) → (s : List ℕ)
-    → entry (item d) ((a ++ b) ++ s) ≡ ok (record { key = k; value = x }) s
-unfolding entry bind
+    → entryAt (item d) ((a ++ b) ++ s) ≡ ok (record { key = k; value = x }) s
+unfolding entryAt bind
 entry-read d a b k x e f s = rw (append-assoc a b s, e (b ++ s)) (rw (f s))
 
 tag-read : (d : ℕ) (w : Width) (n : ℕ) (x : Item) (b r : List ℕ) → n ≤ limit w → mayTag n x ≡ true → item d (b ++ r) ≡ ok x r → item (suc d) ((head tags w n ++ b) ++ r) ≡ ok (tag w n x) r
@@ -182,13 +182,13 @@ tag-read d w n x b r h t e =
     ap (item (suc d)) (append-assoc (head tags w n) b r) ∙ by-head (suc d) _ _ _ (head-read tags w n (b ++ r) h (plain-tags .whole w) (plain-tags .free w n)) ∙ rw e (rw (t, tagged))
 
 mutual
-  unfolding encode encodeAll encodeAll₂ Valid ValidAll ValidAll₂ levels levelsAll levelsAll₂ count count₂ Fits isIndefinite itemBy elements entries chunks extent bind
+  unfolding encode encodeAll encodeAll₂ Valid ValidAll ValidAll₂ levels levelsAll levelsAll₂ count count₂ Fits isIndefinite itemBy elements entries chunksOf extent bind
 
   pub item-read : (x : Item) (d : ℕ) (r : List ℕ) → Valid x → levels x ≤ d → item d (encode x ++ r) ≡ ok x r
   item-read (int g w n) d r v h = by-head d _ _ r (head-read (integers g) w n r v (plain-integers g .whole w) (plain-integers g .free w n))
   item-read (string k w b) d r v h = by-head d _ _ (b ++ r) (string-head k w b r v) ∙ rw (content-read k b r _ (v .good))
   item-read (chunked k cs) d r v h =
-      enclosed-read d (strings k) indefinite 0 (encodeChunks k cs) r (plain-strings k) refl tt .1 ∙ rw (reads-all [] _∷_ (chunk k) cs (length cs) _ (chunks-read k cs v) broken r tt)
+      enclosed-read d (strings k) indefinite 0 (encodeChunks k cs) r (plain-strings k) refl tt .1 ∙ rw (reads-all [] _∷_ (chunkAt k) cs (length cs) _ (chunks-read k cs v) broken r tt)
   item-read (array z xs) zero r v h = absurd (omega arith)
   item-read (array z xs) (suc d) r v h =
       enclosed-read (suc d) arrays z (count xs) (encodeAll xs) r plain-arrays refl (v .0) .1
@@ -196,7 +196,7 @@ mutual
   item-read (map z ps) zero r v h = absurd (omega arith)
   item-read (map z ps) (suc d) r v h =
       enclosed-read (suc d) maps z (count₂ ps) (encodeAll₂ ps) r plain-maps refl (v .0) .1
-      ∙ rw (reads-all none₂ pair (entry (item d)) ps (count₂ ps) _ (pairs-read ps d (v .1) (omega arith)) (extent z (shown z (count₂ ps))) r (shown-meets z (count₂ ps) r))
+      ∙ rw (reads-all none₂ pair (entryAt (item d)) ps (count₂ ps) _ (pairs-read ps d (v .1) (omega arith)) (extent z (shown z (count₂ ps))) r (shown-meets z (count₂ ps) r))
   item-read (tag w n x) zero r v h = absurd (omega arith)
   item-read (tag w n x) (suc d) r v h = tag-read d w n x (encode x) r (v .0) (v .1) (item-read x d r (v .2) (omega arith))
   item-read (simple n) d r v h = let s = shortest-simple n v in by-head d _ _ r (head-read simples (shortest n) n r (s .fit) (s .whole) (s .allowed))
@@ -206,10 +206,10 @@ mutual
   items-read (more x xs) d v h =
       reads-cons none more (item d) x xs (count xs) (encode x) (encodeAll xs) (begins x (v .0)) (λ s. item-read x d s (v .0) (omega arith)) (items-read xs d (v .1) (omega arith))
 
-  pairs-read : (ps : Pairs) (d : ℕ) → ValidAll₂ ps → levelsAll₂ ps ≤ d → Reads none₂ pair (entry (item d)) ps (count₂ ps) (encodeAll₂ ps)
-  pairs-read none₂ d v h = reads-nil none₂ pair (entry (item d))
+  pairs-read : (ps : Pairs) (d : ℕ) → ValidAll₂ ps → levelsAll₂ ps ≤ d → Reads none₂ pair (entryAt (item d)) ps (count₂ ps) (encodeAll₂ ps)
+  pairs-read none₂ d v h = reads-nil none₂ pair (entryAt (item d))
   pairs-read (more₂ k x ps) d v h =
-      reads-cons none₂ pair (entry (item d)) (record { key = k; value = x }) ps (count₂ ps) (encode k ++ encode x) (encodeAll₂ ps) (begins-more _ (begins k (v .0)))
+      reads-cons none₂ pair (entryAt (item d)) (record { key = k; value = x }) ps (count₂ ps) (encode k ++ encode x) (encodeAll₂ ps) (begins-more _ (begins k (v .0)))
       (entry-read d (encode k) (encode x) k x (λ s. item-read k d s (v .0) (omega arith)) (λ s. item-read x d s (v .1) (omega arith))) (pairs-read ps d (v .2) (omega arith))
 
 pub item-of-encode : ItemOfEncode

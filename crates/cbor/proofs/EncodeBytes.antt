@@ -4,9 +4,9 @@ use native.Mathlib.Omega.{arith}
 use mathlib.Core.List.{List, [], _∷_, _++_}
 use lib.ListN.{length}
 use Rattle.cbor.specs.Widths.{Width, argumentBytes, limit, shortest, bigEndian}
-use Rattle.cbor.specs.Items.{unsigned, negative, Kind, byteString, textString, Size, definite, indefinite, Chunk, Item, int, string, chunked, array, map, tag, simple, Items, none, more, Pairs, none₂, more₂, count, count₂}
-use Rattle.cbor.specs.Heads.{Major, integers, strings, arrays, maps, tags, simples, majorNumber, initial, head}
-use Rattle.cbor.specs.Encode.{encodeString, opening, closing, enclosed, encodeChunks, encode, encodeAll, encodeAll₂}
+use Rattle.cbor.specs.Items.{Kind, Size, definite, indefinite, Chunk, Item, int, string, chunked, array, map, tag, simple, Items, none, more, Pairs, none₂, more₂, count, count₂}
+use Rattle.cbor.specs.Heads.{Major, integers, strings, arrays, maps, tags, simples, initial, head}
+use Rattle.cbor.specs.Encode.{encodeString, openingHead, closingBreak, enclosed, encodeChunks, encode, encodeAll, encodeAll₂}
 use Rattle.cbor.specs.Valid.{Bytes, ValidString, ValidChunks, Fits, Valid, ValidAll, ValidAll₂}
 use Rattle.cbor.proofs.Heads.{major-most, information-most}
 use Rattle.cbor.proofs.DecodeEncode.{shortest-simple}
@@ -27,19 +27,19 @@ pub bytes-head : (m : Major) (w : Width) (n : ℕ) → n ≤ limit w → Bytes (
 unfolding Bytes head initial
 bytes-head m w n h = (omega (arith, major-most m, information-most w n h), bytes-big (argumentBytes w) n)
 
-bytes-opening : (m : Major) (z : Size) (n : ℕ) → Fits z n → Bytes (opening m z n)
-unfolding Bytes opening initial Fits
+bytes-opening : (m : Major) (z : Size) (n : ℕ) → Fits z n → Bytes (openingHead m z n)
+unfolding Bytes openingHead initial Fits
 bytes-opening m (definite w) n h = bytes-head m w n h
 bytes-opening m indefinite n h = (omega (arith, major-most m), tt)
 
-bytes-closing : (z : Size) → Bytes (closing z)
-unfolding Bytes closing
+bytes-closing : (z : Size) → Bytes (closingBreak z)
+unfolding Bytes closingBreak
 bytes-closing (definite w) = tt
 bytes-closing indefinite = (omega arith, tt)
 
 bytes-enclosed : (m : Major) (z : Size) (n : ℕ) (b : List ℕ) → Fits z n → Bytes b → Bytes (enclosed m z n b)
 unfolding enclosed
-bytes-enclosed m z n b h u = bytes-append (opening m z n) (b ++ closing z) (bytes-opening m z n h) (bytes-append b (closing z) u (bytes-closing z))
+bytes-enclosed m z n b h u = bytes-append (openingHead m z n) (b ++ closingBreak z) (bytes-opening m z n h) (bytes-append b (closingBreak z) u (bytes-closing z))
 
 -- STRINGS
 

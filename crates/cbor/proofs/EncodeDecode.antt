@@ -9,15 +9,15 @@ use lib.ListN.{length, length-append}
 use borrow.Author.Tests.{eqb-true, le-leb, lt-leb, leb-true, leb-false}
 use Rattle.cbor.specs.Refusals.{Result, ok, refuse, bind, tooLong, notUtf8, badTypedArray, notWellFormed}
 use Rattle.cbor.specs.Widths.{Width, w0, w1, w2, w4, w8, limit, shortest}
-use Rattle.cbor.specs.Items.{Sign, Kind, Size, definite, indefinite, Chunk, Item, int, string, chunked, array, map, tag, simple, Items, none, more, Pairs, none₂, more₂, count, count₂, levels, levelsAll, levelsAll₂}
-use Rattle.cbor.specs.Heads.{Major, integers, strings, arrays, maps, tags, simples, majorNumber, majorOf, initial, head, Head, isFloat, isAllowed, isIndefinite, taking, nextHead, break}
-use Rattle.cbor.specs.Encode.{encodeString, opening, closing, enclosed, encodeChunks, encode, encodeAll, encodeAll₂}
+use Rattle.cbor.specs.Items.{Kind, Size, definite, indefinite, Chunk, Item, string, chunked, array, map, tag, simple, Items, none, more, Pairs, none₂, count, count₂, levels, levelsAll, levelsAll₂}
+use Rattle.cbor.specs.Heads.{Major, integers, strings, arrays, maps, tags, simples, majorNumber, majorOf, initial, head, Head, isFloat, isAllowed, taking, nextHead, break}
+use Rattle.cbor.specs.Encode.{encodeString, openingHead, closingBreak, enclosed, encodeChunks, encode, encodeAll, encodeAll₂}
 use Rattle.cbor.specs.TypedArrays.{mayTag}
 use Rattle.cbor.specs.Valid.{Bytes, isText, ValidString, ValidChunks, Fits, isSimple, Valid, ValidAll, ValidAll₂}
-use Rattle.cbor.specs.Decode.{Until, counted, broken, ended, Step, over, another, stepAt, severalBy, severalWithin, several, content, chunkBy, chunk, Entry, entry, extent, tagged, elements, pair, entries, chunks, itemBy, itemWith, item, decode, mostBytes, mostLevels}
+use Rattle.cbor.specs.Decode.{Until, counted, broken, ended, Step, finished, another, stepAt, severalBy, severalWithin, several, contentAt, chunkBy, chunkAt, Entry, entryAt, extent, tagged, elements, pair, entries, chunksOf, itemBy, itemWith, item, decode, mostBytes, mostLevels}
 use Rattle.cbor.specs.Theorems.{Decoded, EncodeOfDecode}
 use Rattle.cbor.proofs.Results.{refuse-not-ok}
-use Rattle.cbor.proofs.Heads.{major-back, information-most, Taken, TakenWell, taking-well, Legal, HeadWritten, HeadWell, head-well}
+use Rattle.cbor.proofs.Heads.{major-back, information-most, Taken, TakenWell, taking-well, Legal, HeadWell, head-well}
 use Rattle.cbor.proofs.Several.{tailOf, Meets}
 use Rattle.cbor.proofs.DecodeEncode.{enterAt, shortest-zero, shortest-one}
 
@@ -34,7 +34,7 @@ WellRead code P s (refuse n left) = Unit
 -- SEVERAL
 
 abbrev StepWell : Until → List ℕ → Step → Type 0
-StepWell u s (over r) = (s ≡ tailOf u r) × Meets u 0 r × Bytes r
+StepWell u s (finished r) = (s ≡ tailOf u r) × Meets u 0 r × Bytes r
 StepWell u s (another v) = (n : ℕ) (r : List ℕ) → Meets v n r → Meets u (suc n) r × (tailOf v r ≡ tailOf u r)
 
 step-well : (u : Until) (s : List ℕ) → Bytes s → StepWell u s (stepAt u s)
@@ -44,7 +44,7 @@ step-well (counted (suc n)) s b = λ k r e. (ap suc e, refl)
 step-well broken [] b = λ k r e. (tt, refl)
 step-well broken (c ∷ s) b = go (eqb c break) refl
   where
-    go : (v : Bool) → eqb c break ≡ v → StepWell broken (c ∷ s) (elim v [ true ↦ over s | false ↦ another broken ])
+    go : (v : Bool) → eqb c break ≡ v → StepWell broken (c ∷ s) (elim v [ true ↦ finished s | false ↦ another broken ])
     go true e = (ap (λ (x : ℕ). x ∷ s) (eqb-true c break e), tt, b .1)
     go false e = λ k r e. (tt, refl)
 step-well ended [] b = (refl, refl, tt)
@@ -96,7 +96,7 @@ module _ {A L : Type 0} (nil : L) (cons : A → L → L) (code : A → List ℕ)
   within-well (suc f) u s b = by (stepAt u s) (step-well u s b) (within-well f)
     where
       by : (t : Step) → StepWell u s t → ((v : Until) (t : List ℕ) → Bytes t → AllWell v t (severalWithin nil cons rd f v t)) → AllWell u s (severalBy nil cons rd (severalWithin nil cons rd f) t s)
-      by (over r) h ih = record { is = h .0 ∙ sym (ap (λ (c : List ℕ). c ++ tailOf u r) (l .codes-nil)); meets = rw (l .size-nil) (h .1); good = l .good-nil; rest = h .2 }
+      by (finished r) h ih = record { is = h .0 ∙ sym (ap (λ (c : List ℕ). c ++ tailOf u r) (l .codes-nil)); meets = rw (l .size-nil) (h .1); good = l .good-nil; rest = h .2 }
       by (another v) h ih = one-well u v s h (severalWithin nil cons rd f v) (ih v) (rd s) (well s b)
 
   pub several-well : (u : Until) (s : List ℕ) → Bytes s → AllWell u s (several nil cons rd u s)
@@ -106,8 +106,8 @@ module _ {A L : Type 0} (nil : L) (cons : A → L → L) (code : A → List ℕ)
 -- WHAT IS ENCLOSED
 
 -- a head that showed n, and k elements behind it
-enclosed-back : (m : Major) (z : Size) (n k : ℕ) (c r : List ℕ) → Meets (extent z n) k r → opening m z n ++ (c ++ tailOf (extent z n) r) ≡ enclosed m z k c ++ r
-unfolding extent enclosed opening closing
+enclosed-back : (m : Major) (z : Size) (n k : ℕ) (c r : List ℕ) → Meets (extent z n) k r → openingHead m z n ++ (c ++ tailOf (extent z n) r) ≡ enclosed m z k c ++ r
+unfolding extent enclosed openingHead closingBreak
 enclosed-back m (definite w) n k c r e = rw e (sym (simp (append-assoc, append-nil)))
 enclosed-back m indefinite n k c r e = sym (simp append-assoc)
 
@@ -121,8 +121,8 @@ fits-back indefinite n k r e h = tt
 abbrev Text : Kind → ℕ → List ℕ → Type 0
 Text k n b = (length b ≡ n) × Bytes b × (isText k b ≡ true)
 
-content-well : (k : Kind) (n left : ℕ) (s : List ℕ) → Bytes s → WellRead (λ b. b) (Text k n) s (content k n left s)
-unfolding content bind
+content-well : (k : Kind) (n left : ℕ) (s : List ℕ) → Bytes s → WellRead (λ b. b) (Text k n) s (contentAt k n left s)
+unfolding contentAt bind
 content-well k n left s u = by (taking n left s) (taking-well n left s u)
   where
     text : (b r : List ℕ) → Taken n s b r → (v : Bool) → isText k b ≡ v → WellRead (λ b. b) (Text k n) s (elim v [ true ↦ ok b r | false ↦ refuse notUtf8 left ])
@@ -153,13 +153,13 @@ ChunkGood k c = ValidString k (c .width) (c .content)
 same-major : (m : Major) (k : Kind) → majorNumber m ≡ majorNumber (strings k) → m ≡ strings k
 same-major m k e = sym (major-back m) ∙ ap majorOf e ∙ major-back (strings k)
 
-opening-major : (m : Major) (z : Size) (n b : ℕ) (s r : List ℕ) → Fits z n → b ∷ s ≡ opening m z n ++ r → b / 32 ≡ majorNumber m
-unfolding opening head initial Fits
+opening-major : (m : Major) (z : Size) (n b : ℕ) (s r : List ℕ) → Fits z n → b ∷ s ≡ openingHead m z n ++ r → b / 32 ≡ majorNumber m
+unfolding openingHead head initial Fits
 opening-major m (definite w) n b s r h e = omega (arith, head-eq-of-cons-eq e, information-most w n h)
 opening-major m indefinite n b s r h e = omega (arith, head-eq-of-cons-eq e)
 
-chunk-well : (k : Kind) (s : List ℕ) → Bytes s → WellRead (chunkCode k) (ChunkGood k) s (chunk k s)
-unfolding chunk chunkBy bind opening Fits
+chunk-well : (k : Kind) (s : List ℕ) → Bytes s → WellRead (chunkCode k) (ChunkGood k) s (chunkAt k s)
+unfolding chunkAt chunkBy bind openingHead Fits
 chunk-well k [] u = tt
 chunk-well k (b ∷ s) u = right (eqb (b / 32) (majorNumber (strings k))) refl
   where
@@ -168,12 +168,12 @@ chunk-well k (b ∷ s) u = right (eqb (b / 32) (majorNumber (strings k))) refl
     filled m w n t e f (refuse i left) c = tt
     filled m w n t e f (ok c r) g = record { is = string-is k w e f g; good = string-good k w e f g; rest = g .rest }
 
-    sized : (m : Major) (z : Size) (n : ℕ) (r : List ℕ) → b / 32 ≡ majorNumber (strings k) → b ∷ s ≡ opening m z n ++ r → Fits z n → Bytes r
+    sized : (m : Major) (z : Size) (n : ℕ) (r : List ℕ) → b / 32 ≡ majorNumber (strings k) → b ∷ s ≡ openingHead m z n ++ r → Fits z n → Bytes r
         → WellRead (chunkCode k) (ChunkGood k) (b ∷ s) (chunkBy k z n (suc (length s)) r)
     sized m indefinite n r p e f v = tt
     sized m (definite w) n r p e f v =
         let q = same-major m k (sym (opening-major m (definite w) n b s r f e) ∙ p) in
-        filled m w n r (e ∙ ap (λ (x : Major). opening x (definite w) n ++ r) q) f (content k n (suc (length s)) r) (content-well k n (suc (length s)) r v)
+        filled m w n r (e ∙ ap (λ (x : Major). openingHead x (definite w) n ++ r) q) f (contentAt k n (suc (length s)) r) (content-well k n (suc (length s)) r v)
 
     headed : b / 32 ≡ majorNumber (strings k) → (a : Result Head) → HeadWell (b ∷ s) a
         → WellRead (chunkCode k) (ChunkGood k) (b ∷ s) (bind a (λ h r. chunkBy k (h .size) (h .argument) (suc (length s)) r))
@@ -227,8 +227,8 @@ entries-list d =
 abbrev pub ItemWell : ℕ → Type 0
 ItemWell d = (s : List ℕ) → Bytes s → WellRead encode (Sound d) s (item d s)
 
-entry-well : (d : ℕ) → ItemWell d → (s : List ℕ) → Bytes s → WellRead entryCode (SoundEntry d) s (entry (item d) s)
-unfolding entry bind
+entry-well : (d : ℕ) → ItemWell d → (s : List ℕ) → Bytes s → WellRead entryCode (SoundEntry d) s (entryAt (item d) s)
+unfolding entryAt bind
 entry-well d well s u = key (item d s) (well s u)
   where
     value : (k : Item) (t : List ℕ) → Written encode (Sound d) s k t → (a : Result Item) → WellRead encode (Sound d) t a → WellRead entryCode (SoundEntry d) s (bind a (λ x r. ok (record { key = k; value = x }) r))
@@ -268,7 +268,7 @@ module _ (left : ℕ) (s r : List ℕ) (u : Bytes r) where
       (l : Listing nil cons code P codes size Q) (rd : List ℕ → Result A) (well : (s : List ℕ) → Bytes s → WellRead code P s (rd s)) (d : ℕ)
       (m : Major) (z : Size) (n : ℕ) (made : L → Item) (law : (xs : L) → encode (made xs) ≡ enclosed m z (size xs) (codes xs))
       (sound : (xs : L) → Fits z (size xs) → Q xs → Sound d (made xs)) where
-    enclosed-well : s ≡ opening m z n ++ r → Fits z n → WellRead encode (Sound d) s (bind (several nil cons rd (extent z n) r) (λ xs r′. ok (made xs) r′))
+    enclosed-well : s ≡ openingHead m z n ++ r → Fits z n → WellRead encode (Sound d) s (bind (several nil cons rd (extent z n) r) (λ xs r′. ok (made xs) r′))
     unfolding bind
     enclosed-well e f = by (several nil cons rd (extent z n) r) (several-well nil cons code P codes size Q l rd well (extent z n) r u)
       where
@@ -276,7 +276,7 @@ module _ (left : ℕ) (s r : List ℕ) (u : Bytes r) where
         by (refuse k q) a = tt
         by (ok xs t) a =
             record {
-              is = e ∙ ap (λ (c : List ℕ). opening m z n ++ c) (a .is) ∙ enclosed-back m z n (size xs) (codes xs) t (a .meets) ∙ sym (ap (λ (c : List ℕ). c ++ t) (law xs));
+              is = e ∙ ap (λ (c : List ℕ). openingHead m z n ++ c) (a .is) ∙ enclosed-back m z n (size xs) (codes xs) t (a .meets) ∙ sym (ap (λ (c : List ℕ). c ++ t) (law xs));
               good = sound xs (fits-back z n (size xs) t (a .meets) f) (a .good);
               rest = a .rest;
             }
@@ -296,20 +296,20 @@ module _ (left : ℕ) (s r : List ℕ) (u : Bytes r) where
           }
       go false g = tt
 
-  by-well : (d : ℕ) → Inner d → (m : Major) (z : Size) (n : ℕ) → s ≡ opening m z n ++ r → Fits z n → Legal m z n → WellRead encode (Sound d) s (itemBy (enterAt d) m z n left r)
-  unfolding itemBy elements entries chunks opening enclosed extent Fits encode Valid levels
+  by-well : (d : ℕ) → Inner d → (m : Major) (z : Size) (n : ℕ) → s ≡ openingHead m z n ++ r → Fits z n → Legal m z n → WellRead encode (Sound d) s (itemBy (enterAt d) m z n left r)
+  unfolding itemBy elements entries chunksOf openingHead enclosed extent Fits encode Valid levels
   by-well d i (integers g) (definite w) n e f l = record { is = e; good = (f, omega arith); rest = u }
   by-well d i (integers g) indefinite n e f l = tt
-  by-well d i (strings k) (definite w) n e f l = string-well d k w n e f (content k n left r) (content-well k n left r u)
+  by-well d i (strings k) (definite w) n e f l = string-well d k w n e f (contentAt k n left r) (content-well k n left r u)
   by-well d i (strings k) indefinite n e f l =
-      enclosed-well [] _∷_ (chunkCode k) (ChunkGood k) (encodeChunks k) length (ValidChunks k) (chunks-list k) (chunk k) (chunk-well k) d (strings k) indefinite n (chunked k) (λ cs. refl)
+      enclosed-well [] _∷_ (chunkCode k) (ChunkGood k) (encodeChunks k) length (ValidChunks k) (chunks-list k) (chunkAt k) (chunk-well k) d (strings k) indefinite n (chunked k) (λ cs. refl)
       (λ cs f v. (v, omega arith)) e tt
   by-well zero i arrays z n e f l = tt
   by-well (suc d) i arrays z n e f l =
       enclosed-well none more encode (Sound d) encodeAll count (SoundAll d) (items-list d) (item d) i (suc d) arrays z n (array z) (λ xs. refl) (λ xs f v. ((f, v .0), omega arith)) e f
   by-well zero i maps z n e f l = tt
   by-well (suc d) i maps z n e f l =
-      enclosed-well none₂ pair entryCode (SoundEntry d) encodeAll₂ count₂ (SoundAll₂ d) (entries-list d) (entry (item d)) (entry-well d i) (suc d) maps z n (map z) (λ xs. refl)
+      enclosed-well none₂ pair entryCode (SoundEntry d) encodeAll₂ count₂ (SoundAll₂ d) (entries-list d) (entryAt (item d)) (entry-well d i) (suc d) maps z n (map z) (λ xs. refl)
       (λ xs f v. ((f, v .0), omega arith)) e f
   by-well zero i tags (definite w) n e f l = tt
   by-well (suc d) i tags (definite w) n e f l = tag-well d w n e f (item d r) (i r u)

@@ -10,9 +10,9 @@ use lib.Seq.{take-at, drop-at, length-take-le}
 use borrow.Author.Tests.{le-leb, lt-leb, leb-true, leb-false}
 use Rattle.cbor.specs.Refusals.{Result, ok, refuse, bind, endsInside}
 use Rattle.cbor.specs.Widths.{Width, w0, w1, w2, w4, w8, argumentBytes, limit, information, bigEndian, valueFrom}
-use Rattle.cbor.specs.Items.{Sign, unsigned, negative, Kind, byteString, textString, Size, definite, indefinite}
-use Rattle.cbor.specs.Heads.{Major, integers, strings, arrays, maps, tags, simples, majorNumber, majorOf, initial, head, Head, Information, argument, reserved, indefinitely, informationOf, isFloat, isAllowed, isIndefinite, taking, started, argued, headBy, nextHead}
-use Rattle.cbor.specs.Encode.{opening}
+use Rattle.cbor.specs.Items.{unsigned, negative, byteString, textString, Size, definite, indefinite}
+use Rattle.cbor.specs.Heads.{Major, integers, strings, arrays, maps, tags, simples, majorNumber, majorOf, initial, head, Head, Information, argument, reserved, openEnded, informationOf, isFloat, isAllowed, isIndefinite, taking, started, argued, headBy, nextHead}
+use Rattle.cbor.specs.Encode.{openingHead}
 use Rattle.cbor.specs.Valid.{Bytes, Fits}
 use Rattle.cbor.proofs.Arguments.{length-big, value-argument, big-value, value-below}
 
@@ -132,7 +132,7 @@ Legal m (definite w) n = (isFloat m w ≡ false) × (isAllowed m w n ≡ true)
 Legal m indefinite n = isIndefinite m ≡ true
 
 pub record HeadWritten (s : List ℕ) (h : Head) (r : List ℕ) : Type 0 where
-  pub is : s ≡ opening (h .major) (h .size) (h .argument) ++ r
+  pub is : s ≡ openingHead (h .major) (h .size) (h .argument) ++ r
   pub fit : Fits (h .size) (h .argument)
   pub legal : Legal (h .major) (h .size) (h .argument)
   pub rest : Bytes r
@@ -160,13 +160,13 @@ Says i (argument w2) = i ≡ 25
 Says i (argument w4) = i ≡ 26
 Says i (argument w8) = i ≡ 27
 Says i reserved = Unit
-Says i indefinitely = i ≡ 31
+Says i openEnded = i ≡ 31
 
 says : (i : ℕ) → i < 32 → Says i (informationOf i)
 unfolding informationOf
 says i h = go (leb i 23) refl
   where
-    far : (j : ℕ) → i ≡ 24 + j → Says i (getD (argument w1 ∷ argument w2 ∷ argument w4 ∷ argument w8 ∷ reserved ∷ reserved ∷ reserved ∷ []) j indefinitely)
+    far : (j : ℕ) → i ≡ 24 + j → Says i (getD (argument w1 ∷ argument w2 ∷ argument w4 ∷ argument w8 ∷ reserved ∷ reserved ∷ reserved ∷ []) j openEnded)
     far zero e = e
     far (suc zero) e = e
     far (suc (suc zero)) e = e
@@ -177,7 +177,7 @@ says i h = go (leb i 23) refl
     far (suc (suc (suc (suc (suc (suc (suc n))))))) e = omega arith
 
     go : (v : Bool) → leb i 23 ≡ v
-        → Says i (elim v [ true ↦ argument w0 | false ↦ getD (argument w1 ∷ argument w2 ∷ argument w4 ∷ argument w8 ∷ reserved ∷ reserved ∷ reserved ∷ []) (i - 24) indefinitely ])
+        → Says i (elim v [ true ↦ argument w0 | false ↦ getD (argument w1 ∷ argument w2 ∷ argument w4 ∷ argument w8 ∷ reserved ∷ reserved ∷ reserved ∷ []) (i - 24) openEnded ])
     go true e = leb-true i 23 e
     go false e = let l = leb-false i 23 e in far (i - 24) (omega arith)
 
@@ -213,7 +213,7 @@ module _ (b left : ℕ) (s : List ℕ) (u : b < 256) (us : Bytes s) where
 
   argument-well : (w : Width) → Says (b % 32) (argument w) → isFloat m w ≡ false → (t : Result (List ℕ)) → TakenWell (argumentBytes w) s t
       → HeadWell (b ∷ s) (bind t (λ bs r. argued m w (valueFrom (started w (b % 32)) bs) left r))
-  unfolding bind argued opening Fits
+  unfolding bind argued openingHead Fits
   argument-well w h f (refuse n p) g = tt
   argument-well w h f (ok bs r) g = go (isAllowed m w (valueFrom (started w (b % 32)) bs)) refl
     where
@@ -234,14 +234,14 @@ module _ (b left : ℕ) (s : List ℕ) (u : b < 256) (us : Bytes s) where
       go false e = tt
 
   by-well : (t : Information) → Says (b % 32) t → HeadWell (b ∷ s) (headBy m t (b % 32) left s)
-  unfolding headBy opening Fits
+  unfolding headBy openingHead Fits
   by-well (argument w) h = go (isFloat m w) refl
     where
       go : (v : Bool) → isFloat m w ≡ v → HeadWell (b ∷ s) (elim v [ true ↦ refuse 6 left | false ↦ bind (taking (argumentBytes w) left s) (λ bs r. argued m w (valueFrom (started w (b % 32)) bs) left r) ])
       go true e = tt
       go false e = argument-well w h e (taking (argumentBytes w) left s) (taking-well (argumentBytes w) left s us)
   by-well reserved h = tt
-  by-well indefinitely h = go (isIndefinite m) refl
+  by-well openEnded h = go (isIndefinite m) refl
     where
       go : (v : Bool) → isIndefinite m ≡ v → HeadWell (b ∷ s) (elim v [ true ↦ ok (record { major = m; size = indefinite; argument = 0 }) s | false ↦ refuse 16 left ])
       go true e = record { is = ap (λ (x : ℕ). x ∷ s) (sym (byte-back 31 (sym h))); fit = tt; legal = e; rest = us }

@@ -2,11 +2,11 @@
 use Prim.Native.Nat.{ℕ, zero, suc, _+_, _*_}
 use mathlib.Core.Path.{_≡_, refl, sym, ap, _∙_}
 use mathlib.Core.List.{List, [], _∷_, _++_, append-assoc, append-nil}
-use Rattle.cbor.specs.Items.{Size, definite, indefinite, Item, int, string, chunked, array, map, tag, simple, Items, none, more, Pairs, none₂, more₂, count, count₂}
+use Rattle.cbor.specs.Items.{Size, Item, int, string, chunked, array, map, tag, simple, Items, none, more, Pairs, none₂, more₂, count, count₂}
 use Rattle.cbor.specs.Heads.{Major, arrays, maps}
-use Rattle.cbor.specs.Encode.{opening, closing, enclosed, encode, encodeAll, encodeAll₂}
+use Rattle.cbor.specs.Encode.{openingHead, closingBreak, enclosed, encode, encodeAll, encodeAll₂}
 use Rattle.cbor.specs.Paths.{Spot, Found, found, nowhere, within, nth, nth₂, child, onward, descend, locate, changeNth, changeNth₂, changeChild, changeIn, changeAt, replaceAt}
-use Rattle.cbor.specs.Theorems.{Parted, PartAtPath}
+use Rattle.cbor.specs.Theorems.{PartAtPath}
 
 -- the bytes `old` have those of the spot's item between what stands before and behind it, and so has `new` with another item
 pub record Between (old : List ℕ) (new : (Item → Item) → List ℕ) (z : Spot) : Type 0 where
@@ -65,10 +65,10 @@ count-change₂ zero g (more₂ y x ps) = refl
 count-change₂ (suc k) g (more₂ y x ps) = ap suc (count-change₂ k g ps)
 
 enclosed-at : (m : Major) (z : Size) (n : ℕ) (old : List ℕ) (new : (Item → Item) → List ℕ) (n′ : (Item → Item) → ℕ) → ((g : Item → Item) → n′ g ≡ n) → (f : Found Spot) → At old new f
-    → At (enclosed m z n old) (λ g. enclosed m z (n′ g) (new g)) (within (opening m z n) (closing z) f)
+    → At (enclosed m z n old) (λ g. enclosed m z (n′ g) (new g)) (within (openingHead m z n) (closingBreak z) f)
 unfolding enclosed
 enclosed-at m z n old new n′ e f h =
-    at-same (within (opening m z n) (closing z) f) refl (λ g. ap (λ (c : ℕ). opening m z c ++ (new g ++ closing z)) (e g)) (at-within (opening m z n) (closing z) old new f h)
+    at-same (within (openingHead m z n) (closingBreak z) f) refl (λ g. ap (λ (c : ℕ). openingHead m z c ++ (new g ++ closingBreak z)) (e g)) (at-within (openingHead m z n) (closingBreak z) old new f h)
 
 child-at : (i k : ℕ) (x : Item) → At (encode x) (λ g. encode (changeChild k g x)) (child i k x)
 unfolding child changeChild encode

@@ -10,9 +10,9 @@ use lib.Dec.{T, leb, eqb, eqb→eq}
 use lib.ListN.{length, drop, getD, replicate, drop-of-length-le, length-drop}
 use lib.Seq.{drop-cons, drop-drop}
 use borrow.Author.Tests.{le-leb, lt-leb, not-true, not-false}
-use Rattle.cbor.specs.Utf8.{Range, _to_, isIn, Row, rows, Follow, nothing, these, followIn, follow, areIn, sequenceBy, firstBadFrom, firstBad}
-use Rattle.cbor.specs.Sequences.{ranges, behind, Sequence}
-use Rattle.cbor.proofs.Lists.{front}
+use Rattle.cbor.specs.Utf8.{Range, _to_, isIn, rows, Follow, nothing, these, followIn, follow, areIn, sequenceBy, firstBadFrom, firstBad}
+use Rattle.cbor.specs.Sequences.{ranges, behindFirst, Sequence}
+use Rattle.memory.proofs.Lists.{front}
 use Rattle.cbor.proofs.Table.{both, every, between}
 
 -- What a first byte says. Whether two first bytes ask for the same bytes behind them:
@@ -47,17 +47,17 @@ same-follow (these gs) nothing t = absurd t
 same-follow (these gs) (these hs) t = ap these (same-ranges gs hs t)
 
 -- the first bytes between two bounds, by a test of each of them
-pub lead-rule : {b lo hi : ℕ} (n l h : ℕ) → lo ≤ b → b < hi → T (every (λ k x. same (follow k) (behind n l h)) lo (replicate (hi - lo) 0)) → follow b ≡ behind n l h
-lead-rule {b} {lo} {hi} n l h p q t = same-follow (follow b) (behind n l h) (between (λ k. same (follow k) (behind n l h)) lo hi t b p q)
+pub lead-rule : {b lo hi : ℕ} (n l h : ℕ) → lo ≤ b → b < hi → T (every (λ k x. same (follow k) (behindFirst n l h)) lo (replicate (hi - lo) 0)) → follow b ≡ behindFirst n l h
+lead-rule {b} {lo} {hi} n l h p q t = same-follow (follow b) (behindFirst n l h) (between (λ k. same (follow k) (behindFirst n l h)) lo hi t b p q)
 
 -- the first bounds and the last ones, which no test of the code has
 module _ {b : ℕ} where
-  pub lead-ascii : b < 0x80 → follow b ≡ behind 1 0x80 0xbf
-  unfolding rows followIn follow isIn behind ranges
+  pub lead-ascii : b < 0x80 → follow b ≡ behindFirst 1 0x80 0xbf
+  unfolding rows followIn follow isIn behindFirst ranges
   lead-ascii h = lead-rule {lo = 0} 1 0x80 0xbf (omega arith) h tt
 
-  pub lead-last : 0xf5 ≤ b → b < 256 → follow b ≡ behind 0 0x80 0xbf
-  unfolding rows followIn follow isIn behind ranges
+  pub lead-last : 0xf5 ≤ b → b < 256 → follow b ≡ behindFirst 0 0x80 0xbf
+  unfolding rows followIn follow isIn behindFirst ranges
   lead-last l h = lead-rule 0 0x80 0xbf l h tt
 
 -- One byte within bounds.
@@ -84,8 +84,8 @@ unfolding ranges
 length-ranges zero low high = refl
 length-ranges (suc n) low high = ap suc (length-ranges n 0x80 0xbf)
 
-sequence-by : (n low high : ℕ) (s : List ℕ) → sequenceBy (behind n low high) s ≡ whole n (areIn (ranges (n - 1) low high) s)
-unfolding behind sequenceBy ranges areIn whole
+sequence-by : (n low high : ℕ) (s : List ℕ) → sequenceBy (behindFirst n low high) s ≡ whole n (areIn (ranges (n - 1) low high) s)
+unfolding behindFirst sequenceBy ranges areIn whole
 sequence-by zero low high s = refl
 sequence-by (suc n) low high s = let e : suc n - 1 ≡ n = omega arith in rw e (go (areIn (ranges n low high) s))
   where
@@ -124,7 +124,7 @@ are-in-room g [] e = let z : _≡_ {A = ℕ} 0 1 = cc in absurd (omega arith)
 are-in-room g (b ∷ s) e = omega arith
 
 module _ {s : List ℕ} {at : ℕ} where
-  pub behind-start : {n low high : ℕ} → at < length s → follow (getD s at 0) ≡ behind n low high → Behind s at n 1 low high
+  pub behind-start : {n low high : ℕ} → at < length s → follow (getD s at 0) ≡ behindFirst n low high → Behind s at n 1 low high
   behind-start {n} {low} {high} h e =
       record { is = ap (λ (f : Follow). sequenceBy f (drop (at + 1) s)) e ∙ sequence-by n low high (drop (at + 1) s); inside = omega arith }
 
@@ -183,7 +183,7 @@ module _ {s : List ℕ} {at : ℕ} where
       record { inside = r; same = omega (arith, ap (firstBadFrom 0) d, inv .same) }
 
   pub walk-ascii : Walked s at → at < length s → getD s at 0 < 0x80 → Walked s (at + 1)
-  unfolding behind ranges sequenceBy areIn
+  unfolding behindFirst ranges sequenceBy areIn
   walk-ascii inv h l = walk-by 1 inv h (ap (λ (f : Follow). sequenceBy f (drop (at + 1) s)) (lead-ascii l)) (omega arith) (omega arith)
 
   pub walk-on : {n : ℕ} → Walked s at → at < length s → Sequence s at n → (n ≡ 0 → ⊥) → Walked s (at + n)

@@ -7,9 +7,9 @@ use mathlib.Core.List.{List, [], _∷_, _++_, append-assoc}
 use lib.Dec.{eqb}
 use lib.ListN.{length, length-append}
 use borrow.Author.Tests.{ne-eqb}
-use Rattle.cbor.specs.Refusals.{Result, ok, refuse, bind}
+use Rattle.cbor.specs.Refusals.{Result, ok, bind}
 use Rattle.cbor.specs.Heads.{break}
-use Rattle.cbor.specs.Decode.{Until, counted, broken, ended, Step, over, another, stepAt, severalBy, severalWithin, several}
+use Rattle.cbor.specs.Decode.{Until, counted, broken, ended, finished, another, stepAt, severalBy, severalWithin, several}
 
 -- what stands behind the last one, and before r
 abbrev pub tailOf : Until → List ℕ → List ℕ
@@ -34,7 +34,7 @@ pub begins-more : {s : List ℕ} (t : List ℕ) → Begins s → Begins (s ++ t)
 begins-more t b = record { first = b .first; rest = b .rest ++ t; is = ap (λ (x : List ℕ). x ++ t) (b .is); low = b .low }
 
 -- nothing is left to be read
-pub step-over : (u : Until) (r : List ℕ) → Meets u 0 r → stepAt u (tailOf u r) ≡ over r
+pub step-over : (u : Until) (r : List ℕ) → Meets u 0 r → stepAt u (tailOf u r) ≡ finished r
 unfolding stepAt
 step-over (counted n) r h = rw (h, stepAt)
 step-over broken r h = refl

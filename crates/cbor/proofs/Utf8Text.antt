@@ -9,7 +9,7 @@ use mathlib.Core.List.{List, [], _∷_, _++_}
 use lib.Dec.{T}
 use lib.ListN.{length}
 use Rattle.cbor.specs.Utf8.{Range, isIn, rows, Follow, nothing, these, followIn, follow, areIn, sequenceBy, firstBadFrom, isUtf8}
-use Rattle.cbor.specs.Sequences.{ranges, behind}
+use Rattle.cbor.specs.Sequences.{ranges, behindFirst}
 use Rattle.cbor.specs.Valid.{Bytes}
 use Rattle.cbor.proofs.Sequences.{lead-ascii, first-bad-stop, first-bad-on}
 use Rattle.cbor.proofs.Utf8Laws.{both-true, is-in, continuing, Right, follow-right, first-range, in-sequence, valid, is-valid, utf8-bytes}
@@ -82,7 +82,7 @@ abbrev pub Alone : ℕ → Type 0
 Alone b = (b < 128) ⊎ (b ≡ 256)
 
 pub follow-ascii : (b : ℕ) → b < 128 → follow b ≡ these []
-unfolding behind ranges
+unfolding behindFirst ranges
 follow-ascii b h = lead-ascii h
 
 pub text-ascii : {e : Bool} {b : ℕ} {s : List ℕ} → b < 128 → Text e [] s → Text e [] (b ∷ s)

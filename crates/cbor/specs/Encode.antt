@@ -10,16 +10,16 @@ unfoldable pub encodeString : Kind → Width → List ℕ → List ℕ
 encodeString k w b = head (strings k) w (length b) ++ b
 
 -- a head for n elements before their bytes, or an open one, with a break behind them
-unfoldable pub opening : Major → Size → ℕ → List ℕ
-opening m (definite w) n = head m w n
-opening m indefinite n = initial m 31 ∷ []
+unfoldable pub openingHead : Major → Size → ℕ → List ℕ
+openingHead m (definite w) n = head m w n
+openingHead m indefinite n = initial m 31 ∷ []
 
-unfoldable pub closing : Size → List ℕ
-closing (definite w) = []
-closing indefinite = break ∷ []
+unfoldable pub closingBreak : Size → List ℕ
+closingBreak (definite w) = []
+closingBreak indefinite = break ∷ []
 
 unfoldable pub enclosed : Major → Size → ℕ → List ℕ → List ℕ
-enclosed m z n b = opening m z n ++ (b ++ closing z)
+enclosed m z n b = openingHead m z n ++ (b ++ closingBreak z)
 
 unfoldable pub encodeChunks : Kind → List Chunk → List ℕ
 encodeChunks k [] = []

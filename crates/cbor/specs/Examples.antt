@@ -9,11 +9,11 @@ use Rattle.cbor.specs.Refusals.{Result, ok, refuse, bind}
 use Rattle.cbor.specs.Widths.{w0, w1, w2, argumentBytes, information, bigEndian, valueFrom}
 use Rattle.cbor.specs.Items.{unsigned, byteString, textString, indefinite, Item, int, string, chunked, array, map, tag, Items, none, more, none₂, more₂}
 use Rattle.cbor.specs.Heads.{majorNumber, majorOf, initial, head, informationOf, isFloat, isAllowed, isIndefinite, taking, started, argued, headBy, nextHead}
-use Rattle.cbor.specs.Encode.{encodeString, opening, closing, enclosed, encodeChunks, encode, encodeAll}
+use Rattle.cbor.specs.Encode.{encodeString, openingHead, closingBreak, enclosed, encodeChunks, encode, encodeAll}
 use Rattle.cbor.specs.Utf8.{isIn, rows, followIn, follow, areIn, sequenceBy, firstBadFrom, firstBad, isUtf8}
 use Rattle.cbor.specs.TypedArrays.{elementSize, chunksLength, divides, isTypedArray, mayTag}
 use Rattle.cbor.specs.Valid.{isText}
-use Rattle.cbor.specs.Decode.{stepAt, severalBy, severalWithin, several, content, chunkBy, chunk, entry, extent, tagged, elements, entries, chunks, itemBy, itemWith, item, decode}
+use Rattle.cbor.specs.Decode.{stepAt, severalBy, severalWithin, several, contentAt, chunkBy, chunkAt, entryAt, extent, tagged, elements, entries, chunksOf, itemBy, itemWith, item, decode}
 use Rattle.cbor.specs.Paths.{Spot, Found, found, nowhere, within, nth, nth₂, child, onward, descend, locate, start, end}
 
 -- what is asked, and what is answered
@@ -94,5 +94,5 @@ byteExamples =
     ∷ []
 
 pub byte-examples-hold : L.map (λ (e : ByteExample). byteAnswerTo (e .question)) byteExamples ≡ L.map (λ (e : ByteExample). e .expected) byteExamples
-unfolding byteExamples accepts refuses utf8 finds byteAnswerTo decoded looked spotted bind argumentBytes information bigEndian valueFrom majorNumber majorOf initial head informationOf isFloat isAllowed isIndefinite taking started argued headBy nextHead encodeString opening closing enclosed encodeChunks encode isIn rows followIn follow areIn sequenceBy firstBadFrom firstBad isUtf8 elementSize chunksLength divides isTypedArray mayTag isText stepAt severalBy severalWithin several content chunkBy chunk entry extent tagged elements entries chunks itemBy itemWith item decode within nth nth₂ child onward descend locate start end
+unfolding byteExamples accepts refuses utf8 finds byteAnswerTo decoded looked spotted bind argumentBytes information bigEndian valueFrom majorNumber majorOf initial head informationOf isFloat isAllowed isIndefinite taking started argued headBy nextHead encodeString openingHead closingBreak enclosed encodeChunks encode isIn rows followIn follow areIn sequenceBy firstBadFrom firstBad isUtf8 elementSize chunksLength divides isTypedArray mayTag isText stepAt severalBy severalWithin several contentAt chunkBy chunkAt entryAt extent tagged elements entries chunksOf itemBy itemWith item decode within nth nth₂ child onward descend locate start end
 byte-examples-hold = refl

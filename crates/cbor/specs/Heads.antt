@@ -58,13 +58,13 @@ pub record Head : Type 0 where
 -- what additional information says: an argument of a width, 28 to 30, or 31
 pub data Information : Type 0 where
   argument : Width → Information
-  reserved indefinitely : Information
+  reserved openEnded : Information
 
 unfoldable pub informationOf : ℕ → Information
 informationOf i =
     elim (leb i 23) [
       | true ↦ argument w0
-      | false ↦ getD (argument w1 ∷ argument w2 ∷ argument w4 ∷ argument w8 ∷ reserved ∷ reserved ∷ reserved ∷ []) (i - 24) indefinitely
+      | false ↦ getD (argument w1 ∷ argument w2 ∷ argument w4 ∷ argument w8 ∷ reserved ∷ reserved ∷ reserved ∷ []) (i - 24) openEnded
     ]
 
 -- half, single and double precision floats: f9, fa, fb
@@ -124,7 +124,7 @@ headBy m (argument w) i left s =
       | false ↦ bind (taking (argumentBytes w) left s) (λ bs r. argued m w (valueFrom (started w i) bs) left r)
     ]
 headBy m reserved i left s = refuse notWellFormed left
-headBy m indefinitely i left s = elim (isIndefinite m) [ true ↦ ok (record { major = m; size = indefinite; argument = 0 }) s | false ↦ refuse notWellFormed left ]
+headBy m openEnded i left s = elim (isIndefinite m) [ true ↦ ok (record { major = m; size = indefinite; argument = 0 }) s | false ↦ refuse notWellFormed left ]
 
 -- The head at the front: 16, 6, 15 in document 01's order, at the head; 15 where there is none.
 unfoldable pub nextHead : List ℕ → Result Head

@@ -2,9 +2,9 @@
 use Prim.Native.Nat.{ℕ, zero, suc, _+_}
 use mathlib.Core.List.{List, [], _∷_, _++_}
 use lib.ListN.{length}
-use Rattle.cbor.specs.Items.{Size, Item, int, string, chunked, array, map, tag, simple, Items, none, more, Pairs, none₂, more₂, count, count₂}
+use Rattle.cbor.specs.Items.{Item, int, string, chunked, array, map, tag, simple, Items, none, more, Pairs, none₂, more₂, count, count₂}
 use Rattle.cbor.specs.Heads.{arrays, maps}
-use Rattle.cbor.specs.Encode.{encode, encodeAll, encodeAll₂, opening, closing}
+use Rattle.cbor.specs.Encode.{encode, encodeAll, encodeAll₂, openingHead, closingBreak}
 
 -- an item with the bytes before and behind it
 pub record Spot : Type 0 where
@@ -37,8 +37,8 @@ unfoldable pub child : ℕ → ℕ → Item → Found Spot
 child i k (int g w n) = nowhere i
 child i k (string s w b) = nowhere i
 child i k (chunked s cs) = nowhere i
-child i k (array z xs) = within (opening arrays z (count xs)) (closing z) (nth i k xs)
-child i k (map z ps) = within (opening maps z (count₂ ps)) (closing z) (nth₂ i k ps)
+child i k (array z xs) = within (openingHead arrays z (count xs)) (closingBreak z) (nth i k xs)
+child i k (map z ps) = within (openingHead maps z (count₂ ps)) (closingBreak z) (nth₂ i k ps)
 child i k (tag w n x) = nowhere i
 child i k (simple n) = nowhere i
 

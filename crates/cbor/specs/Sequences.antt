@@ -11,9 +11,9 @@ ranges zero low high = []
 ranges (suc n) low high = (low to high) ∷ ranges n 0x80 0xbf
 
 -- what must stand behind the first byte of a sequence of n bytes; n is 0 where no sequence begins so
-unfoldable pub behind : ℕ → ℕ → ℕ → Follow
-behind zero low high = nothing
-behind (suc n) low high = these (ranges n low high)
+unfoldable pub behindFirst : ℕ → ℕ → ℕ → Follow
+behindFirst zero low high = nothing
+behindFirst (suc n) low high = these (ranges n low high)
 
 -- r is the length of the sequence at a place, 0 where it is bad
 pub record Sequence (s : List ℕ) (at r : ℕ) : Type 0 where

@@ -3,12 +3,12 @@ use Prim.Native.Nat.{ℕ, _≤_}
 use mathlib.Core.Path.{_≡_}
 use mathlib.Core.List.{List, [], _∷_, _++_}
 use lib.ListN.{length}
-use Rattle.cbor.specs.Refusals.{Result, ok}
+use Rattle.cbor.specs.Refusals.{ok}
 use Rattle.cbor.specs.Items.{Item, Items, levels, levelsAll}
 use Rattle.cbor.specs.Encode.{encode, encodeAll}
 use Rattle.cbor.specs.Valid.{Bytes, Valid, ValidAll}
 use Rattle.cbor.specs.Decode.{item, decode, mostBytes, mostLevels}
-use Rattle.cbor.specs.Paths.{Spot, Found, found, locate, replaceAt}
+use Rattle.cbor.specs.Paths.{Spot, found, locate, replaceAt}
 
 -- Reading the bytes of a valid item gives the item, and leaves what stands behind them.
 abbrev pub ItemOfEncode : Type 0

@@ -37,13 +37,3 @@ asked n b = elim (isTypedArray n) [ true ↦ elim (eqb n 76) [ true ↦ false | 
 
 unfoldable pub mayTag : ℕ → Item → Bool
 mayTag n x = asked n (divides (elementSize n) x)
-
--- IN CODE
-
-pub record ElementSize (n r : ℕ) : Type 0 where
-  pub is : r ≡ elementSize n
-  pub some : 0 < r
-
--- the same, by whether the item is a byte string, and its length
-unfoldable pub mayTagBy : ℕ → Bool → ℕ → Bool
-mayTagBy n bytes l = asked n (bytes && eqb (l % elementSize n) 0)

@@ -1,11 +1,1 @@
-pub mod Steps
-pub mod Traces
-pub mod Parts
-pub mod Verdicts
-pub mod Laid
-pub mod Encoding
-pub mod Reporting
-pub mod Putting
-pub mod Deciding
-pub mod Demands
 pub mod Promises

@@ -4,19 +4,18 @@ use native.Mathlib.Omega.{arith}
 use mathlib.Core.Path.{_≡_, refl, sym, ap, _∙_}
 use mathlib.Core.List.{List}
 use lib.ListN.{length, take}
-use Rattle.cbor.specs.Refusals.{Verdict, accepted, refused}
+use Rattle.cbor.specs.Refusals.{Verdict, accepted}
 use Rattle.cbor.specs.Encode.{encodeAll}
-use Rattle.cbor.specs.Answers.{kindNumber}
 use Rattle.cbor.proofs.Results.{refused-not-accepted}
 use Rattle.notation.specs.Reading.{readText}
-use Rattle.edn.specs.Operations.{Outcome, room, fitting, written, bytesOf, read, print, correct}
-use Rattle.edn.specs.Outcomes.{outcomeOf}
-use Rattle.edn.specs.Demands.{Sheet}
+use Rattle.operations.specs.Operations.{Outcome, room, fitting, written, bytesOf, read, print}
+use Rattle.answer.specs.Outcomes.{outcomeOf}
+use Rattle.operations.specs.Demands.{Sheet}
 use Rattle.edn.specs.Promises.{ReadRan, PrintRan, CorrectRan, PrintThenRead, CorrectAsRead}
-use Rattle.edn.specs.declared.answer.Answer.{Answer}
-use Rattle.edn.specs.declared.answer.Answer.the-variants.{Written, Refused}
-use Rattle.edn.proofs.Verdicts.{onward-ok, fitting-ok, written-ok, front-all}
-use Rattle.edn.proofs.Demands.{round-trip, demand3}
+use Rattle.answer.specs.declared.Answer.{Answer}
+use Rattle.answer.specs.declared.Answer.the-variants.{Written, Refused}
+use Rattle.operations.proofs.Verdicts.{onward-ok, fitting-ok, written-ok, front-all}
+use Rattle.operations.proofs.Demands.{round-trip, demand3}
 
 -- what an answer says, and back
 answer-of : (r : Answer) (b : List ℕ) (n : ℕ) → r ≡ Written n → outcomeOf r b .answer ≡ accepted n

@@ -12,11 +12,11 @@ use Rattle.cbor.specs.Paths.{found}
 use Rattle.notation.specs.Classes.{blank, is}
 use Rattle.notation.specs.Reading.{readItem}
 use Rattle.notation.specs.Places.{Span, spanAt, edited}
-use Rattle.edn.specs.Operations.{read, print, correct, level}
-use Rattle.edn.specs.Outcomes.{outcomeOf}
-use Rattle.edn.specs.Demands.{OneItem}
-use Rattle.edn.specs.declared.answer.Answer.{Answer}
-use Rattle.edn.specs.declared.answer.Answer.the-variants.{Written}
+use Rattle.operations.specs.Operations.{read, print, correct, level}
+use Rattle.answer.specs.Outcomes.{outcomeOf}
+use Rattle.operations.specs.Demands.{OneItem}
+use Rattle.answer.specs.declared.Answer.{Answer}
+use Rattle.answer.specs.declared.Answer.the-variants.{Written}
 
 -- the promises of `edn::read::read`, `edn::print::print` and `edn::correct::correct`: a call with the buffer b answered r and left b′
 unfoldable pub ReadRan : List ℕ → List ℕ → Answer → List ℕ → Type 0

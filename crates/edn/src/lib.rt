@@ -1,8 +1,17 @@
-// The notation and its bytes: read, print, look up, correct.
-pub mod answer;
-pub mod correct;
-pub mod look;
-pub mod print;
-pub mod read;
-pub mod report;
-mod text;
+// The notation and its bytes: check, look up, scan, read, print, correct. Each function is handed on from the crate that has its code.
+pub use answer::Answer;
+pub use correcting::correct;
+pub use looking::Checked;
+pub use looking::ItemAt;
+pub use looking::Located;
+pub use looking::Part;
+pub use looking::Scanned;
+pub use looking::check;
+pub use looking::locate;
+pub use looking::look_up;
+pub use looking::scan;
+pub use printing::print;
+pub use reading::read;
+pub use refusal::Refusal;
+pub use refusal::RefusalKind;
+pub use refusal::number;

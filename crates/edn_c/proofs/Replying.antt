@@ -10,80 +10,20 @@ use lib.ListN.{length, set}
 use Rattle.cbor.specs.Refusals.{Verdict, accepted, refused}
 use Rattle.cbor.specs.Items.{Items}
 use Rattle.cbor.specs.Paths.{Spot, start, end}
-use Rattle.cbor.specs.Answers.{kindNumber}
-use Rattle.cbor.specs.declared.refusal.Refusal.{Refusal}
-use Rattle.cbor.specs.declared.refusal.RefusalKind.{RefusalKind}
-use Rattle.cbor.specs.declared.refusal.RefusalKind.the-variants.{TooLong, NotUtf8, NoToken, UnknownWord, Dots, Float, OutOfRange, BadContent, BadIndicator, TooDeep, NotAllowed, MixedChunks, BadTypedArray, NoRoom, EndsInside, NotWellFormed, NoSuchPath}
-use Rattle.edn.specs.Operations.{Outcome}
-use Rattle.edn.specs.Outcomes.{outcomeOf}
-use Rattle.edn.specs.Answers.{checkTold, checkOf, locateTold, locateOf}
-use Rattle.edn.specs.declared.answer.Answer.{Answer}
-use Rattle.edn.specs.declared.answer.Answer.the-variants.{Written, Refused}
-use Rattle.edn.specs.declared.look.Checked.{Checked}
-use Rattle.edn.specs.declared.look.Checked.the-variants.{Accepted, Refused as CheckRefused}
-use Rattle.edn.specs.declared.look.Part.{Part}
-use Rattle.edn.specs.declared.look.Located.{Located}
-use Rattle.edn.specs.declared.look.Located.the-variants.{Part as PartV, Refused as PartRefused}
-use Rattle.edn_c.specs.Replies.{code, succeeds, lengthIn, spotIn, placeIn, answerOf}
-
--- past its end a list stays as it is
-pub set-past : (v : List ℕ) (i x : ℕ) → length v ≤ i → v ≡ set v i x
-set-past [] i x h = refl
-set-past (y ∷ v) zero x h = absurd (omega arith)
-set-past (y ∷ v) (suc i) x h = ap (λ w. y ∷ w) (set-past v i x (omega arith))
-
--- no refusal has the number 0
-not-zero : (k : RefusalKind) → eqb (kindNumber k) 0 ≡ false
-unfolding kindNumber
-not-zero TooLong = refl
-not-zero NotUtf8 = refl
-not-zero NoToken = refl
-not-zero UnknownWord = refl
-not-zero Dots = refl
-not-zero Float = refl
-not-zero OutOfRange = refl
-not-zero BadContent = refl
-not-zero BadIndicator = refl
-not-zero TooDeep = refl
-not-zero NotAllowed = refl
-not-zero MixedChunks = refl
-not-zero BadTypedArray = refl
-not-zero NoRoom = refl
-not-zero EndsInside = refl
-not-zero NotWellFormed = refl
-not-zero NoSuchPath = refl
-
--- a number that is a refusal's is not 0
-fails : {r : ℕ} (k : RefusalKind) → r ≡ kindNumber k → eqb r 0 ≡ false
-fails k s = rw s (not-zero k)
-
--- AN ANSWER
-module _ {a : Answer} where
-  pub done-number : {n : ℕ} → a ≡ Written n → 0 ≡ code (answerOf a)
-  unfolding code answerOf outcomeOf
-  done-number e = rw e
-
-  pub done-value : (v : List ℕ) {v′ : List ℕ} {n : ℕ} → a ≡ Written n → v′ ≡ set v 0 n → v′ ≡ lengthIn v (answerOf a)
-  unfolding lengthIn answerOf outcomeOf
-  done-value v e s = rw e s
-
-  pub refused-number : {e : Refusal} {r : ℕ} → a ≡ Refused e → r ≡ kindNumber (e .kind) → r ≡ code (answerOf a)
-  unfolding code answerOf outcomeOf
-  refused-number e s = rw e s
-
-  pub refused-value : (v : List ℕ) {v′ : List ℕ} {e : Refusal} → a ≡ Refused e → v′ ≡ set v 0 (e .place) → v′ ≡ lengthIn v (answerOf a)
-  unfolding lengthIn answerOf outcomeOf
-  refused-value v e s = rw e s
-
-  pub done-success : {n : ℕ} → a ≡ Written n → true ≡ succeeds (answerOf a)
-  unfolding succeeds answerOf outcomeOf
-  done-success e = rw e
-
-  pub refused-success : {x : Refusal} {r : ℕ} → a ≡ Refused x → r ≡ kindNumber (x .kind) → eqb r 0 ≡ succeeds (answerOf a)
-  unfolding succeeds answerOf outcomeOf
-  refused-success {x} e s = rw e (fails (x .kind) s)
-
-pub ruleset reply-ways = (done-number, done-value, done-success, refused-number, refused-value, refused-success)
+use Rattle.refusal.specs.RefusalKinds.{kindNumber}
+use Rattle.refusal.specs.declared.Refusal.{Refusal}
+use Rattle.operations.specs.Operations.{Outcome}
+use Rattle.answer.specs.Outcomes.{outcomeOf}
+use Rattle.looking.specs.Answers.{checkTold, checkOf, locateTold, locateOf}
+use Rattle.answer.specs.declared.Answer.{Answer}
+use Rattle.answer.specs.declared.Answer.the-variants.{Written, Refused}
+use Rattle.looking.specs.declared.Checked.{Checked}
+use Rattle.looking.specs.declared.Checked.the-variants.{Accepted, Refused as CheckRefused}
+use Rattle.looking.specs.declared.Part.{Part}
+use Rattle.looking.specs.declared.Located.{Located}
+use Rattle.looking.specs.declared.Located.the-variants.{Part as PartV, Refused as PartRefused}
+use Rattle.c_reply.specs.Replies.{code, succeeds, lengthIn, spotIn, placeIn, answerOf}
+use Rattle.c_reply.proofs.Replying.{fails}
 
 -- AN OPERATION WITH A BUFFER
 answer-of : (a : Answer) (b : List ℕ) → answerOf a ≡ (outcomeOf a b) .answer

@@ -1,54 +1,14 @@
 // The operations on numbers and slices alone, for programs in C, Rust and other languages (include/edn.h). Each returns 0, or the number
 // of its refusal; what goes with that is written into `value`, as far as it reaches.
-use cbor::refusal;
-use cbor::refusal::Refusal;
-use edn::answer::Answer;
-use edn::correct;
-use edn::look;
-use edn::look::Checked;
-use edn::look::Located;
-use edn::print;
-use edn::read;
+use c_reply::put;
+use c_reply::refused;
+use c_reply::reply;
+use edn::Checked;
+use edn::Located;
 ghost use mathlib.Core.Path.{_≡_};
 ghost use lib.Dec.{eqb};
-ghost use lib.ListN.{set};
-ghost use Rattle.cbor.specs.Answers.{kindNumber};
-ghost use Rattle.edn.specs.Operations.{read, print, correct, lookUp, itemsOf};
-ghost use Rattle.edn_c.specs.Replies.{code, succeeds, lengthIn, spotIn, placeIn, answerOf};
-
-// Puts a number into a slice that reaches that far.
-fn put(value: &mut [u64], i: usize, x: u64)
-    ensures { λ _. ⌜ now (value .exit) ≡ set (now (value .entry)) i x ⌝ }
-{
-    if i < value.len() {
-        value[i] = x;
-    }
-}
-
-fn refused(e: Refusal, value: &mut [u64]) -> u8
-    ensures { λ r. ⌜ r ≡ kindNumber (e .kind) ⌝ }
-    ensures { λ _. ⌜ now (value .exit) ≡ set (now (value .entry)) 0 (e .place) ⌝ }
-{
-    let place = e.place as u64;
-    put(value, 0, place);
-    let kind = e.kind;
-    refusal::number(kind)
-}
-
-fn reply(a: Answer, value: &mut [u64]) -> u8
-    ensures { λ r. ⌜ r ≡ code (answerOf a) ⌝ }
-    ensures { λ r. ⌜ eqb r 0 ≡ succeeds (answerOf a) ⌝ }
-    ensures { λ _. ⌜ now (value .exit) ≡ lengthIn (now (value .entry)) (answerOf a) ⌝ }
-{
-    match a {
-        Answer::Written(n) => {
-            let length = n as u64;
-            put(value, 0, length);
-            0
-        }
-        Answer::Refused(e) => refused(e, value),
-    }
-}
+ghost use Rattle.operations.specs.Operations.{read, print, correct, lookUp, itemsOf};
+ghost use Rattle.c_reply.specs.Replies.{code, succeeds, lengthIn, spotIn, placeIn};
 
 // The bytes of a text's items, at the front of `out`; their length, or the place of the refusal, in value[0].
 #[no_mangle]
@@ -58,7 +18,7 @@ pub extern "C" fn edn_read(text: &[u8], out: &mut [u8], value: &mut [u64]) -> u8
     ensures { λ _. ⌜ now (out .exit) ≡ (read (now (text .entry)) (now (out .entry))) .buffer ⌝ }
     ensures { λ _. ⌜ now (value .exit) ≡ lengthIn (now (value .entry)) ((read (now (text .entry)) (now (out .entry))) .answer) ⌝ }
 {
-    let a = read::read(text, out);
+    let a = edn::read(text, out);
     reply(a, value)
 }
 
@@ -70,7 +30,7 @@ pub extern "C" fn edn_print(bytes: &[u8], out: &mut [u8], value: &mut [u64]) -> 
     ensures { λ _. ⌜ now (out .exit) ≡ (print (now (bytes .entry)) (now (out .entry))) .buffer ⌝ }
     ensures { λ _. ⌜ now (value .exit) ≡ lengthIn (now (value .entry)) ((print (now (bytes .entry)) (now (out .entry))) .answer) ⌝ }
 {
-    let a = print::print(bytes, out);
+    let a = edn::print(bytes, out);
     reply(a, value)
 }
 
@@ -89,7 +49,7 @@ pub extern "C" fn edn_correct(
     ensures { λ _. ⌜ now (buffer .exit) ≡ (correct (now (buffer .entry)) used (now (path .entry)) (now (text .entry))) .buffer ⌝ }
     ensures { λ _. ⌜ now (value .exit) ≡ lengthIn (now (value .entry)) ((correct (now (buffer .entry)) used (now (path .entry)) (now (text .entry))) .answer) ⌝ }
 {
-    let a = correct::correct(buffer, used, path, text);
+    let a = edn::correct(buffer, used, path, text);
     reply(a, value)
 }
 
@@ -100,7 +60,7 @@ pub extern "C" fn edn_look_up(bytes: &[u8], path: &[u16], value: &mut [u64]) -> 
     ensures { λ r. ⌜ eqb r 0 ≡ succeeds (lookUp (now (bytes .entry)) (now (path .entry))) ⌝ }
     ensures { λ _. ⌜ now (value .exit) ≡ spotIn (now (value .entry)) (lookUp (now (bytes .entry)) (now (path .entry))) ⌝ }
 {
-    let found = look::locate(bytes, path);
+    let found = edn::locate(bytes, path);
     match found {
         Located::Refused(e) => refused(e, value),
         Located::Part(p) => {
@@ -120,7 +80,7 @@ pub extern "C" fn edn_check(bytes: &[u8], value: &mut [u64]) -> u8
     ensures { λ r. ⌜ eqb r 0 ≡ succeeds (itemsOf (now (bytes .entry))) ⌝ }
     ensures { λ _. ⌜ now (value .exit) ≡ placeIn (now (value .entry)) (itemsOf (now (bytes .entry))) ⌝ }
 {
-    let checked = look::check(bytes);
+    let checked = edn::check(bytes);
     match checked {
         Checked::Refused(e) => refused(e, value),
         Checked::Accepted => {

@@ -1,10 +1,9 @@
 // Bytes on standard input; their text in diagnostic notation, or `refused C at P`, on standard output.
-use edn::report;
 
 fn main() {
     let mut bytes = io::large_buffer();
     let n = io::read_full(0, &mut bytes);
     let mut out = [0u8; 65535];
-    let size = report::report_print(&bytes[..n], &mut out);
-    io::write_all(1, report::front(&out, size));
+    let size = reporting::report_print(&bytes[..n], &mut out);
+    io::write_all(1, reporting::front(&out, size));
 }

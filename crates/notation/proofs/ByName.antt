@@ -8,9 +8,9 @@ use lib.ListN.{length, length-append}
 use Rattle.cbor.specs.Refusals.{Result, ok, refuse, bind}
 use Rattle.notation.specs.Scanning.{skip}
 use Rattle.notation.specs.Tokens.{Token}
-use Rattle.notation.specs.Cutting.{next, place, cut, placed}
+use Rattle.notation.specs.Cutting.{next, place}
 use Rattle.notation.specs.Form.{Name, Value, Rule, give, deny, denyFirst, take, call, rules, Calls, obey, readsWithin, reads}
-use Rattle.notation.proofs.Good.{Stop, Blank, Like, Hard, Took, Good, Below, good-below, good-bind}
+use Rattle.notation.proofs.Good.{Blank, Hard, Took, Good, Below, good-below, good-bind}
 use Rattle.notation.proofs.Locality.{lexing, next-skip}
 
 pub bind-ok : {A B : Type 0} {R : Result A} {x : A} {t : List ℕ} (f : A → List ℕ → Result B) → R ≡ ok x t → bind R f ≡ f x t

@@ -16,9 +16,9 @@ use Rattle.notation.specs.Indicators.{Indicator, absent, indefinitely, u
 use Rattle.notation.specs.Tokens.{Opener, bracket, brace, embedding, chunking, opens, angle, square, curly, round, whole, Token, begins, closes, leaf, literal, aComma, aColon}
 use Rattle.notation.specs.Numbers.{isDigit, numberFrom, number}
 use Rattle.notation.specs.Quoted.{Quoting, character, Move, gives, closed, wrong, moveAt, unquote}
-use Rattle.notation.specs.Literals.{literalToken, quotedToken, quoted, isBody, body, Content, content, bad, hexContent, base64Content, contained, encodedLiteral}
+use Rattle.notation.specs.Literals.{literalToken, quotedToken, quoted, isBody, body, Content, standsFor, bad, hexContent, base64Content, contained, encodedLiteral}
 use Rattle.notation.specs.Words.{same, falseWord, trueWord, nullWord, undefinedWord, simpleWord, hexPrefix, base64Prefix, infinityWord, isFloatWord, isPlainDecimal, simpleBy, simpleToken, value, worded, prefixed, word}
-use Rattle.notation.specs.Cutting.{startsWith, afterMinus, opening, cutBy}
+use Rattle.notation.specs.Cutting.{startsWith, afterMinus, openingToken, cutBy}
 use Rattle.notation.proofs.Good.{Good, good-cons, good-ok}
 use Rattle.cbor.proofs.Utf8Laws.{both-true}
 use Rattle.notation.proofs.ScanningElements.{clash, word-on, digit-on}
@@ -79,7 +79,7 @@ quoted-sure k q =
 
 contained-sure : (c : Content) (i : Indicator) → Sure (contained c i)
 unfolding contained
-contained-sure (content b) i = literal-sure byteString b i
+contained-sure (standsFor b) i = literal-sure byteString b i
 contained-sure bad i = sure-refuse badContent 0
 
 encoded-sure : (read : List ℕ → Content) → Sure (encodedLiteral read)
@@ -172,15 +172,15 @@ minus-sure (b ∷ s) = go (is digit b) (startsWith infinityWord (b ∷ s)) refl 
     go false false e₁ e₂ = good-soft (λ p q. afterMinus) (b ∷ s) 0
 
 -- TOKENS, a line for each class
-opening-sure : (o : Indicator → Opener) (i : Indicator) → Sure (opening o i)
-unfolding opening
+opening-sure : (o : Indicator → Opener) (i : Indicator) → Sure (openingToken o i)
+unfolding openingToken
 opening-sure o absent = sure-ok (begins (opens (o absent)))
 opening-sure o indefinitely = sure-ok (begins (opens (o indefinitely)))
 opening-sure o (wide w) = sure-ok (begins (opens (o (wide w))))
 opening-sure o unknown = sure-refuse badIndicator 0
 
-opened-sure : (o : Indicator → Opener) → Sure (λ s. bind (indicator s) (opening o))
-opened-sure o = sure-then indicator (opening o) indicator-sure (opening-sure o)
+opened-sure : (o : Indicator → Opener) → Sure (λ s. bind (indicator s) (openingToken o))
+opened-sure o = sure-then indicator (openingToken o) indicator-sure (opening-sure o)
 
 -- c must be next
 expected-sure : (c : ℕ) → is blank c ≡ false → (rd : List ℕ → Result Token) → Sure rd → Sure (λ s. bind (expect c noToken s) (λ u r. rd r))

@@ -4,11 +4,9 @@ use native.Mathlib.Omega.{arith}
 use mathlib.Core.Path.{_≡_, refl, sym, ap, _∙_}
 use mathlib.Core.Logic.{_⊎_, inl, inr, ⊎-elim}
 use mathlib.Core.Bool.{Bool, true, false}
-use mathlib.Core.List.{List, [], _∷_, _++_, append-assoc, append-nil}
+use mathlib.Core.List.{List, [], _∷_, _++_, append-assoc, append-nil, head-eq-of-cons-eq, append-cancel-right}
 use lib.Dec.{leb, eqb}
-use mathlib.Core.List.{head-eq-of-cons-eq}
 use lib.Seq.{take-at, drop-at}
-use mathlib.Core.List.{append-cancel-right}
 use lib.ListN.{length, take as takeN, drop as dropN, length-append, length-take, length-drop, take-append-drop}
 use borrow.Author.Tests.{le-leb, lt-leb, leb-true, leb-false, eq-eqb, eqb-true, eqb-false}
 use Rattle.cbor.specs.Refusals.{Result, ok, refuse, bind, Verdict, accepted, refused, verdictOf, tooLong, notUtf8, noToken, notAllowed}
@@ -18,25 +16,24 @@ use Rattle.cbor.specs.Valid.{Bytes}
 use Rattle.cbor.proofs.Table.{between}
 use Rattle.cbor.proofs.Heads.{bytes-cut}
 use Rattle.cbor.specs.Decode.{mostBytes, mostLevels}
-use Rattle.cbor.specs.Paths.{Spot, found, locate, changeNth, changeIn, changeAt, replaceAt}
+use Rattle.cbor.specs.Paths.{locate, changeNth, changeIn, changeAt, replaceAt}
 use Rattle.cbor.proofs.Results.{refuse-not-ok, refused-not-accepted, verdict-ok}
 use Rattle.cbor.proofs.Utf8Laws.{utf8-append, utf8-join, utf8-bytes, utf8-ascii-cut}
 use Rattle.notation.specs.Classes.{Class, other, blank, slash, hash, classNumber, classRows, classIn, classOf, is}
 use Rattle.notation.specs.Scanning.{skip}
-use Rattle.notation.specs.Tokens.{Token, begins}
+use Rattle.notation.specs.Tokens.{begins}
 use Rattle.notation.specs.Cutting.{cutBy, cut, place, placed, next}
 use Rattle.notation.specs.Form.{one, Closed, reads}
 use Rattle.notation.specs.Reading.{marked, checked, sequence, readText, alone, single, readItem}
-use Rattle.notation.specs.Places.{levelsAt, Span, spanAt, textAt, edited}
-use Rattle.notation.specs.Theorems.{Edits, EditedText}
-use Rattle.notation.proofs.Good.{stop-nil, like, Hard, Took}
+use Rattle.notation.specs.Places.{levelsAt, Span, textAt, edited}
+use Rattle.notation.specs.Theorems.{EditedText}
+use Rattle.notation.proofs.Good.{stop-nil, like, Took}
 use Rattle.notation.proofs.ScanningElements.{is-true, clash, class-is, high-other}
 use Rattle.notation.proofs.ScanningBlanks.{skip-token}
 use Rattle.notation.proofs.Locality.{lexing}
 use Rattle.notation.proofs.Splice.{bind-map, Refuses, Next}
 use Rattle.notation.proofs.ByName.{bind-ok, took, reads-skips}
 use Rattle.notation.proofs.Equations.{one-starts}
-use Rattle.notation.proofs.Replace.{changeAll}
 use Rattle.notation.proofs.Substitution.{not-empty, Spanned, spanned, filled, blocked, located, text-hole, first-token, start-cut, behind-cut}
 
 -- WHAT A VERDICT COMES FROM
@@ -199,14 +196,14 @@ refuses-refused {B = B} s m n (refuse k w) f h = go (leb (length s) mostBytes) (
     go false b = (tooLong, 0, refl)
 
 -- a text and the items that it has
-record Read (t : List ℕ) (xs : Items) : Type 0 where
-  passes : Passes t
-  closed : Closed
-  rest : List ℕ
-  reading : sequence t ≡ ok closed rest
-  all : closed .all ≡ xs
+pub record Read (t : List ℕ) (xs : Items) : Type 0 where
+  pub passes : Passes t
+  pub closed : Closed
+  pub rest : List ℕ
+  pub reading : sequence t ≡ ok closed rest
+  pub all : closed .all ≡ xs
 
-read-ok : (t : List ℕ) (xs : Items) → readText t ≡ accepted xs → Read t xs
+pub read-ok : (t : List ℕ) (xs : Items) → readText t ≡ accepted xs → Read t xs
 unfolding readText
 read-ok t xs e =
     let c = checked-ok t _ e in
@@ -219,7 +216,7 @@ unfolding readText verdictOf
 read-is t c r h e = checked-is t _ h ∙ ap (verdictOf (suc (length t))) (bind-ok _ e)
 
 -- nothing more is skipped of what is left
-skip-twice : (s : List ℕ) → skip (skip s) ≡ skip s
+pub skip-twice : (s : List ℕ) → skip (skip s) ≡ skip s
 skip-twice s = let f = lexing .skips s in sym (f .2 (skip s)) ∙ ap skip (sym (f .1))
 
 skip-most : (s : List ℕ) → length (skip s) ≤ length s
@@ -262,7 +259,7 @@ module _ (t : List ℕ) (xs : Items) (k : ℕ) (p : List ℕ) (z : Span) (rd : R
   own-is : reads (one (levelsAt mostLevels p)) (skip (sp .from)) ≡ ok (sp .old) (sp .behind)
   own-is = reads-skips (one (levelsAt mostLevels p)) (sp .from) (skip (sp .from)) (skip-twice (sp .from)) ∙ sp .was
 
-  own : Took (λ m n. reads (one (levelsAt mostLevels p))) (skip (sp .from)) (sp .old) (sp .behind)
+  pub own : Took (λ m n. reads (one (levelsAt mostLevels p))) (skip (sp .from)) (sp .old) (sp .behind)
   own = took (one (levelsAt mostLevels p)) (skip (sp .from)) own-is
 
   starts-at : marked (dropN (z .start) t) ≡ skip (sp .from)
@@ -283,7 +280,7 @@ module _ (t : List ℕ) (xs : Items) (k : ℕ) (p : List ℕ) (z : Span) (rd : R
       omega
       (arith, sp .start, sp .end, simp length-append at (ap length (own .split)), simp (length-append, length-drop) at (ap length starts-at), simp (length-append, length-drop) at (ap length ends-at))
 
-  own-text : textAt t z ≡ own .used
+  pub own-text : textAt t z ≡ own .used
   unfolding textAt
   own-text = ap (takeN (z .end - z .start)) own-split ∙ take-at (own .used) (dropN (z .end) t) (z .end - z .start) own-length
 

@@ -5,12 +5,12 @@ use mathlib.Core.Bool.{Bool, true, false}
 use mathlib.Core.List.{List, [], _∷_, _++_}
 use lib.Dec.{eqb}
 use Rattle.cbor.specs.Refusals.{Result, ok, refuse, bind}
-use Rattle.cbor.specs.Items.{Item, Pairs}
+use Rattle.cbor.specs.Items.{Item}
 use Rattle.cbor.proofs.Results.{refuse-not-ok}
 use Rattle.notation.specs.Tokens.{Beginning, Shape, Token, begins, closes, aComma, aColon}
 use Rattle.notation.specs.Cutting.{next, place}
-use Rattle.notation.specs.Form.{one, items, pairs, Closed, Rule, give, deny, denyFirst, take, call, then, stray, strays, closing, shapeNumber, beginning, oneRule, afterItem, itemsRule, afterKey, pairsRule, rules, Calls, obey, reads}
-use Rattle.notation.proofs.ByName.{bind-ok, bind-refuse, reads-is}
+use Rattle.notation.specs.Form.{one, items, pairs, Rule, give, deny, denyFirst, take, call, then, strays, beginning, oneRule, afterItem, itemsRule, afterKey, pairsRule, rules, Calls, obey, reads}
+use Rattle.notation.proofs.ByName.{bind-ok, reads-is}
 
 pub bind-same : {A B : Type 0} (R : Result A) (f f′ : A → List ℕ → Result B) → ((x : A) (t : List ℕ) → R ≡ ok x t → f x t ≡ f′ x t) → bind R f ≡ bind R f′
 unfolding bind

@@ -15,7 +15,7 @@ use Rattle.notation.specs.Scanning.{skip}
 use Rattle.notation.specs.Indicators.{Indicator, absent, indefinitely, unknown, wide, Chosen, chosen, misfit, choose}
 use Rattle.notation.specs.Tokens.{Opener, bracket, brace, tagging, embedding, Beginning, leaf, literal, chunking, opens, Shape, whole, round, Token, begins, closes, aComma, aColon}
 use Rattle.notation.specs.Cutting.{next, place}
-use Rattle.notation.specs.Form.{Wanted, Name, one, items, pairs, chunks, Closed, Value, Rule, give, deny, denyFirst, take, call, then, stray, strayClosing, strays, shapeNumber, closing, sized, contains, embeds, tags, afterTag, inside, beginning, oneRule, afterItem, itemsRule, afterValue, afterKey, pairsRule, afterChunk, isWanted, chunk, chunksRule, rules, obey, reads}
+use Rattle.notation.specs.Form.{Wanted, Name, one, items, pairs, chunks, Closed, Value, Rule, give, deny, denyFirst, take, call, then, stray, strayClosing, strays, shapeNumber, closingRule, widthRule, contains, embeds, tagRule, afterTag, inside, beginning, oneRule, afterItem, itemsRule, afterValue, afterKey, pairsRule, afterChunk, isWanted, chunkRule, chunksRule, rules, obey, reads}
 use Rattle.notation.specs.Reading.{marked}
 use Rattle.notation.specs.Alone.{plus}
 use Rattle.notation.proofs.Good.{Below, good-below}
@@ -55,12 +55,12 @@ safe-then (denyFirst n) k h g = tt
 safe-then (take f) k h g = (λ t. safe-then (f t) k (h .0 t) g, ap (λ r. then r k) (h .1))
 safe-then (call n j) k h g = (h .0, λ x. safe-then (j x) k (h .1 x) g)
 
-closing-safe : {A : Type 0} (d : ℕ) (h h′ : Shape) (i : Indicator) (x : A) → Safe (closing d h h′ i x)
-unfolding closing strays
+closing-safe : {A : Type 0} (d : ℕ) (h h′ : Shape) (i : Indicator) (x : A) → Safe (closingRule d h h′ i x)
+unfolding closingRule strays
 closing-safe d h h′ i x = safe-if (eqb (shapeNumber h) (shapeNumber h′)) (give x) (strays d (closes h′ i)) tt tt
 
-sized-safe : (c : Chosen) (make : Width → Item) → Safe (sized c make)
-unfolding sized
+sized-safe : (c : Chosen) (make : Width → Item) → Safe (widthRule c make)
+unfolding widthRule
 sized-safe (chosen w) make = tt
 sized-safe misfit make = tt
 
@@ -75,19 +75,19 @@ embeds-safe : (c : Closed) → Safe (embeds c)
 unfolding embeds
 embeds-safe c = sized-safe _ _
 
-tags-safe : (w : Width) (n : ℕ) (x : Item) → Safe (tags w n x)
-unfolding tags
+tags-safe : (w : Width) (n : ℕ) (x : Item) → Safe (tagRule w n x)
+unfolding tagRule
 tags-safe w n x = safe-if (mayTag n x) (give (tag w n x)) (denyFirst badTypedArray) tt tt
 
 afterTag-safe : (d : ℕ) (w : Width) (n : ℕ) (x : Item) (t : Token) → Safe (afterTag d w n x t)
 unfolding afterTag strays
 afterTag-safe d w n x (begins g) = tt
-afterTag-safe d w n x (closes h i) = safe-then (closing d round h i x) (tags w n) (closing-safe d round h i x) (tags-safe w n)
+afterTag-safe d w n x (closes h i) = safe-then (closingRule d round h i x) (tagRule w n) (closing-safe d round h i x) (tags-safe w n)
 afterTag-safe d w n x aComma = tt
 afterTag-safe d w n x aColon = tt
 
 inside-safe : (d : ℕ) (o : Opener) → Safe (inside d o)
-unfolding inside shapeNumber afterTag closing strays then stray strayClosing
+unfolding inside shapeNumber afterTag closingRule strays then stray strayClosing
 inside-safe d (bracket i) = (refl, λ c. contains-safe i (count (c .all)) (λ z. array z (c .all)))
 inside-safe d (brace i) = (tt, λ ps. contains-safe i (count₂ ps) (λ z. map z ps))
 inside-safe d (tagging w n) = (tt, λ x. (afterTag-safe d w n x, refl))
@@ -109,9 +109,9 @@ one-safe d aComma = tt
 one-safe d aColon = tt
 
 -- the end is not what closes h
-closing-ends : {A : Type 0} (d : ℕ) (h : Shape) (x : A) → eqb (shapeNumber h) 4 ≡ false → closing d h whole absent x ≡ deny notAllowed
-unfolding closing shapeNumber strays stray strayClosing
-closing-ends d h x e = rw (e, closing)
+closing-ends : {A : Type 0} (d : ℕ) (h : Shape) (x : A) → eqb (shapeNumber h) 4 ≡ false → closingRule d h whole absent x ≡ deny notAllowed
+unfolding closingRule shapeNumber strays stray strayClosing
+closing-ends d h x e = rw (e, closingRule)
 
 module _ (h : Shape) (inner : eqb (shapeNumber h) 4 ≡ false) where
   afterItem-safe : (d : ℕ) (x : Item) (t : Token) → Safe (afterItem h d x t)
@@ -144,7 +144,7 @@ afterValue-safe d k x aComma = (tt, λ ps. tt)
 afterValue-safe d k x aColon = tt
 
 afterKey-safe : (d : ℕ) (k : Item) (t : Token) → Safe (afterKey d k t)
-unfolding afterKey afterValue closing shapeNumber strays stray strayClosing
+unfolding afterKey afterValue closingRule shapeNumber strays stray strayClosing
 afterKey-safe d k (begins g) = tt
 afterKey-safe d k (closes h i) = tt
 afterKey-safe d k aComma = tt
@@ -165,8 +165,8 @@ afterChunk-safe d k c (closes h i) = closing-safe d round h i (record { kind = k
 afterChunk-safe d k c aComma = (tt, λ cs. tt)
 afterChunk-safe d k c aColon = tt
 
-chunk-safe : (want : Wanted) (d : ℕ) (k : Kind) (z : Size) (b : List ℕ) → Safe (chunk want d k z b)
-unfolding chunk afterChunk closing shapeNumber strays stray strayClosing
+chunk-safe : (want : Wanted) (d : ℕ) (k : Kind) (z : Size) (b : List ℕ) → Safe (chunkRule want d k z b)
+unfolding chunkRule afterChunk closingRule shapeNumber strays stray strayClosing
 chunk-safe want d k (definite w) b =
     safe-if (isWanted want k) (take (afterChunk d k (record { width = w; content = b }))) (deny mixedChunks) (afterChunk-safe d k (record { width = w; content = b }), refl) tt
 chunk-safe want d k indefinite b = tt
@@ -190,7 +190,7 @@ rules-safe (pairs b d) i = pairs-safe b d
 rules-safe (chunks w d) i = chunks-safe w d
 
 rules-end : (n : Name) → Inner n → Ends (rules n)
-unfolding rules oneRule pairsRule chunksRule closing shapeNumber strays stray strayClosing
+unfolding rules oneRule pairsRule chunksRule closingRule shapeNumber strays stray strayClosing
 rules-end (one d) i = refl
 rules-end (items h b d) i = items-end h i b d
 rules-end (pairs true d) i = refl

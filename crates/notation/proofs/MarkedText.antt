@@ -9,7 +9,7 @@ use lib.ListN.{length, length-append}
 use Rattle.cbor.specs.Refusals.{Result, ok, refuse, notAllowed}
 use Rattle.cbor.specs.Utf8.{isIn}
 use Rattle.notation.specs.Classes.{blank, slash, hash, classNumber, classRows, classIn, classOf, is}
-use Rattle.notation.specs.Scanning.{isComment, Skipping, between, slashed, hashed, Skipped, on, end, skipped, leftIn, skipFrom, skip}
+use Rattle.notation.specs.Scanning.{isComment, Skipping, between, slashed, hashed, Skipped, skips, stops, skipped, leftIn, skipFrom, skip}
 use Rattle.notation.specs.Indicators.{absent}
 use Rattle.notation.specs.Tokens.{closes, whole}
 use Rattle.notation.specs.Cutting.{cutBy, cut, place, placed, next}
@@ -28,11 +28,11 @@ onward (slashed c) = slashed (marked c)
 onward (hashed c) = hashed (marked c)
 
 abbrev stepped : Skipped → Skipped
-stepped (on k) = on (onward k)
-stepped (end r) = end (marked r)
+stepped (skips k) = skips (onward k)
+stepped (stops r) = stops (marked r)
 
-commented : (k : Skipping) (c : List ℕ) (u v : Bool) → _≡_ {A = Skipped} (elim u [ true ↦ on between | false ↦ elim v [ true ↦ on (onward k) | false ↦ end (marked c) ] ])
-    (stepped (elim u [ true ↦ on between | false ↦ elim v [ true ↦ on k | false ↦ end c ] ]))
+commented : (k : Skipping) (c : List ℕ) (u v : Bool) → _≡_ {A = Skipped} (elim u [ true ↦ skips between | false ↦ elim v [ true ↦ skips (onward k) | false ↦ stops (marked c) ] ])
+    (stepped (elim u [ true ↦ skips between | false ↦ elim v [ true ↦ skips k | false ↦ stops c ] ]))
 commented k c true v = refl
 commented k c false true = refl
 commented k c false false = refl
@@ -42,8 +42,8 @@ unfolding skipped marked
 skipped-marked between b s = go (is blank b) (is slash b) (is hash b)
   where
     go : (u v w : Bool) → _≡_ {A = Skipped}
-        (elim u [ true ↦ on between | false ↦ elim v [ true ↦ on (slashed (marked (b ∷ s))) | false ↦ elim w [ true ↦ on (hashed (marked (b ∷ s))) | false ↦ end (marked (b ∷ s)) ] ] ])
-        (stepped (elim u [ true ↦ on between | false ↦ elim v [ true ↦ on (slashed (b ∷ s)) | false ↦ elim w [ true ↦ on (hashed (b ∷ s)) | false ↦ end (b ∷ s) ] ] ]))
+        (elim u [ true ↦ skips between | false ↦ elim v [ true ↦ skips (slashed (marked (b ∷ s))) | false ↦ elim w [ true ↦ skips (hashed (marked (b ∷ s))) | false ↦ stops (marked (b ∷ s)) ] ] ])
+        (stepped (elim u [ true ↦ skips between | false ↦ elim v [ true ↦ skips (slashed (b ∷ s)) | false ↦ elim w [ true ↦ skips (hashed (b ∷ s)) | false ↦ stops (b ∷ s) ] ] ]))
     go true v w = refl
     go false true w = refl
     go false false true = refl
@@ -59,9 +59,9 @@ from-marked (hashed c) [] = refl
 from-marked k (b ∷ s) = rw (skipped-marked k b s, skipFrom) (go (skipped k b s) (λ k′. from-marked k′ s))
   where
     go : (m : Skipped) → ((k′ : Skipping) → skipFrom (onward k′) (marked s) ≡ marked (skipFrom k′ s))
-        → _≡_ {A = List ℕ} (elim (stepped m) [ on k′ ↦ skipFrom k′ (marked s) | end r ↦ r ]) (marked (elim m [ on k′ ↦ skipFrom k′ s | end r ↦ r ]))
-    go (on k′) h = h k′
-    go (end r) h = refl
+        → _≡_ {A = List ℕ} (elim (stepped m) [ skips k′ ↦ skipFrom k′ (marked s) | stops r ↦ r ]) (marked (elim m [ skips k′ ↦ skipFrom k′ s | stops r ↦ r ]))
+    go (skips k′) h = h k′
+    go (stops r) h = refl
 
 pub skip-marked : (s : List ℕ) → skip (marked s) ≡ marked (skip s)
 unfolding skip

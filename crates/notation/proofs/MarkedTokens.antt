@@ -17,9 +17,9 @@ use Rattle.notation.specs.Indicators.{Indicator, absent, indefinitely, u
 use Rattle.notation.specs.Tokens.{Opener, bracket, brace, tagging, embedding, chunking, opens, angle, square, curly, round, whole, Token, begins, closes, leaf, literal, aComma, aColon}
 use Rattle.notation.specs.Numbers.{digitValue, isDigit, numberFrom, digits, makesFloat, isFloating, radixOf, judged, integerToken, integer, otherInteger, decimal, based, afterZero, number}
 use Rattle.notation.specs.Quoted.{Quoting, character, escape, unicode, paired, Move, gives, closed, wrong, escapes, escapedIn, moveAt, unquote}
-use Rattle.notation.specs.Literals.{literalToken, quotedToken, quoted, isBody, body, Content, content, bad, hexContent, base64Content, contained, encodedLiteral}
+use Rattle.notation.specs.Literals.{literalToken, quotedToken, quoted, isBody, body, Content, standsFor, bad, hexContent, base64Content, contained, encodedLiteral}
 use Rattle.notation.specs.Words.{same, falseWord, trueWord, nullWord, undefinedWord, simpleWord, hexPrefix, base64Prefix, infinityWord, isFloatWord, isPlainDecimal, simpleBy, simpleToken, value, worded, prefixed, word}
-use Rattle.notation.specs.Cutting.{startsWith, afterMinus, opening, cutBy}
+use Rattle.notation.specs.Cutting.{startsWith, afterMinus, openingToken, cutBy}
 use Rattle.notation.specs.Reading.{marked}
 use Rattle.notation.proofs.ScanningElements.{off, digit-on, float-on, radix-small}
 
@@ -205,7 +205,7 @@ quoted-marks k q h =
 
 contained-marks : (c : Content) (i : Indicator) → Marks (contained c i)
 unfolding contained
-contained-marks (content b) i = literal-marks byteString b i
+contained-marks (standsFor b) i = literal-marks byteString b i
 contained-marks bad i = marks-refuse badContent 0
 
 encoded-marks : (read : List ℕ → Content) → Marks (encodedLiteral read)
@@ -304,15 +304,15 @@ minus-marks (b ∷ s) =
     (infinity-marks b s)
 
 -- TOKENS, a line for each class
-opening-marks : (o : Indicator → Opener) (i : Indicator) → Marks (opening o i)
-unfolding opening
+opening-marks : (o : Indicator → Opener) (i : Indicator) → Marks (openingToken o i)
+unfolding openingToken
 opening-marks o absent = marks-ok (begins (opens (o absent)))
 opening-marks o indefinitely = marks-ok (begins (opens (o indefinitely)))
 opening-marks o (wide w) = marks-ok (begins (opens (o (wide w))))
 opening-marks o unknown = marks-refuse badIndicator 0
 
-opened-marks : (o : Indicator → Opener) → Marks (λ s. bind (indicator s) (opening o))
-opened-marks o = marks-then indicator (opening o) indicator-marks (opening-marks o)
+opened-marks : (o : Indicator → Opener) → Marks (λ s. bind (indicator s) (openingToken o))
+opened-marks o = marks-then indicator (openingToken o) indicator-marks (opening-marks o)
 
 expected-marks : (c : ℕ) → eqb 256 c ≡ false → (rd : List ℕ → Result Token) → Marks rd → Marks (λ s. bind (expect c noToken s) (λ u r. rd r))
 expected-marks c h rd k = marks-then (expect c noToken) (λ u r. rd r) (expect-marks c noToken h) (λ u. k)

@@ -7,7 +7,7 @@ use mathlib.Core.List.{List, [], _∷_, _++_, append-assoc}
 use lib.Dec.{eqb}
 use borrow.Author.Tests.{eqb-true, eq-eqb, le-leb}
 use Rattle.cbor.specs.Ascii.{ascii}
-use Rattle.cbor.specs.Refusals.{Result, ok, refuse, bind}
+use Rattle.cbor.specs.Refusals.{ok, bind}
 use Rattle.cbor.specs.Widths.{Width, limit}
 use Rattle.cbor.specs.Items.{Kind, byteString, textString, Size, definite, indefinite, Chunk, Item, int, string, chunked, array, map, tag, simple, Items, none, more, Pairs, none₂, more₂, count, count₂, levels, levelsAll, levelsAll₂}
 use Rattle.cbor.specs.TypedArrays.{mayTag}
@@ -17,10 +17,10 @@ use Rattle.cbor.proofs.Results.{refuse-not-ok}
 use Rattle.notation.specs.Classes.{blank, classNumber, classRows, classIn, classOf, is}
 use Rattle.notation.specs.Scanning.{skip, skipFrom, skipped}
 use Rattle.notation.specs.Indicators.{Indicator, absent}
-use Rattle.notation.specs.Tokens.{bracket, brace, Beginning, leaf, literal, Shape, square, curly, round, Token, begins, closes, aComma, aColon}
+use Rattle.notation.specs.Tokens.{bracket, brace, leaf, literal, Shape, square, curly, round, Token, begins, closes}
 use Rattle.notation.specs.Cutting.{cutBy, cut, place, placed, next}
-use Rattle.notation.specs.Form.{Wanted, either, only, Name, one, items, pairs, chunks, Closed, Value, Rule, give, deny, denyFirst, take, call, then, strays, shapeNumber, closing, tags, afterTag, inside, literalItem, beginning, oneRule, addItem, afterItem, itemsRule, afterValue, afterKey, pairsRule, addChunk, afterChunk, isWanted, chunk, chunksRule, rules, obey, reads}
-use Rattle.notation.specs.Printing.{decimalOf, indicatorOf, printString, printChunks, printChunked, sizeOf, print, printAll, printRest, printAll₂, printRest₂}
+use Rattle.notation.specs.Form.{Wanted, either, only, Name, one, items, pairs, chunks, Closed, Value, give, then, shapeNumber, closingRule, tagRule, afterTag, inside, literalItem, beginning, oneRule, addItem, afterItem, itemsRule, afterValue, afterKey, pairsRule, addChunk, afterChunk, isWanted, chunkRule, chunksRule, rules, obey, reads}
+use Rattle.notation.specs.Printing.{decimalOf, indicatorOf, printString, printChunks, printChunked, sizeOf, printItem, printAll, printRest, printAll₂, printRest₂}
 use Rattle.notation.proofs.Good.{Stop}
 use Rattle.notation.proofs.Locality.{lexing}
 use Rattle.notation.proofs.ByName.{bind-ok, bind-refuse, reads-is, reads-skips}
@@ -31,9 +31,9 @@ use Rattle.notation.proofs.PrintTokens.{next-simple, next-bracket, next
 
 -- RULES
 
-closing-same : {A : Type 0} (d : ℕ) (h : Shape) (i : Indicator) (x : A) → closing d h h i x ≡ give x
-unfolding closing
-closing-same d h i x = rw (eq-eqb (shapeNumber h) (shapeNumber h) refl, closing)
+closing-same : {A : Type 0} (d : ℕ) (h : Shape) (i : Indicator) (x : A) → closingRule d h h i x ≡ give x
+unfolding closingRule
+closing-same d h i x = rw (eq-eqb (shapeNumber h) (shapeNumber h) refl, closingRule)
 
 -- what is read by name, behind its first token
 by-token : (n : Name) (s : List ℕ) {t : Token} {r : List ℕ} → next s ≡ ok t r → reads n s ≡ obey reads (rules n t) (place s) (place s) r
@@ -75,8 +75,8 @@ is-wanted textString = refl
 
 chunk-first : (want : Wanted) (d : ℕ) (k : Kind) (c : Chunk) (u : List ℕ) → isWanted want k ≡ true → ValidString k (c .width) (c .content) → Stop u
     → let s = printString k (c .width) (c .content) ++ u in reads (chunks want d) s ≡ bind (next u) (λ t v. obey reads (afterChunk d k c t) (place s) (place u) v)
-unfolding rules chunksRule chunk obey
-chunk-first want d k c u h v st = by-token (chunks want d) _ (next-string k (c .width) (c .content) u v st) ∙ rw (h, chunk)
+unfolding rules chunksRule chunkRule obey
+chunk-first want d k c u h v st = by-token (chunks want d) _ (next-string k (c .width) (c .content) u v st) ∙ rw (h, chunkRule)
 
 chunks-stop : (k : Kind) (cs : List Chunk) (r : List ℕ) → Stop (printChunks k cs ++ (0x29 ∷ r))
 unfolding printChunks
@@ -180,9 +180,9 @@ pair-split a b u r = simp append-assoc
 
 tag-read : (d : ℕ) (w : Width) (n : ℕ) (x : Item) (s r : List ℕ) → n ≤ limit w → mayTag n x ≡ true → reads (one d) s ≡ ok x (0x29 ∷ r)
     → reads (one (suc d)) ((decimalOf n ++ indicatorOf w n) ++ (0x28 ∷ s)) ≡ ok (tag w n x) r
-unfolding rules oneRule beginning inside afterTag tags then obey
+unfolding rules oneRule beginning inside afterTag tagRule then obey
 tag-read d w n x s r h t e =
-    by-token (one (suc d)) _ (next-tag w n s h) ∙ bind-ok _ e ∙ bind-ok _ (marks r .paren) ∙ rw (closing-same {A = Item} d round absent) (rw (t, tags))
+    by-token (one (suc d)) _ (next-tag w n s h) ∙ bind-ok _ e ∙ bind-ok _ (marks r .paren) ∙ rw (closing-same {A = Item} d round absent) (rw (t, tagRule))
 
 tag-split : (a b r : List ℕ) → (a ++ (0x28 ∷ (b ++ ascii ")"))) ++ r ≡ a ++ (0x28 ∷ (b ++ (0x29 ∷ r)))
 tag-split a b r = simp append-assoc
@@ -190,9 +190,9 @@ tag-split a b r = simp append-assoc
 -- ALL
 
 mutual
-  unfolding print printAll printRest printAll₂ printRest₂ Valid ValidAll ValidAll₂ levels levelsAll levelsAll₂ literalItem rules itemsRule pairsRule addItem obey
+  unfolding printItem printAll printRest printAll₂ printRest₂ Valid ValidAll ValidAll₂ levels levelsAll levelsAll₂ literalItem rules itemsRule pairsRule addItem obey
 
-  pub print-read : (x : Item) (d : ℕ) (r : List ℕ) → Valid x → levels x ≤ d → Stop r → reads (one d) (print x ++ r) ≡ ok x r
+  pub print-read : (x : Item) (d : ℕ) (r : List ℕ) → Valid x → levels x ≤ d → Stop r → reads (one d) (printItem x ++ r) ≡ ok x r
   print-read (int g w n) d r v h st = leaf-read (int g w n) d _ r (next-integer g w n r v st) (omega arith)
   print-read (string k w b) d r v h st = literal-read k (definite w) b d _ r (next-string k w b r v st)
   print-read (chunked k cs) d r v h st = chunked-read k cs d r v st
@@ -206,8 +206,8 @@ mutual
       ∙ map-read d z ps _ r (v .0) (all₂-read ps d r (v .1) (omega arith))
   print-read (tag w n x) zero r v h st = absurd (omega arith)
   print-read (tag w n x) (suc d) r v h st =
-      ap (reads (one (suc d))) (tag-split (decimalOf n ++ indicatorOf w n) (print x) r)
-      ∙ tag-read d w n x (print x ++ (0x29 ∷ r)) r (v .0) (v .1) (print-read x d (0x29 ∷ r) (v .2) (omega arith) (stops r .paren))
+      ap (reads (one (suc d))) (tag-split (decimalOf n ++ indicatorOf w n) (printItem x) r)
+      ∙ tag-read d w n x (printItem x ++ (0x29 ∷ r)) r (v .0) (v .1) (print-read x d (0x29 ∷ r) (v .2) (omega arith) (stops r .paren))
   print-read (simple n) d r v h st = leaf-read (simple n) d _ r (next-simple n r v st) (omega arith)
 
   -- items, a comma and a blank c between them, in front of e, which closes them
@@ -215,7 +215,7 @@ mutual
       → reads (items h true d) (printAll (0x2c ∷ c ∷ []) xs ++ e) ≡ ok (record { all = xs; indicator = i }) r
   all-read none h d c e r i b v l st en = by-token (items h true d) e en ∙ rw (closing-same {A = Closed} d h i)
   all-read (more x xs) h d c e r i b v l st en =
-      ap (reads (items h true d)) (append-assoc (print x) (printRest (0x2c ∷ c ∷ []) xs) e)
+      ap (reads (items h true d)) (append-assoc (printItem x) (printRest (0x2c ∷ c ∷ []) xs) e)
       ∙ items-first h true d _ (print-read x d _ (v .0) (omega arith) (rest-stop xs c e st))
       ∙ rest-read xs x h d c e r i _ _ b (v .1) (omega arith) st en
 
@@ -224,14 +224,14 @@ mutual
   rest-read none x h d c e r i p q b v l st en = items-end h d x i e r p q en
   rest-read (more y ys) x h d c e r i p q b v l st en =
       items-more h d x c _ r (record { all = more y ys; indicator = i }) p q b
-      (ap (reads (items h false d)) (append-assoc (print y) (printRest (0x2c ∷ c ∷ []) ys) e)
+      (ap (reads (items h false d)) (append-assoc (printItem y) (printRest (0x2c ∷ c ∷ []) ys) e)
       ∙ items-first h false d _ (print-read y d _ (v .0) (omega arith) (rest-stop ys c e st))
       ∙ rest-read ys y h d c e r i _ _ b (v .1) (omega arith) st en)
 
   pub all₂-read : (ps : Pairs) (d : ℕ) (r : List ℕ) → ValidAll₂ ps → levelsAll₂ ps ≤ d → reads (pairs true d) (printAll₂ ps ++ (0x7d ∷ r)) ≡ ok ps r
   all₂-read none₂ d r v l = by-token (pairs true d) _ (marks r .brace) ∙ rw (closing-same {A = Pairs} d curly absent)
   all₂-read (more₂ k x ps) d r v l =
-      ap (reads (pairs true d)) (pair-split (print k) (print x) (printRest₂ ps) (0x7d ∷ r))
+      ap (reads (pairs true d)) (pair-split (printItem k) (printItem x) (printRest₂ ps) (0x7d ∷ r))
       ∙ pair-first true d _ _ (print-read k d _ (v .0) (omega arith) (stops _ .colon)) (print-read x d _ (v .1) (omega arith) (rest₂-stop ps r))
       ∙ rest₂-read ps k x d r _ _ (v .2) (omega arith)
 
@@ -240,6 +240,6 @@ mutual
   rest₂-read none₂ k x d r p q v l = pairs-end d k x r p q
   rest₂-read (more₂ k′ x′ ps) k x d r p q v l =
       pairs-more d k x _ r (more₂ k′ x′ ps) p q
-      (ap (reads (pairs false d)) (pair-split (print k′) (print x′) (printRest₂ ps) (0x7d ∷ r))
+      (ap (reads (pairs false d)) (pair-split (printItem k′) (printItem x′) (printRest₂ ps) (0x7d ∷ r))
       ∙ pair-first false d _ _ (print-read k′ d _ (v .0) (omega arith) (stops _ .colon)) (print-read x′ d _ (v .1) (omega arith) (rest₂-stop ps r))
       ∙ rest₂-read ps k′ x′ d r _ _ (v .2) (omega arith))

@@ -19,7 +19,7 @@ use Rattle.notation.specs.Scanning.{run, whether}
 use Rattle.notation.specs.Indicators.{Indicator, indicated, indicator, chosen, choose}
 use Rattle.notation.specs.Numbers.{digitValue, isDigit}
 use Rattle.notation.specs.Quoted.{utf8Of, Quoting, character, escape, unicode, gives, escapes, escapedIn, wholeUnit, unit, moveAt, unquote}
-use Rattle.notation.specs.Literals.{literalToken, quotedToken, quoted, isBody, body, content, after, outside, none, high, halfEnd, hexDigit, hexFrom, hexContent, contained, encodedLiteral}
+use Rattle.notation.specs.Literals.{literalToken, quotedToken, quoted, isBody, body, standsFor, after, noComment, noHalf, high, halfEnd, hexDigit, hexFrom, hexContent, contained, encodedLiteral}
 use Rattle.notation.specs.Words.{same, prefixed, word}
 use Rattle.notation.specs.Tokens.{begins, literal}
 use Rattle.notation.specs.Cutting.{cutBy, next}
@@ -70,15 +70,15 @@ body-hex (x ∷ b) s u =
     let l = u .0 in
     body-digit (x / 16) (hexDigitOf (x % 16) ∷ (hexOf b ++ (0x27 ∷ s))) _ s (omega arith) (body-digit (x % 16) (hexOf b ++ (0x27 ∷ s)) _ s (omega arith) (body-hex b s (u .1)))
 
-hex-first : (v : ℕ) (s : List ℕ) → v < 16 → hexFrom outside none (hexDigitOf v ∷ s) ≡ hexFrom outside (high v) s
+hex-first : (v : ℕ) (s : List ℕ) → v < 16 → hexFrom noComment noHalf (hexDigitOf v ∷ s) ≡ hexFrom noComment (high v) s
 unfolding hexFrom hexDigit
 hex-first v s h = let d = hex-digit v h in rw (d .noBlank, hexFrom) (rw (d .noSlash) (rw (d .noHash) (rw (d .digit) (rw (d .value)))))
 
-hex-second : (u v : ℕ) (s : List ℕ) → v < 16 → hexFrom outside (high u) (hexDigitOf v ∷ s) ≡ after ((u * 16 + v) ∷ []) (hexFrom outside none s)
+hex-second : (u v : ℕ) (s : List ℕ) → v < 16 → hexFrom noComment (high u) (hexDigitOf v ∷ s) ≡ after ((u * 16 + v) ∷ []) (hexFrom noComment noHalf s)
 unfolding hexFrom hexDigit
 hex-second u v s h = let d = hex-digit v h in rw (d .noBlank, hexFrom) (rw (d .noSlash) (rw (d .noHash) (rw (d .digit) (rw (d .value)))))
 
-hex-content : (b : List ℕ) → Bytes b → hexContent (hexOf b) ≡ content b
+hex-content : (b : List ℕ) → Bytes b → hexContent (hexOf b) ≡ standsFor b
 unfolding hexContent hexOf hexByteOf Bytes hexFrom halfEnd after
 hex-content [] u = refl
 hex-content (x ∷ b) u =

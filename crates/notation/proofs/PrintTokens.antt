@@ -19,8 +19,8 @@ use Rattle.notation.specs.Indicators.{Indicator, absent, indefinitely, w
 use Rattle.notation.specs.Numbers.{isDigit, digitValue}
 use Rattle.notation.specs.Words.{same, falseWord, trueWord, nullWord, undefinedWord, simpleWord, isPlainDecimal, simpleBy, simpleToken, value, worded, word}
 use Rattle.notation.specs.Tokens.{Opener, bracket, brace, leaf, chunking, opens, square, curly, round, whole, begins, closes, aComma, aColon}
-use Rattle.notation.specs.Cutting.{opening, cutBy, next}
-use Rattle.notation.specs.Form.{give, sized, contains}
+use Rattle.notation.specs.Cutting.{openingToken, cutBy, next}
+use Rattle.notation.specs.Form.{give, widthRule, contains}
 use Rattle.notation.specs.Printing.{decimalWithin, decimalOf, blankBehind, sizeOf, printSimple}
 use Rattle.notation.proofs.ScanningElements.{off-is}
 use Rattle.notation.proofs.Good.{Stop, stop-at}
@@ -98,19 +98,19 @@ record Sized (z : Size) (n : ℕ) (s text : List ℕ) : Type 0 where
   mark : Indicator
   rest : List ℕ
   is : indicator text ≡ ok mark rest
-  opened : (o : Indicator → Opener) (r : List ℕ) → opening o mark r ≡ ok (begins (opens (o mark))) r
+  opened : (o : Indicator → Opener) (r : List ℕ) → openingToken o mark r ≡ ok (begins (opens (o mark))) r
   skips : skip rest ≡ skip s
   sizes : (make : Size → Item) → contains mark n make ≡ give (make z)
 
 sized-as : (w : Width) (n : ℕ) (s : List ℕ) {l : List ℕ} → n ≤ limit w → Halts (λ b. eqb b 0x5f) s → Shown w n l → Sized (definite w) n s (blankBehind l ++ s)
-unfolding blankBehind opening contains sized skip skipFrom skipped isWord is classNumber classOf classIn classRows isIn
+unfolding blankBehind openingToken contains widthRule skip skipFrom skipped isWord is classNumber classOf classIn classRows isIn
 sized-as w n s h o (as-shortest e) =
     record { mark = absent; rest = s; is = indicator-absent s o; opened = λ o r. refl; skips = refl; sizes = λ make. rw (choose-absent w n e) }
 sized-as w n s h o by-name =
     record { mark = wide w; rest = 0x20 ∷ s; is = indicator-wide w (0x20 ∷ s) refl; opened = λ o r. refl; skips = refl; sizes = λ make. rw (choose-wide w n h) }
 
 sized-read : (z : Size) (n : ℕ) (s : List ℕ) → Fits z n → Halts (λ b. eqb b 0x5f) s → Sized z n s (sizeOf z n ++ s)
-unfolding Fits sizeOf opening contains indicator indicated whether run bind skip skipFrom skipped isWord is classNumber classOf classIn classRows isIn
+unfolding Fits sizeOf openingToken contains indicator indicated whether run bind skip skipFrom skipped isWord is classNumber classOf classIn classRows isIn
 sized-read (definite w) n s h o = sized-as w n s h o (shown w n)
 sized-read indefinite n s h o = record { mark = indefinitely; rest = 0x20 ∷ s; is = refl; opened = λ o r. refl; skips = refl; sizes = λ make. refl }
 
@@ -122,7 +122,7 @@ pub record Opened (o : Indicator → Opener) (z : Size) (n : ℕ) (s text : List
   pub sizes : (make : Size → Item) → contains mark n make ≡ give (make z)
 
 -- any opener whose byte is b
-next-opener : (o : Indicator → Opener) (b : ℕ) → gap b ≡ false → ((u : List ℕ) → cutBy (classOf b) b u ≡ bind (indicator u) (opening o)) → (z : Size) (n : ℕ) (s : List ℕ) → Fits z n
+next-opener : (o : Indicator → Opener) (b : ℕ) → gap b ≡ false → ((u : List ℕ) → cutBy (classOf b) b u ≡ bind (indicator u) (openingToken o)) → (z : Size) (n : ℕ) (s : List ℕ) → Fits z n
     → Halts (λ b. eqb b 0x5f) s → Opened o z n s (b ∷ (sizeOf z n ++ s))
 unfolding bind
 next-opener o b g c z n s h u =

@@ -16,7 +16,7 @@ use Rattle.cbor.proofs.Table.{both, every, between}
 use Rattle.cbor.proofs.Utf8Laws.{utf8-append, utf8-join, utf8-ascii-cut}
 use Rattle.notation.specs.Numbers.{isDigit}
 use Rattle.notation.specs.Words.{falseWord, trueWord, nullWord, undefinedWord}
-use Rattle.notation.specs.Printing.{decimalOf, hexDigitOf, hexByteOf, hexOf, escapeOf, escapedOf, widthName, indicatorOf, printString, printChunks, printChunked, blankBehind, sizeOf, printInt, print, printAll, printRest, printAll₂, printRest₂, printText}
+use Rattle.notation.specs.Printing.{decimalOf, hexDigitOf, hexByteOf, hexOf, escapeOf, escapedOf, widthName, indicatorOf, printString, printChunks, printChunked, blankBehind, sizeOf, printInt, printItem, printAll, printRest, printAll₂, printRest₂, printText}
 use Rattle.notation.proofs.PrintNumbers.{Each, sure, digit-range, digits-decimal, Shown, as-shortest, by-name, shown}
 use Rattle.notation.proofs.PrintStrings.{sixteen}
 use Rattle.notation.proofs.PrintTokens.{Simply, as-false, as-true, as-null, as-undefined, as-number, simply}
@@ -145,9 +145,9 @@ int-utf8 negative w n = ascii-first 0x2d _ (omega arith) (utf8-join (decimalOf (
 
 -- the separators are ASCII
 mutual
-  unfolding print printAll printRest printAll₂ printRest₂ Valid ValidAll ValidAll₂
+  unfolding printItem printAll printRest printAll₂ printRest₂ Valid ValidAll ValidAll₂
 
-  pub item-utf8 : (x : Item) → Valid x → isUtf8 (print x) ≡ true
+  pub item-utf8 : (x : Item) → Valid x → isUtf8 (printItem x) ≡ true
   item-utf8 (int g w n) v = int-utf8 g w n
   item-utf8 (string k w b) v = string-utf8 k w b v
   item-utf8 (chunked k cs) v = chunked-utf8 k cs v
@@ -159,25 +159,25 @@ mutual
       (utf8-join (sizeOf z (count₂ ps)) _ (size-utf8 z (count₂ ps)) (utf8-join (printAll₂ ps) _ (all₂-utf8 ps (v .1)) (plain (ascii "}") [] tt nil-utf8)))
   item-utf8 (tag w n x) v =
       utf8-join (decimalOf n ++ indicatorOf w n) _ (utf8-join (decimalOf n) _ (decimal-utf8 n) (indicator-utf8 w n))
-      (ascii-first 0x28 _ (omega arith) (utf8-join (print x) _ (item-utf8 x (v .2)) (plain (ascii ")") [] tt nil-utf8)))
+      (ascii-first 0x28 _ (omega arith) (utf8-join (printItem x) _ (item-utf8 x (v .2)) (plain (ascii ")") [] tt nil-utf8)))
   item-utf8 (simple n) v = simply-utf8 (simply n)
 
   all-utf8 : (xs : Items) (c : ℕ) → c < 128 → ValidAll xs → isUtf8 (printAll (0x2c ∷ c ∷ []) xs) ≡ true
   all-utf8 none c h v = nil-utf8
-  all-utf8 (more x xs) c h v = utf8-join (print x) _ (item-utf8 x (v .0)) (rest-utf8 xs c h (v .1))
+  all-utf8 (more x xs) c h v = utf8-join (printItem x) _ (item-utf8 x (v .0)) (rest-utf8 xs c h (v .1))
 
   rest-utf8 : (xs : Items) (c : ℕ) → c < 128 → ValidAll xs → isUtf8 (printRest (0x2c ∷ c ∷ []) xs) ≡ true
   rest-utf8 none c h v = nil-utf8
-  rest-utf8 (more x xs) c h v = ascii-first 0x2c _ (omega arith) (ascii-first c _ h (utf8-join (print x) _ (item-utf8 x (v .0)) (rest-utf8 xs c h (v .1))))
+  rest-utf8 (more x xs) c h v = ascii-first 0x2c _ (omega arith) (ascii-first c _ h (utf8-join (printItem x) _ (item-utf8 x (v .0)) (rest-utf8 xs c h (v .1))))
 
   all₂-utf8 : (ps : Pairs) → ValidAll₂ ps → isUtf8 (printAll₂ ps) ≡ true
   all₂-utf8 none₂ v = nil-utf8
-  all₂-utf8 (more₂ k x ps) v = utf8-join (print k) _ (item-utf8 k (v .0)) (plain (ascii ": ") _ tt (utf8-join (print x) _ (item-utf8 x (v .1)) (rest₂-utf8 ps (v .2))))
+  all₂-utf8 (more₂ k x ps) v = utf8-join (printItem k) _ (item-utf8 k (v .0)) (plain (ascii ": ") _ tt (utf8-join (printItem x) _ (item-utf8 x (v .1)) (rest₂-utf8 ps (v .2))))
 
   rest₂-utf8 : (ps : Pairs) → ValidAll₂ ps → isUtf8 (printRest₂ ps) ≡ true
   rest₂-utf8 none₂ v = nil-utf8
   rest₂-utf8 (more₂ k x ps) v =
-      plain (ascii ", ") _ tt (utf8-join (print k) _ (item-utf8 k (v .0)) (plain (ascii ": ") _ tt (utf8-join (print x) _ (item-utf8 x (v .1)) (rest₂-utf8 ps (v .2)))))
+      plain (ascii ", ") _ tt (utf8-join (printItem k) _ (item-utf8 k (v .0)) (plain (ascii ": ") _ tt (utf8-join (printItem x) _ (item-utf8 x (v .1)) (rest₂-utf8 ps (v .2)))))
 
 pub print-utf8 : (xs : Items) → ValidAll xs → isUtf8 (printText xs) ≡ true
 unfolding printText

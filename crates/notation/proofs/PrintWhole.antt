@@ -7,7 +7,7 @@ use lib.Dec.{eqb}
 use lib.ListN.{length}
 use borrow.Author.Tests.{eq-eqb, le-leb}
 use Rattle.cbor.specs.Ascii.{ascii}
-use Rattle.cbor.specs.Refusals.{ok, bind, Verdict, accepted, verdictOf}
+use Rattle.cbor.specs.Refusals.{ok, bind, Verdict, verdictOf}
 use Rattle.cbor.specs.Decode.{mostBytes, mostLevels}
 use Rattle.cbor.specs.Items.{unsigned, negative, byteString, textString, Item, int, string, chunked, array, map, tag, simple, Items, none, more, levels, levelsAll}
 use Rattle.cbor.specs.Utf8.{isIn, isUtf8}
@@ -20,7 +20,7 @@ use Rattle.notation.specs.Cutting.{place}
 use Rattle.notation.specs.Form.{one, items, reads}
 use Rattle.notation.specs.Theorems.{TextOfPrint, ItemOfPrint}
 use Rattle.notation.specs.Reading.{marked, checked, sequence, readText, alone, single, readItem}
-use Rattle.notation.specs.Printing.{decimalOf, indicatorOf, printString, printChunked, printInt, print, printAll, printText}
+use Rattle.notation.specs.Printing.{decimalOf, indicatorOf, printString, printChunked, printInt, printItem, printAll, printText}
 use Rattle.notation.proofs.Good.{Stop, stop-nil, stop-at}
 use Rattle.notation.proofs.Locality.{lexing, next-skip}
 use Rattle.notation.proofs.ByName.{bind-ok}
@@ -83,8 +83,8 @@ fronted-simply (as-null e) = fronted-by 0x6e _ refl
 fronted-simply (as-undefined e) = fronted-by 0x75 _ refl
 fronted-simply as-number = fronted-by 0x73 _ refl
 
-fronted : (x : Item) → Fronted (print x)
-unfolding print printInt printString printChunked is classNumber classOf classIn classRows isIn
+fronted : (x : Item) → Fronted (printItem x)
+unfolding printItem printInt printString printChunked is classNumber classOf classIn classRows isIn
 fronted (int unsigned w n) = fronted-more (indicatorOf w n) (fronted-decimal n)
 fronted (int negative w n) = fronted-by 0x2d _ refl
 fronted (string byteString w b) = fronted-by 0x68 _ refl
@@ -97,16 +97,16 @@ fronted (map z ps) = fronted-by 0x7b _ refl
 fronted (tag w n x) = fronted-more _ (fronted-more (indicatorOf w n) (fronted-decimal n))
 fronted (simple n) = fronted-simply (simply n)
 
-print-skip : (x : Item) → skip (print x) ≡ print x
+print-skip : (x : Item) → skip (printItem x) ≡ printItem x
 print-skip x = let f = fronted x in rw (f .is) (skip-at (f .first) (f .rest) (f .solid))
 
-print-place : (x : Item) → eqb (place (print x)) (length (print x)) ≡ true
+print-place : (x : Item) → eqb (place (printItem x)) (length (printItem x)) ≡ true
 unfolding place
-print-place x = eq-eqb (length (skip (print x))) (length (print x)) (ap length (print-skip x))
+print-place x = eq-eqb (length (skip (printItem x))) (length (printItem x)) (ap length (print-skip x))
 
-print-alone : (x : Item) (d : ℕ) → Valid x → levels x ≤ d → reads (one d) (print x) ≡ ok x []
-print-alone x d v h = ap (reads (one d)) (sym (append-nil (print x))) ∙ print-read x d [] v h stop-nil
+print-alone : (x : Item) (d : ℕ) → Valid x → levels x ≤ d → reads (one d) (printItem x) ≡ ok x []
+print-alone x d v h = ap (reads (one d)) (sym (append-nil (printItem x))) ∙ print-read x d [] v h stop-nil
 
 pub item-of-print : ItemOfPrint
 unfolding readItem single alone verdictOf bind
-item-of-print x d v h l = checked-ok (print x) _ l (item-utf8 x v) ∙ rw (print-place x, single) (rw (print-alone x d v h))
+item-of-print x d v h l = checked-ok (printItem x) _ l (item-utf8 x v) ∙ rw (print-place x, single) (rw (print-alone x d v h))

@@ -6,24 +6,23 @@ use mathlib.Core.Bool.{Bool, true, false}
 use mathlib.Core.List.{List, [], _∷_, _++_}
 use lib.Dec.{leb, eqb}
 use Rattle.cbor.specs.Refusals.{Result, ok, refuse, bind, notAllowed}
-use Rattle.cbor.specs.Widths.{Width}
 use Rattle.cbor.specs.Items.{Size, definite, indefinite, Item, array, map, Items, none, more, Pairs, none₂, more₂, count, count₂, levels}
 use Rattle.cbor.specs.Heads.{arrays, maps}
-use Rattle.cbor.specs.Encode.{encode, opening, closing as closingBytes}
-use Rattle.cbor.specs.Paths.{Spot, Found, found, nowhere, within, nth, nth₂, child, onward, descend, changeNth, changeNth₂, changeChild, changeIn}
+use Rattle.cbor.specs.Encode.{encode, openingHead, closingBreak as closingBytes}
+use Rattle.cbor.specs.Paths.{Spot, Found, found, within, nth, nth₂, child, onward, descend, changeNth, changeNth₂, changeChild}
 use Rattle.cbor.proofs.Results.{refuse-not-ok}
 use Rattle.cbor.proofs.Paths.{count-change, count-change₂}
 use Rattle.notation.specs.Scanning.{skip}
 use Rattle.notation.specs.Indicators.{Indicator, absent, indefinitely, unknown, wide, Chosen, chosen, misfit, choose}
 use Rattle.notation.specs.Tokens.{Opener, bracket, brace, tagging, embedding, Beginning, leaf, literal, chunking, opens, Shape, square, curly, round, angle, whole, Token, begins, closes, aComma, aColon}
 use Rattle.notation.specs.Cutting.{next, place}
-use Rattle.notation.specs.Form.{Name, one, items, pairs, Closed, Value, Rule, give, deny, take, call, strayIndicator, strayClosing, stray, strays, shapeNumber, closing, sized, contains, inside, beginning, oneRule, addItem, afterItem, itemsRule, afterValue, afterKey, pairsRule, rules, obey, reads}
-use Rattle.notation.specs.Places.{Separator, comma, colon, separated, past, toElement, toValue, into, toward, levelsAt}
-use Rattle.notation.proofs.Good.{Like, Hard, Took}
+use Rattle.notation.specs.Form.{Name, one, items, pairs, Closed, Value, Rule, give, take, strayClosing, stray, strays, shapeNumber, closingRule, widthRule, contains, inside, beginning, oneRule, addItem, afterItem, itemsRule, afterValue, afterKey, pairsRule, rules, obey, reads}
+use Rattle.notation.specs.Places.{Separator, byComma, byColon, separated, past, toElement, toValue, into}
+use Rattle.notation.proofs.Good.{Hard}
 use Rattle.notation.proofs.Locality.{next-skip}
-use Rattle.notation.proofs.ByName.{bind-ok, bind-refuse, reads-is, took, took-next}
+use Rattle.notation.proofs.ByName.{bind-ok, bind-refuse, reads-is, took-next}
 use Rattle.notation.proofs.Splice.{bind-inv, bind-map, Refuses, Behind, Blocked, refuses-bind, refuses-blocks, Equal, Skips, Next, Any, Hole, hole-step, hole-over, hole-take, hole-past}
-use Rattle.notation.proofs.Equations.{element, items-begin, pairs-begin, one-starts, obey-if}
+use Rattle.notation.proofs.Equations.{element, items-begin, pairs-begin, one-starts}
 
 -- THE ITEM AT A PATH, of which P holds
 abbrev pub HasNth : ℕ → (Item → Type 0) → Items → Type 0
@@ -60,11 +59,11 @@ has-suc₂ P k y x ps h = λ i. spot-within (encode y ++ encode x) [] P (nth₂ 
 
 has-array : (P : Item → Type 0) (k : ℕ) (z : Size) (xs : Items) → HasNth k P xs → HasChild k P (array z xs)
 unfolding child
-has-array P k z xs h = λ i. spot-within (opening arrays z (count xs)) (closingBytes z) P (nth i k xs) (h i)
+has-array P k z xs h = λ i. spot-within (openingHead arrays z (count xs)) (closingBytes z) P (nth i k xs) (h i)
 
 has-map : (P : Item → Type 0) (k : ℕ) (z : Size) (ps : Pairs) → HasNth₂ k P ps → HasChild k P (map z ps)
 unfolding child
-has-map P k z ps h = λ i. spot-within (opening maps z (count₂ ps)) (closingBytes z) P (nth₂ i k ps) (h i)
+has-map P k z ps h = λ i. spot-within (openingHead maps z (count₂ ps)) (closingBytes z) P (nth₂ i k ps) (h i)
 
 pub has-down : (k : ℕ) (p : List ℕ) (y x : Item) → HasChild k (Has p y) x → Has (k ∷ p) y x
 unfolding descend onward
@@ -81,11 +80,11 @@ not-eleven k hard e = absurd (hard .not11 (sym e))
 abbrev Plain : Shape → Type 0
 Plain h = eqb (shapeNumber h) (shapeNumber angle) ≡ false
 
-closing-not : {A : Type 0} (d : ℕ) (h h′ : Shape) (i : Indicator) (x : A) → eqb (shapeNumber h) (shapeNumber h′) ≡ false → closing d h h′ i x ≡ strays d (closes h′ i)
-unfolding closing
-closing-not d h h′ i x e = rw (e, closing)
+closing-not : {A : Type 0} (d : ℕ) (h h′ : Shape) (i : Indicator) (x : A) → eqb (shapeNumber h) (shapeNumber h′) ≡ false → closingRule d h h′ i x ≡ strays d (closes h′ i)
+unfolding closingRule
+closing-not d h h′ i x e = rw (e, closingRule)
 
-closing-bars : {A : Type 0} (d : ℕ) (h h′ : Shape) (i : Indicator) (x : A) → Plain h → (k : ℕ) → Hard k → stray d (closes h′ i) ≡ k → (p q : ℕ) (s : List ℕ) → Refuses k (obey reads (closing d h h′ i x) p q s)
+closing-bars : {A : Type 0} (d : ℕ) (h h′ : Shape) (i : Indicator) (x : A) → Plain h → (k : ℕ) → Hard k → stray d (closes h′ i) ≡ k → (p q : ℕ) (s : List ℕ) → Refuses k (obey reads (closingRule d h h′ i x) p q s)
 unfolding stray strayClosing strays obey
 closing-bars d h square i x u k hard e p q s = not-eleven k hard e
 closing-bars d h curly i x u k hard e p q s = not-eleven k hard e
@@ -169,9 +168,9 @@ pairs-element true d = record { begin = λ g s r i. pairs-begin true d g s r i; 
 pairs-element false d = record { begin = λ g s r i. pairs-begin false d g s r i; bar = λ h′ i k hard f p q s. f }
 
 -- THE WAY PAST AN ITEM AND A SEPARATOR
-tokenOf : Separator → Token
-tokenOf comma = aComma
-tokenOf colon = aColon
+unfoldable pub tokenOf : Separator → Token
+tokenOf byComma = aComma
+tokenOf byColon = aColon
 
 record Passed (d : ℕ) (c : Separator) (go : Rule Unit) (s b : List ℕ) : Type 0 where
   item : Item
@@ -188,10 +187,10 @@ separated-ok : (c : Separator) (go : Rule Unit) (t : Token) (p q : ℕ) (s : Lis
 unfolding separated obey tokenOf
 separated-ok c go (begins g) p q s e = absurd (refuse-not-ok e)
 separated-ok c go (closes h i) p q s e = absurd (refuse-not-ok e)
-separated-ok comma go aComma p q s e = (refl, e)
-separated-ok colon go aComma p q s e = absurd (refuse-not-ok e)
-separated-ok comma go aColon p q s e = absurd (refuse-not-ok e)
-separated-ok colon go aColon p q s e = (refl, e)
+separated-ok byComma go aComma p q s e = (refl, e)
+separated-ok byColon go aComma p q s e = absurd (refuse-not-ok e)
+separated-ok byComma go aColon p q s e = absurd (refuse-not-ok e)
+separated-ok byColon go aColon p q s e = (refl, e)
 
 passed : (d : ℕ) (c : Separator) (go : Rule Unit) (p q : ℕ) (s : List ℕ) {b : List ℕ} → obey reads (past d c go) p q s ≡ ok tt b → Passed d c go s b
 unfolding past obey
@@ -204,9 +203,9 @@ passed d c go p q s {b} e = let h = bind-inv (reads (one d) s) _ e in at-separat
     at-separator x t e e′ = let i = bind-inv (next t) _ e′ in at-token x t e (i .0) (i .1) (i .2) (separated-ok c go (i .0) p (place t) (i .1) (i .3))
 
 -- BEHIND THE ITEM, with another item
-closed-ok : {A : Type 0} (d : ℕ) (h h′ : Shape) (i : Indicator) (x : A) (p q : ℕ) (s : List ℕ) {c : A} {r : List ℕ} → obey reads (closing d h h′ i x) p q s ≡ ok c r
-    → (x ≡ c) × ((y : A) (p q : ℕ) → obey reads (closing d h h′ i y) p q s ≡ ok y r)
-unfolding closing strays obey
+closed-ok : {A : Type 0} (d : ℕ) (h h′ : Shape) (i : Indicator) (x : A) (p q : ℕ) (s : List ℕ) {c : A} {r : List ℕ} → obey reads (closingRule d h h′ i x) p q s ≡ ok c r
+    → (x ≡ c) × ((y : A) (p q : ℕ) → obey reads (closingRule d h h′ i y) p q s ≡ ok y r)
+unfolding closingRule strays obey
 closed-ok {A} d h h′ i x p q s {c} {r} e = go (eqb (shapeNumber h) (shapeNumber h′)) e
   where
     go : (v : Bool) → _≡_ {A = Result A} (obey {A = A} reads (elim v [ true ↦ give x | false ↦ strays d (closes h′ i) ]) p q s) (ok c r)
@@ -261,7 +260,7 @@ value-bars d key x aColon k hard e p q s = e
 module _ (e : ℕ) (b a : List ℕ) (d : ℕ) (go : Rule Unit) (P : Item → Type 0) (g : Item → Item → Item)
     (starts : (p q : ℕ) (s : List ℕ) → obey reads go p q s ≡ ok tt b → (w : Beginning) × (r : List ℕ) × (next s ≡ ok (begins w) r))
     (at : (p q : ℕ) (s : List ℕ) → obey reads go p q s ≡ ok tt b → (x : Item) (r : List ℕ) → reads (one d) s ≡ ok x r → Hole Skips (Blocked d) Next e b a P g (λ p q. reads (one d)) s x r) where
-  items-later : (h : Shape) (k : ℕ) (s : List ℕ) (w : Passed d comma (toElement d go k) s b) (c : Closed) (r : List ℕ)
+  items-later : (h : Shape) (k : ℕ) (s : List ℕ) (w : Passed d byComma (toElement d go k) s b) (c : Closed) (r : List ℕ)
       → Hole Equal Refuses Any e b a (λ c. HasNth k P (c .all)) (λ y. changeAll k (g y)) (λ p q. reads (items h false d)) (w .rest) c r
       → Hole Equal Refuses Any e b a (λ c. HasNth (suc k) P (c .all)) (λ y. changeAll (suc k) (g y)) (obey reads (element d (afterItem h d))) s (addItem (w .item) c) r
   unfolding obey afterItem tokenOf addItem changeNth
@@ -283,14 +282,14 @@ module _ (e : ℕ) (b a : List ℕ) (d : ℕ) (go : Rule Unit) (P : Item → Typ
       (at p q s o (j .0) (j .1) (j .2)) (j .3))
 
   -- what is read behind an item and a comma
-  items-rest : (h : Shape) (bo : Bool) (k : ℕ) (s : List ℕ) (w : Passed d comma (toElement d go k) s b) (c : Closed) (r : List ℕ) → reads (items h bo d) s ≡ ok c r
+  items-rest : (h : Shape) (bo : Bool) (k : ℕ) (s : List ℕ) (w : Passed d byComma (toElement d go k) s b) (c : Closed) (r : List ℕ) → reads (items h bo d) s ≡ ok c r
       → (c′ : Closed) × (reads (items h false d) (w .rest) ≡ ok c′ r) × (addItem (w .item) c′ ≡ c)
   unfolding obey afterItem tokenOf
   items-rest h bo k s w c r i =
       let st = one-starts d s (w .reading) in
       bind-map (reads (items h false d) (w .rest)) (addItem (w .item)) (sym (bind-ok _ (w .reading) ∙ bind-ok _ (w .parts)) ∙ (sym (items-begin h bo d (st .0) s (st .1) (st .2)) ∙ i))
 
-  items-more : (h : Shape) → Plain h → (bo : Bool) (k : ℕ) (s : List ℕ) (w : Passed d comma (toElement d go k) s b) (c c′ : Closed) (r : List ℕ) → addItem (w .item) c′ ≡ c
+  items-more : (h : Shape) → Plain h → (bo : Bool) (k : ℕ) (s : List ℕ) (w : Passed d byComma (toElement d go k) s b) (c c′ : Closed) (r : List ℕ) → addItem (w .item) c′ ≡ c
       → Hole Equal Refuses Any e b a (λ c. HasNth k P (c .all)) (λ y. changeAll k (g y)) (λ p q. reads (items h false d)) (w .rest) c′ r
       → Hole Equal Refuses Any e b a (λ c. HasNth (suc k) P (c .all)) (λ y. changeAll (suc k) (g y)) (λ p q. reads (items h bo d)) s c r
   items-more h u bo k s w c c′ r m i =
@@ -302,26 +301,26 @@ module _ (e : ℕ) (b a : List ℕ) (d : ℕ) (go : Rule Unit) (P : Item → Typ
   unfolding toElement
   items-hole h u zero bo s p q o c r i = items-first h u bo s p q o c r i
   items-hole h u (suc k) bo s p q o c r i =
-      let w = passed d comma (toElement d go k) p q s o in
+      let w = passed d byComma (toElement d go k) p q s o in
       let m = items-rest h bo k s w c r i in
       items-more h u bo k s w c (m .0) r (m .2) (items-hole h u k false (w .rest) (w .p) (w .q) (w .on) (m .0) r (m .1))
 
   -- behind the key and the colon
-  value-is : (bo : Bool) (s : List ℕ) (go′ : Rule Unit) (w : Passed d colon go′ s b) {ps : Pairs} {r : List ℕ} → reads (pairs bo d) s ≡ ok ps r
+  value-is : (bo : Bool) (s : List ℕ) (go′ : Rule Unit) (w : Passed d byColon go′ s b) {ps : Pairs} {r : List ℕ} → reads (pairs bo d) s ≡ ok ps r
       → obey reads (element d (afterValue d (w .item))) (place s) (place (w .behind)) (w .rest) ≡ ok ps r
   unfolding obey afterKey tokenOf
   value-is bo s go′ w i =
       let st = one-starts d s (w .reading) in
       sym (bind-ok _ (w .reading) ∙ bind-ok _ (w .parts)) ∙ (sym (pairs-begin bo d (st .0) s (st .1) (st .2)) ∙ i)
 
-  pairs-key : (Q : Pairs → Type 0) (g′ : Item → Pairs → Pairs) (bo : Bool) (s : List ℕ) (go′ : Rule Unit) (w : Passed d colon go′ s b) (ps : Pairs) (r : List ℕ)
+  pairs-key : (Q : Pairs → Type 0) (g′ : Item → Pairs → Pairs) (bo : Bool) (s : List ℕ) (go′ : Rule Unit) (w : Passed d byColon go′ s b) (ps : Pairs) (r : List ℕ)
       → Hole Equal Refuses Any e b a Q g′ (obey reads (element d (afterValue d (w .item)))) (w .rest) ps r → Hole Equal Refuses Any e b a Q g′ (λ p q. reads (pairs bo d)) s ps r
   unfolding afterKey tokenOf
   pairs-key Q g′ bo s go′ w ps r i =
       named-hole (pairs bo d) d (afterKey d) (pairs-element bo d) e b a Q g′
       (hole-past Equal Refuses Any e b a Q g′ (one d) (λ k. take (afterKey d k)) (w .reading) (hole-take Equal Refuses Any e b a Q g′ (afterKey d (w .item)) (w .parts) i))
 
-  pairs-first : (bo : Bool) (s : List ℕ) (w : Passed d colon go s b) (ps : Pairs) (r : List ℕ) → reads (pairs bo d) s ≡ ok ps r
+  pairs-first : (bo : Bool) (s : List ℕ) (w : Passed d byColon go s b) (ps : Pairs) (r : List ℕ) → reads (pairs bo d) s ≡ ok ps r
       → Hole Equal Refuses Any e b a (HasNth₂ 0 P) (λ y. changeNth₂ 0 (g y)) (λ p q. reads (pairs bo d)) s ps r
   unfolding obey
   pairs-first bo s w ps r i =
@@ -330,13 +329,13 @@ module _ (e : ℕ) (b a : List ℕ) (d : ℕ) (go : Rule Unit) (P : Item → Typ
       (element-hole e b a d (afterValue d (w .item)) P g (HasNth₂ 0 P) (λ y. changeNth₂ 0 (g y)) (redo-value d P g (w .item)) (value-bars d (w .item)) (w .rest) (j .1) r (j .0) ps (place s) (place (w .behind))
       (at (w .p) (w .q) (w .rest) (w .on) (j .0) (j .1) (j .2)) (j .3))
 
-  pairs-rest : (bo : Bool) (k : ℕ) (s : List ℕ) (go′ : Rule Unit) (w : Passed d colon go′ s b) (w′ : Passed d comma (toValue d go k) (w .rest) b) (ps : Pairs) (r : List ℕ)
+  pairs-rest : (bo : Bool) (k : ℕ) (s : List ℕ) (go′ : Rule Unit) (w : Passed d byColon go′ s b) (w′ : Passed d byComma (toValue d go k) (w .rest) b) (ps : Pairs) (r : List ℕ)
       → reads (pairs bo d) s ≡ ok ps r → (ps′ : Pairs) × (reads (pairs false d) (w′ .rest) ≡ ok ps′ r) × (more₂ (w .item) (w′ .item) ps′ ≡ ps)
   unfolding obey afterValue tokenOf
   pairs-rest bo k s go′ w w′ ps r i =
       bind-map (reads (pairs false d) (w′ .rest)) (λ ps. more₂ (w .item) (w′ .item) ps) (sym (bind-ok _ (w′ .reading) ∙ bind-ok _ (w′ .parts)) ∙ value-is bo s go′ w i)
 
-  pairs-later : (key : Item) (k : ℕ) (s : List ℕ) (w : Passed d comma (toValue d go k) s b) (ps : Pairs) (r : List ℕ)
+  pairs-later : (key : Item) (k : ℕ) (s : List ℕ) (w : Passed d byComma (toValue d go k) s b) (ps : Pairs) (r : List ℕ)
       → Hole Equal Refuses Any e b a (HasNth₂ k P) (λ y. changeNth₂ k (g y)) (λ p q. reads (pairs false d)) (w .rest) ps r
       → Hole Equal Refuses Any e b a (HasNth₂ (suc k) P) (λ y. changeNth₂ (suc k) (g y)) (obey reads (element d (afterValue d key))) s (more₂ key (w .item) ps) r
   unfolding obey afterValue tokenOf changeNth₂
@@ -347,7 +346,7 @@ module _ (e : ℕ) (b a : List ℕ) (d : ℕ) (go : Rule Unit) (P : Item → Typ
       (obey reads (afterValue d key (w .item) aComma)) (λ ps p q t. ok (more₂ key (w .item) ps) t) i (λ p q u z t e. (p, q, bind-ok _ e))
       (λ p q u n hard f. refuses-bind n (reads (pairs false d) u) _ f) (has-suc₂ P k key (w .item) ps (i .holds)) (λ n. n) (λ y p q t′ n. (t′, n, refl))))
 
-  pairs-more : (bo : Bool) (k : ℕ) (s : List ℕ) (go′ : Rule Unit) (w : Passed d colon go′ s b) (w′ : Passed d comma (toValue d go k) (w .rest) b) (ps ps′ : Pairs) (r : List ℕ)
+  pairs-more : (bo : Bool) (k : ℕ) (s : List ℕ) (go′ : Rule Unit) (w : Passed d byColon go′ s b) (w′ : Passed d byComma (toValue d go k) (w .rest) b) (ps ps′ : Pairs) (r : List ℕ)
       → more₂ (w .item) (w′ .item) ps′ ≡ ps → Hole Equal Refuses Any e b a (HasNth₂ k P) (λ y. changeNth₂ k (g y)) (λ p q. reads (pairs false d)) (w′ .rest) ps′ r
       → Hole Equal Refuses Any e b a (HasNth₂ (suc k) P) (λ y. changeNth₂ (suc k) (g y)) (λ p q. reads (pairs bo d)) s ps r
   pairs-more bo k s go′ w w′ ps ps′ r m i =
@@ -356,17 +355,17 @@ module _ (e : ℕ) (b a : List ℕ) (d : ℕ) (go : Rule Unit) (P : Item → Typ
   pub pairs-hole : (k : ℕ) (bo : Bool) (s : List ℕ) (p q : ℕ) → obey reads (toValue d go k) p q s ≡ ok tt b → (ps : Pairs) (r : List ℕ) → reads (pairs bo d) s ≡ ok ps r
       → Hole Equal Refuses Any e b a (HasNth₂ k P) (λ y. changeNth₂ k (g y)) (λ p q. reads (pairs bo d)) s ps r
   unfolding toValue
-  pairs-hole zero bo s p q o ps r i = pairs-first bo s (passed d colon go p q s o) ps r i
+  pairs-hole zero bo s p q o ps r i = pairs-first bo s (passed d byColon go p q s o) ps r i
   pairs-hole (suc k) bo s p q o ps r i =
-      let w = passed d colon (past d comma (toValue d go k)) p q s o in
-      let w′ = passed d comma (toValue d go k) (w .p) (w .q) (w .rest) (w .on) in
-      let m = pairs-rest bo k s (past d comma (toValue d go k)) w w′ ps r i in
-      pairs-more bo k s (past d comma (toValue d go k)) w w′ ps (m .0) r (m .2) (pairs-hole k false (w′ .rest) (w′ .p) (w′ .q) (w′ .on) (m .0) r (m .1))
+      let w = passed d byColon (past d byComma (toValue d go k)) p q s o in
+      let w′ = passed d byComma (toValue d go k) (w .p) (w .q) (w .rest) (w .on) in
+      let m = pairs-rest bo k s (past d byComma (toValue d go k)) w w′ ps r i in
+      pairs-more bo k s (past d byComma (toValue d go k)) w w′ ps (m .0) r (m .2) (pairs-hole k false (w′ .rest) (w′ .p) (w′ .q) (w′ .on) (m .0) r (m .1))
 
 -- WHAT MAKES A CONTAINER looks at no text
-sized-ok : (c : Chosen) (make : Size → Item) (p q : ℕ) (s : List ℕ) {x : Item} {r : List ℕ} → obey reads (sized c (λ w. make (definite w))) p q s ≡ ok x r
-    → (z : Size) × (x ≡ make z) × (s ≡ r) × ((make′ : Size → Item) (p q : ℕ) (t : List ℕ) → obey reads (sized c (λ w. make′ (definite w))) p q t ≡ ok (make′ z) t)
-unfolding sized obey
+sized-ok : (c : Chosen) (make : Size → Item) (p q : ℕ) (s : List ℕ) {x : Item} {r : List ℕ} → obey reads (widthRule c (λ w. make (definite w))) p q s ≡ ok x r
+    → (z : Size) × (x ≡ make z) × (s ≡ r) × ((make′ : Size → Item) (p q : ℕ) (t : List ℕ) → obey reads (widthRule c (λ w. make′ (definite w))) p q t ≡ ok (make′ z) t)
+unfolding widthRule obey
 sized-ok (chosen w) make p q s e = (definite w, cc, cc, λ make′ p q t. refl)
 sized-ok misfit make p q s e = absurd (refuse-not-ok e)
 

@@ -6,7 +6,7 @@ use mathlib.Core.List.{List, [], _∷_, _++_}
 use mathlib.Core.Logic.{_⊎_, inl, inr}
 use lib.Dec.{eqb}
 use Rattle.notation.specs.Classes.{blank, slash, hash, is}
-use Rattle.notation.specs.Scanning.{isComment, Skipping, between, slashed, hashed, on, end, skipped, leftIn, skipFrom, skip}
+use Rattle.notation.specs.Scanning.{isComment, Skipping, between, slashed, hashed, skips, stops, skipped, leftIn, skipFrom, skip}
 
 -- a comment in a text of which c is the rest from the comment's first element on
 abbrev kept : Skipping → List ℕ → Skipping
@@ -30,15 +30,15 @@ Walked (slashed c) s = Ended (slashed c) s
 Walked (hashed c) s = Ended (hashed c) s
 
 -- A STEP
-skip-on : (k : Skipping) (b : ℕ) (s : List ℕ) {k′ : Skipping} → skipped k b s ≡ on k′ → skipFrom k (b ∷ s) ≡ skipFrom k′ s
+skip-on : (k : Skipping) (b : ℕ) (s : List ℕ) {k′ : Skipping} → skipped k b s ≡ skips k′ → skipFrom k (b ∷ s) ≡ skipFrom k′ s
 unfolding skipFrom
 skip-on k b s e = rw (e, skipFrom)
 
-skip-end : (k : Skipping) (b : ℕ) (s : List ℕ) {r : List ℕ} → skipped k b s ≡ end r → skipFrom k (b ∷ s) ≡ r
+skip-end : (k : Skipping) (b : ℕ) (s : List ℕ) {r : List ℕ} → skipped k b s ≡ stops r → skipFrom k (b ∷ s) ≡ r
 unfolding skipFrom
 skip-end k b s e = rw (e, skipFrom)
 
-passed-cons : (k k′ : Skipping) (b : ℕ) (s : List ℕ) → skipped k b s ≡ on k′ → ((c u : List ℕ) → (c′ : List ℕ) × (skipped (kept k c) b u ≡ on (kept k′ c′))) → Passed k′ s → Passed k (b ∷ s)
+passed-cons : (k k′ : Skipping) (b : ℕ) (s : List ℕ) → skipped k b s ≡ skips k′ → ((c u : List ℕ) → (c′ : List ℕ) × (skipped (kept k c) b u ≡ skips (kept k′ c′))) → Passed k′ s → Passed k (b ∷ s)
 passed-cons k k′ b s e h w =
     record {
       front = b ∷ w .front;
@@ -50,12 +50,12 @@ passed-none : (s : List ℕ) → skipFrom between s ≡ s → Passed between s
 passed-none s e = record { front = []; split = sym e; again = λ c u. refl }
 
 -- a comment begins, or goes on
-comment-begins : (k : Skipping) (b : ℕ) (s : List ℕ) → skipped between b s ≡ on k → leftIn k ≡ b ∷ s → ((u : List ℕ) → (c : List ℕ) × (skipped between b u ≡ on (kept k c))) → Ended k s
+comment-begins : (k : Skipping) (b : ℕ) (s : List ℕ) → skipped between b s ≡ skips k → leftIn k ≡ b ∷ s → ((u : List ℕ) → (c : List ℕ) × (skipped between b u ≡ skips (kept k c))) → Ended k s
     → Passed between (b ∷ s)
 comment-begins k b s e f h (inl i) = passed-none (b ∷ s) (skip-on between b s e ∙ (i ∙ f))
 comment-begins k b s e f h (inr p) = passed-cons between k b s e (λ c u. h u) p
 
-comment-cons : (k : Skipping) (b : ℕ) (s : List ℕ) → skipped k b s ≡ on k → ((c u : List ℕ) → skipped (kept k c) b u ≡ on (kept k c)) → Ended k s → Ended k (b ∷ s)
+comment-cons : (k : Skipping) (b : ℕ) (s : List ℕ) → skipped k b s ≡ skips k → ((c u : List ℕ) → skipped (kept k c) b u ≡ skips (kept k c)) → Ended k s → Ended k (b ∷ s)
 comment-cons k b s e h (inl i) = inl (skip-on k b s e ∙ i)
 comment-cons k b s e h (inr p) = inr (passed-cons k k b s e (λ c u. (c, h c u)) p)
 

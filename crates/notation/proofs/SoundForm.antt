@@ -11,7 +11,7 @@ use borrow.Author.Tests.{leb-true}
 use Rattle.cbor.specs.Widths.{Width, w8, limit}
 use Rattle.cbor.specs.Items.{Kind, byteString, textString, Size, definite, indefinite, Item, int, string, chunked, array, map, tag, simple, Items, none, more, Pairs, none₂, more₂, count, count₂, levels, levelsAll, levelsAll₂}
 use Rattle.cbor.specs.Heads.{Major, strings, arrays, maps, tags as tagHeads, head}
-use Rattle.cbor.specs.Encode.{encodeString, opening, closing as closingBytes, enclosed, encodeChunks, encode, encodeAll, encodeAll₂}
+use Rattle.cbor.specs.Encode.{encodeString, openingHead, closingBreak as closingBytes, enclosed, encodeChunks, encode, encodeAll, encodeAll₂}
 use Rattle.cbor.specs.Valid.{isText, ValidString, ValidChunks, Fits, Valid, ValidAll, ValidAll₂}
 use Rattle.cbor.specs.TypedArrays.{mayTag}
 use Rattle.cbor.proofs.EncodeBytes.{encode-all-bytes}
@@ -19,7 +19,7 @@ use Rattle.cbor.proofs.Utf8Text.{Text}
 use Rattle.notation.specs.Indicators.{Indicator, absent, indefinitely, unknown, wide, Chosen, chosen, misfit, choose}
 use Rattle.notation.specs.Tokens.{Opener, bracket, brace, tagging, embedding, Beginning, leaf, literal, chunking, opens, Shape, curly, round, Token, begins, closes, aComma, aColon}
 use Rattle.notation.specs.Cutting.{place}
-use Rattle.notation.specs.Form.{Wanted, only, Name, one, items, pairs, chunks, Closed, Chunks, Value, Rule, give, deny, denyFirst, take, call, then, strays, shapeNumber, closing, sized, contains, embeds, tags, afterTag, inside, literalItem, beginning, oneRule, addItem, afterItem, itemsRule, afterValue, afterKey, pairsRule, addChunk, afterChunk, isWanted, chunk, chunksRule, rules, Calls, obey, readsWithin, reads}
+use Rattle.notation.specs.Form.{Wanted, only, Name, one, items, pairs, chunks, Closed, Chunks, Value, Rule, give, deny, denyFirst, take, call, then, strays, shapeNumber, closingRule, widthRule, contains, embeds, tagRule, afterTag, inside, literalItem, beginning, oneRule, addItem, afterItem, itemsRule, afterValue, afterKey, pairsRule, addChunk, afterChunk, isWanted, chunkRule, chunksRule, rules, Calls, obey, readsWithin, reads}
 use Rattle.notation.proofs.TextScan.{tested, Leaves, leaves-bind}
 use Rattle.notation.proofs.SoundToken.{most, OpenerSound, TokenSound, weight, head-most, Chose, choose-fits, Next, next-sound}
 
@@ -30,12 +30,12 @@ unfolding encodeString
 string-most k w b = rw length-append (omega (arith, head-most (strings k) w (length b)))
 
 enclosed-most : (m : Major) (z : Size) (n : ℕ) (b : List ℕ) → length (enclosed m z n b) ≤ 9 + length b
-unfolding enclosed opening closingBytes
+unfolding enclosed openingHead closingBytes
 enclosed-most m (definite w) n b = simp length-append (omega (arith, head-most m w n))
 enclosed-most m indefinite n b = simp length-append (omega arith)
 
 enclosed-some : (m : Major) (z : Size) (n : ℕ) (b : List ℕ) → 1 ≤ length (enclosed m z n b)
-unfolding enclosed opening closingBytes head
+unfolding enclosed openingHead closingBytes head
 enclosed-some m (definite w) n b = omega arith
 enclosed-some m indefinite n b = omega arith
 
@@ -132,14 +132,14 @@ keeps-then P Q (denyFirst n) k m l h g = tt
 keeps-then P Q (take f) k m l h g = λ t j c. keeps-then P Q (f t) k j (c .short) (h t j c) g
 keeps-then P Q (call n c) k m l h g = λ x j b s. keeps-then P Q (c x) k (m + j) b (h x j b s) g
 
-keeps-closing : {A : Type 0} (P : ℕ → A → Type 0) (m d : ℕ) (h h′ : Shape) (i : Indicator) (x : A) → P m x → Keeps P m (closing d h h′ i x)
-unfolding closing strays
+keeps-closing : {A : Type 0} (P : ℕ → A → Type 0) (m d : ℕ) (h h′ : Shape) (i : Indicator) (x : A) → P m x → Keeps P m (closingRule d h h′ i x)
+unfolding closingRule strays
 keeps-closing P m d h h′ i x p = tested (Keeps P m) (eqb (shapeNumber h) (shapeNumber h′)) _ _ (λ e. p) (λ e. tt)
 
 -- CONTAINERS
 
-keeps-sized : (P : ℕ → Item → Type 0) (m n : ℕ) (c : Chosen) (make : Width → Item) → Chose n c → ((w : Width) → n ≤ limit w → P m (make w)) → Keeps P m (sized c make)
-unfolding sized
+keeps-sized : (P : ℕ → Item → Type 0) (m n : ℕ) (c : Chosen) (make : Width → Item) → Chose n c → ((w : Width) → n ≤ limit w → P m (make w)) → Keeps P m (widthRule c make)
+unfolding widthRule
 keeps-sized P m n (chosen w) make h k = k w h
 keeps-sized P m n misfit make h k = tt
 
@@ -159,15 +159,15 @@ keeps-embeds d m c l h v =
 
 keeps-tag : (d i : ℕ) (w : Width) (n : ℕ) (x : Item) → n ≤ limit w → HeldItem d i x → (t : Token) (m : ℕ) → Taken i t m
     → Keeps (HeldItem (suc d)) m (afterTag d w n x t)
-unfolding afterTag strays tags Valid levels encode
+unfolding afterTag strays tagRule Valid levels encode
 keeps-tag d i w n x f h (begins g) m c = tt
 keeps-tag d i w n x f h aComma m c = tt
 keeps-tag d i w n x f h aColon m c = tt
 keeps-tag d i w n x f h (closes s o) m c =
-    keeps-then (λ j y. HeldItem d i y × (m ≤ j)) (HeldItem (suc d)) (closing d round s o x) (tags w n) m (c .short)
+    keeps-then (λ j y. HeldItem d i y × (m ≤ j)) (HeldItem (suc d)) (closingRule d round s o x) (tagRule w n) m (c .short)
     (keeps-closing (λ j y. HeldItem d i y × (m ≤ j)) m d round s o x (h, omega arith)) go
   where
-    go : (y : Item) (j : ℕ) → j ≤ most → HeldItem d i y × (m ≤ j) → Keeps (HeldItem (suc d)) j (tags w n y)
+    go : (y : Item) (j : ℕ) → j ≤ most → HeldItem d i y × (m ≤ j) → Keeps (HeldItem (suc d)) j (tagRule w n y)
     go y j b k =
         tested (Keeps (HeldItem (suc d)) j) (mayTag n y) _ _
         (λ e. record { good = (f, e, k .0 .good); deep = omega arith; size = rw length-append (omega (arith, head-most tagHeads w n)) }) (λ e. tt)
@@ -266,8 +266,8 @@ keeps-after-chunk want d k w b e v i h aComma m c = λ cs j a q.
     record { good = (rw f v, q .good); wanted = rw f e; size = rw length-append (omega (arith, string-most (cs .kind) w b, q .size)) }
 keeps-after-chunk want d k w b e v i h aColon m c = tt
 
-keeps-chunk : (want : Wanted) (d : ℕ) (k : Kind) (z : Size) (b : List ℕ) (m : ℕ) → Taken 0 (begins (literal k z b)) m → Keeps (HeldChunks want) m (chunk want d k z b)
-unfolding chunk
+keeps-chunk : (want : Wanted) (d : ℕ) (k : Kind) (z : Size) (b : List ℕ) (m : ℕ) → Taken 0 (begins (literal k z b)) m → Keeps (HeldChunks want) m (chunkRule want d k z b)
+unfolding chunkRule
 keeps-chunk want d k (definite w) b m c = tested (Keeps (HeldChunks want) m) (isWanted want k) _ _ (λ e. keeps-after-chunk want d k w b e (c .sound) m (omega arith)) (λ e. tt)
 keeps-chunk want d k indefinite b m c = tt
 

@@ -16,7 +16,7 @@ use Rattle.cbor.proofs.Utf8Text.{Text, text-of, text-marked}
 use Rattle.notation.specs.Tokens.{Token, whole}
 use Rattle.notation.specs.Cutting.{next, place}
 use Rattle.notation.specs.Form.{one, items, stray}
-use Rattle.notation.specs.Theorems.{TextValid, ItemValid}
+use Rattle.notation.specs.Theorems.{TextValid}
 use Rattle.notation.specs.Reading.{marked, checked, sequence, readText, outside, alone, single, readItem}
 use Rattle.notation.proofs.TextScan.{tested, Leaves, leaves-bind}
 use Rattle.notation.proofs.SoundForm.{Sound, Reads, reads-sound}

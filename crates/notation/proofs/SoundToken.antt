@@ -1,5 +1,5 @@
--- Every token is well formed and leaves a text in UTF-8: leaves are well formed items, literals strings that fit their heads, tags
--- fit theirs. What it holds is at most nine times its text.
+-- Every token is well formed and leaves a text in UTF-8: leaves are well formed items of no level, literals strings that fit their
+-- heads, tags fit theirs. What it holds is at most nine times its text.
 use Prim.Native.Nat.{ℕ, zero, suc, _+_, _*_, _≤_, _<_}
 use native.Mathlib.Omega.{arith}
 use mathlib.Core.Path.{_≡_, refl}
@@ -11,7 +11,7 @@ use lib.ListN.{length}
 use borrow.Author.Tests.{leb-true, ltb-true, eqb-true}
 use Rattle.cbor.specs.Refusals.{Result, ok, refuse, bind, noToken, unknownWord, badIndicator}
 use Rattle.cbor.specs.Widths.{Width, w0, w1, w2, w4, w8, argumentBytes, limit, fits, shortest}
-use Rattle.cbor.specs.Items.{Sign, unsigned, negative, Kind, byteString, textString, Size, definite, indefinite}
+use Rattle.cbor.specs.Items.{Sign, unsigned, negative, Kind, byteString, textString, Size, definite, indefinite, levels}
 use Rattle.cbor.specs.Heads.{Major, integers, simples, head}
 use Rattle.cbor.specs.Encode.{encode}
 use Rattle.cbor.specs.Utf8.{Range, isUtf8}
@@ -22,10 +22,10 @@ use Rattle.notation.specs.Classes.{Class, other, blank, digit, letter, u
 use Rattle.notation.specs.Scanning.{skip, fault, expect}
 use Rattle.notation.specs.Indicators.{Indicator, absent, indefinitely, unknown, wide, indicator, Chosen, chosen, misfit, choose}
 use Rattle.notation.specs.Numbers.{digitValue, isDigit, numberFrom, digits, isFloating, radixOf, judged, integerToken, integer, otherInteger, decimal, based, afterZero, number}
-use Rattle.notation.specs.Literals.{literalToken, quotedToken, quoted, isBody, body, Content, content, bad, hexContent, base64Content, contained, encodedLiteral}
+use Rattle.notation.specs.Literals.{literalToken, quotedToken, quoted, isBody, body, Content, standsFor, bad, hexContent, base64Content, contained, encodedLiteral}
 use Rattle.notation.specs.Words.{same, falseWord, trueWord, nullWord, undefinedWord, simpleWord, infinityWord, hexPrefix, base64Prefix, isFloatWord, isPlainDecimal, simpleBy, simpleToken, value, worded, prefixed, word}
 use Rattle.notation.specs.Tokens.{Opener, bracket, brace, tagging, embedding, leaf, literal, chunking, opens, Token, begins, closes, aComma, aColon}
-use Rattle.notation.specs.Cutting.{startsWith, afterMinus, opening, cutBy, cut, place, placed, next}
+use Rattle.notation.specs.Cutting.{startsWith, afterMinus, openingToken, cutBy, cut, place, placed, next}
 use Rattle.notation.proofs.TextScan.{tested, Leaves, leaves-bind, Upto, class-alone, is-alone, word-alone, digit-alone, skip-text, run-leaves, whether-leaves, expect-leaves, indicator-leaves}
 use Rattle.notation.proofs.TextQuoted.{Unquoted, unquote-text}
 use Rattle.notation.proofs.SoundContent.{Holds, hex-content, base64-content}
@@ -47,7 +47,7 @@ OpenerSound (tagging w n) = n ≤ limit w
 OpenerSound embedding = Unit
 
 abbrev pub TokenSound : Token → Type 0
-TokenSound (begins (leaf x)) = Valid x × (length (encode x) ≤ 9)
+TokenSound (begins (leaf x)) = Valid x × (length (encode x) ≤ 9) × (levels x ≡ 0)
 TokenSound (begins (literal k z b)) = LiteralSound k z b
 TokenSound (begins chunking) = Unit
 TokenSound (begins (opens o)) = OpenerSound o
@@ -107,8 +107,8 @@ choose-fits (wide w) n h = tested (Chose n) (leb n (limit w)) _ _ (λ e. leb-tru
 -- INTEGERS AND TAGS, read from n
 
 int-sound : (g : Sign) (m : ℕ) (w : Width) → m ≤ limit w → TokenSound (integerToken g m w) × (weight (integerToken g m w) ≡ 0)
-unfolding integerToken Valid encode
-int-sound g m w h = ((h, head-most (integers g) w m), refl)
+unfolding integerToken Valid encode levels
+int-sound g m w h = ((h, head-most (integers g) w m, refl), refl)
 
 -- a letter that gives a radix is ASCII
 abbrev Radix : ℕ → ℕ → Type 0
@@ -219,7 +219,7 @@ module _ (n : ℕ) (short : n ≤ most) where
 
   contained-cuts : (c : Content) (m : ℕ) (i : Indicator) (r : List ℕ) → Holds m c → Text true [] r → m + 9 * length r ≤ 9 * n → Cut n (contained c i r)
   unfolding contained isText
-  contained-cuts (content b) m i r h t l = literal-cuts byteString b i r (h .0) refl t (omega arith)
+  contained-cuts (standsFor b) m i r h t l = literal-cuts byteString b i r (h .0) refl t (omega arith)
   contained-cuts bad m i r h t l = tt
 
   encoded-cuts : (read : List ℕ → Content) → ((b : List ℕ) → Holds (length b) (read b)) → (s : List ℕ) → Text true [] s → length s ≤ n → Cut n (encodedLiteral read s)
@@ -231,8 +231,8 @@ module _ (n : ℕ) (short : n ≤ most) where
   -- WORDS
 
   value-cuts : (m : ℕ) → isSimple m ≡ true → (r : List ℕ) → Text true [] r → length r ≤ n → Cut n (value m r)
-  unfolding value Valid encode
-  value-cuts m h r t l = (t, ((h, head-most simples (shortest m) m), omega arith))
+  unfolding value Valid encode levels
+  value-cuts m h r t l = (t, ((h, head-most simples (shortest m) m, refl), omega arith))
 
   simple-cuts : (s : List ℕ) → Text true [] s → length s ≤ n → Cut n (simpleToken s)
   unfolding simpleToken simpleBy value
@@ -276,11 +276,11 @@ module _ (n : ℕ) (short : n ≤ most) where
       tested (Cut n) (is digit b) _ _ (λ e. number-cuts n negative b s (text-past (is-alone digit b (omega arith) e) t .1) (omega arith))
       (λ e. tested (Cut n) (startsWith infinityWord (b ∷ s)) _ _ (λ e. tt) (λ e. tt))
 
-  opening-cuts : (o : Indicator → Opener) → ((i : Indicator) → OpenerSound (o i)) → (s : List ℕ) → Text true [] s → length s ≤ n → Cut n (bind (indicator s) (opening o))
-  unfolding opening
+  opening-cuts : (o : Indicator → Opener) → ((i : Indicator) → OpenerSound (o i)) → (s : List ℕ) → Text true [] s → length s ≤ n → Cut n (bind (indicator s) (openingToken o))
+  unfolding openingToken
   opening-cuts o h s t l = then-cut n _ _ (indicator-leaves n s t l) go
     where
-      go : (i : Indicator) (r : List ℕ) → Text true [] r → length r ≤ n → Cut n (opening o i r)
+      go : (i : Indicator) (r : List ℕ) → Text true [] r → length r ≤ n → Cut n (openingToken o i r)
       go absent r u k = (u, (h absent, omega arith))
       go indefinitely r u k = (u, (h indefinitely, omega arith))
       go (wide w) r u k = (u, (h (wide w), omega arith))

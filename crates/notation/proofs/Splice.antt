@@ -10,8 +10,7 @@ use Rattle.notation.specs.Tokens.{Token}
 use Rattle.notation.specs.Cutting.{next, place}
 use Rattle.notation.specs.Form.{Name, one, Value, Rule, take, call, stray, obey, reads}
 use Rattle.notation.proofs.Good.{Like, like-app, Hard, Took}
-use Rattle.notation.proofs.Locality.{lexing}
-use Rattle.notation.proofs.ByName.{bind-ok, bind-refuse, took, took-next}
+use Rattle.notation.proofs.ByName.{bind-ok, took, took-next}
 
 -- RESULTS
 

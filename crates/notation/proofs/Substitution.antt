@@ -12,18 +12,18 @@ use borrow.Author.Tests.{eqb-true, eqb-false}
 use Rattle.cbor.specs.Refusals.{Result, ok, refuse, bind, notAllowed}
 use Rattle.cbor.specs.Items.{Item}
 use Rattle.cbor.specs.Decode.{mostLevels}
-use Rattle.cbor.specs.Paths.{Spot, Found, found, nowhere, nth, onward, descend, locate, changeNth, changeChild, changeIn, changeAt, replaceAt}
+use Rattle.cbor.specs.Paths.{Spot, found, onward, descend, locate, changeIn}
 use Rattle.cbor.proofs.Results.{refuse-not-ok}
 use Rattle.notation.specs.Classes.{blank, is}
 use Rattle.notation.specs.Scanning.{skip}
-use Rattle.notation.specs.Tokens.{Opener, bracket, brace, tagging, embedding, Beginning, leaf, literal, chunking, opens, whole, Token, begins, closes, aComma, aColon}
+use Rattle.notation.specs.Tokens.{Beginning, whole, Token, begins, closes, aComma, aColon}
 use Rattle.notation.specs.Cutting.{next, place, placed, cut}
-use Rattle.notation.specs.Form.{one, items, Closed, Rule, take, stray, shapeNumber, obey, reads}
+use Rattle.notation.specs.Form.{one, items, Closed, Rule, stray, shapeNumber, obey, reads}
 use Rattle.notation.specs.Reading.{marked, sequence, outside, alone, single}
 use Rattle.notation.specs.Places.{into, toElement, toward, levelsAt, around, Span, spanOf, spanAt, edited}
-use Rattle.notation.proofs.Good.{Stop, stop-at, Blank, blank-at, blank-stop, blank-ends, Like, like, like-app, like-more, Hard, Took}
+use Rattle.notation.proofs.Good.{blank-at, blank-stop, Like, like, like-more, Hard}
 use Rattle.notation.proofs.Locality.{lexing}
-use Rattle.notation.proofs.ByName.{bind-ok, bind-refuse, took, refused-stays, took-next, reads-skips}
+use Rattle.notation.proofs.ByName.{took, refused-stays, took-next, reads-skips}
 use Rattle.notation.proofs.Splice.{bind-inv, Refuses, Behind, Blocked, Equal, Skips, Next, Any, Hole}
 use Rattle.notation.proofs.Equations.{one-starts}
 use Rattle.notation.proofs.Replace.{HasNth, Has, changeAll, has-down, spot-within, items-hole, into-hole}
@@ -81,7 +81,7 @@ unfolding alone
 alone-ok d x [] e = ap (λ (v : Item). ok v []) (cc)
 alone-ok d x (b ∷ z) e = absurd (outside-not d (b ∷ z) e)
 
-single-ok : (d : ℕ) (new : List ℕ) {y : Item} {r : List ℕ} → single d new ≡ ok y r → reads (one d) new ≡ ok y []
+pub single-ok : (d : ℕ) (new : List ℕ) {y : Item} {r : List ℕ} → single d new ≡ ok y r → reads (one d) new ≡ ok y []
 unfolding single
 single-ok d new {y} {r} e = go (eqb (place new) (length new)) e
   where

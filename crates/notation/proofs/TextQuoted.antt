@@ -10,7 +10,7 @@ use lib.ListN.{length, length-append, replicate}
 use borrow.Author.Tests.{eqb-true, le-leb, leb-true, leb-false, ltb-true, ltb-false}
 use Rattle.cbor.specs.Refusals.{ok, bind, noToken}
 use Rattle.cbor.specs.Utf8.{Range, _to_, isIn, rows, followIn, follow, isUtf8}
-use Rattle.cbor.specs.Sequences.{ranges, behind}
+use Rattle.cbor.specs.Sequences.{ranges, behindFirst}
 use Rattle.cbor.proofs.Table.{both, every}
 use Rattle.cbor.proofs.Sequences.{same, lead-rule}
 use Rattle.cbor.proofs.Utf8Laws.{both-true, is-in}
@@ -27,9 +27,9 @@ unfolding isIn
 later l h v p t = text-later {g = l to h} {b = v} (rw (le-leb l v (p .0), le-leb v h (p .1))) (p .2) (p .3) t
 
 -- a sequence whose first byte b is in lo to hi, which asks for l to h next
-lead : (n lo hi l h b v : ℕ) (s : List ℕ) → T (every (λ k x. same (follow k) (behind (suc (suc n)) l h)) lo (replicate (hi - lo) 0)) → (lo ≤ b) × (b < hi)
+lead : (n lo hi l h b v : ℕ) (s : List ℕ) → T (every (λ k x. same (follow k) (behindFirst (suc (suc n)) l h)) lo (replicate (hi - lo) 0)) → (lo ≤ b) × (b < hi)
     → (l ≤ v) × (v ≤ h) × (0x80 ≤ v) × (v ≤ 0xbf) → Text false (ranges n 0x80 0xbf) s → Text false [] (b ∷ v ∷ s)
-unfolding behind ranges
+unfolding behindFirst ranges
 lead n lo hi l h b v s t p q x = text-first (lead-rule (suc (suc n)) l h (p .0) (p .1) t) (later l h v q x)
 
 last : (c : ℕ) → Text false ((0x80 to 0xbf) ∷ []) ((0x80 + c % 0x40) ∷ [])
@@ -43,11 +43,11 @@ abbrev pub Scalar : ℕ → Type 0
 Scalar c = (c < 0xd800) ⊎ (0xe000 ≤ c)
 
 two-text : (c : ℕ) → 0x80 ≤ c → c < 0x800 → Text false [] ((0xc0 + c / 0x40) ∷ (0x80 + c % 0x40) ∷ [])
-unfolding rows followIn follow isIn behind ranges
+unfolding rows followIn follow isIn behindFirst ranges
 two-text c l h = lead 0 0xc2 0xe0 0x80 0xbf _ _ _ tt (omega arith) (omega arith) text-nil
 
 three-text : (c : ℕ) → Scalar c → 0x800 ≤ c → c < 0x10000 → Text false [] ((0xe0 + c / 0x1000) ∷ (0x80 + c / 0x40 % 0x40) ∷ (0x80 + c % 0x40) ∷ [])
-unfolding rows followIn follow isIn behind ranges
+unfolding rows followIn follow isIn behindFirst ranges
 three-text c (inr e) l h = lead 1 0xee 0xf0 0x80 0xbf _ _ _ tt (omega arith) (omega arith) (last c)
 three-text c (inl e) l h = go (ltb c 0x1000) refl (ltb c 0xd000) refl
   where
@@ -64,7 +64,7 @@ three-text c (inl e) l h = go (ltb c 0x1000) refl (ltb c 0xd000) refl
         lead 1 0xed 0xee 0x80 0x9f _ _ _ tt (omega arith) (omega arith) (last c)
 
 four-text : (c : ℕ) → 0x10000 ≤ c → c < 0x110000 → Text false [] ((0xf0 + c / 0x40000) ∷ (0x80 + c / 0x1000 % 0x40) ∷ (0x80 + c / 0x40 % 0x40) ∷ (0x80 + c % 0x40) ∷ [])
-unfolding rows followIn follow isIn behind ranges
+unfolding rows followIn follow isIn behindFirst ranges
 four-text c l h = go (ltb c 0x40000) refl (ltb c 0x100000) refl
   where
     go : (u : Bool) → ltb c 0x40000 ≡ u → (v : Bool) → ltb c 0x100000 ≡ v

@@ -14,7 +14,7 @@ use Rattle.cbor.proofs.Table.{both}
 use Rattle.cbor.proofs.Utf8Laws.{is-in}
 use Rattle.cbor.proofs.Utf8Text.{Text, text-nil, Alone, text-past, text-tail}
 use Rattle.notation.specs.Classes.{Class, blank, slash, hash, letter, digit, classNumber, ClassRow, classRows, classIn, classOf, is, isWord}
-use Rattle.notation.specs.Scanning.{isComment, Skipping, between, slashed, hashed, Skipped, on, end, skipped, leftIn, skipFrom, skip, run, whether, expect}
+use Rattle.notation.specs.Scanning.{isComment, Skipping, between, slashed, hashed, Skipped, skips, stops, skipped, leftIn, skipFrom, skip, run, whether, expect}
 use Rattle.notation.specs.Indicators.{indicator}
 use Rattle.notation.specs.Numbers.{digitValue, isDigit}
 
@@ -110,8 +110,8 @@ Kept n gs (slashed c) = Text true [] c × (length c ≤ n)
 Kept n gs (hashed c) = Text true [] c × (length c ≤ n)
 
 abbrev Skips : ℕ → List ℕ → Skipped → Type 0
-Skips n s (on k) = (gs : List Range) × Text true gs s × Kept n gs k
-Skips n s (end r) = Text true [] r × (length r ≤ n)
+Skips n s (skips k) = (gs : List Range) × Text true gs s × Kept n gs k
+Skips n s (stops r) = Text true [] r × (length r ≤ n)
 
 skipped-text : (n : ℕ) (k : Skipping) (gs : List Range) (b : ℕ) (s : List ℕ) → Kept n gs k → Text true gs (b ∷ s) → length (b ∷ s) ≤ n → Skips n s (skipped k b s)
 unfolding skipped classNumber
@@ -135,9 +135,9 @@ skip-from n (hashed c) gs [] k t l = k
 skip-from n k gs (b ∷ s) h t l = go (skipped k b s) (skipped-text n k gs b s h t l) (λ k′ gs′ h′ t′. skip-from n k′ gs′ s h′ t′ (omega arith))
   where
     go : (z : Skipped) → Skips n s z → ((k′ : Skipping) (gs′ : List Range) → Kept n gs′ k′ → Text true gs′ s → Text true [] (skipFrom k′ s) × (length (skipFrom k′ s) ≤ n))
-        → Text true [] (elim z [ on k′ ↦ skipFrom k′ s | end r ↦ r ]) × (length {A = ℕ} (elim z [ on k′ ↦ skipFrom k′ s | end r ↦ r ]) ≤ n)
-    go (on k′) z ih = ih k′ (z .0) (z .2) (z .1)
-    go (end r) z ih = z
+        → Text true [] (elim z [ skips k′ ↦ skipFrom k′ s | stops r ↦ r ]) × (length {A = ℕ} (elim z [ skips k′ ↦ skipFrom k′ s | stops r ↦ r ]) ≤ n)
+    go (skips k′) z ih = ih k′ (z .0) (z .2) (z .1)
+    go (stops r) z ih = z
 
 pub skip-text : (s : List ℕ) → Text true [] s → Text true [] (skip s) × (length (skip s) ≤ length s)
 unfolding skip

@@ -12,7 +12,7 @@ use Rattle.notation.specs.Indicators.{Indicator, absent, indefinitely, u
 use Rattle.notation.specs.Numbers.{number}
 use Rattle.notation.specs.Literals.{quoted}
 use Rattle.notation.specs.Words.{infinityWord, word}
-use Rattle.notation.specs.Tokens.{Opener, bracket, brace, embedding, chunking, opens, Shape, square, curly, round, angle, whole, Token, begins, closes, aComma, aColon}
+use Rattle.notation.specs.Tokens.{Opener, bracket, brace, embedding, chunking, opens, square, curly, round, angle, whole, Token, begins, closes, aComma, aColon}
 
 unfoldable pub startsWith : List ℕ → List ℕ → Bool
 startsWith [] s = true
@@ -25,11 +25,11 @@ afterMinus [] = fault noToken
 afterMinus (b ∷ s) = elim (is digit b) [ true ↦ number negative b s | false ↦ elim (startsWith infinityWord (b ∷ s)) [ true ↦ fault float | false ↦ fault noToken ] ]
 
 -- an unknown indicator on `[` or `{` is 9; the others are judged where the container closes
-unfoldable pub opening : (Indicator → Opener) → Indicator → List ℕ → Result Token
-opening o absent r = ok (begins (opens (o absent))) r
-opening o indefinitely r = ok (begins (opens (o indefinitely))) r
-opening o (wide w) r = ok (begins (opens (o (wide w)))) r
-opening o unknown r = fault badIndicator
+unfoldable pub openingToken : (Indicator → Opener) → Indicator → List ℕ → Result Token
+openingToken o absent r = ok (begins (opens (o absent))) r
+openingToken o indefinitely r = ok (begins (opens (o indefinitely))) r
+openingToken o (wide w) r = ok (begins (opens (o (wide w)))) r
+openingToken o unknown r = fault badIndicator
 
 -- the token that begins with a byte of a class, b, and goes on in s
 unfoldable pub cutBy : Class → ℕ → List ℕ → Result Token
@@ -38,8 +38,8 @@ cutBy minus b s = afterMinus s
 cutBy letter b s = word b s
 cutBy quote b s = quoted textString 0x22 s
 cutBy apostrophe b s = quoted byteString 0x27 s
-cutBy openBracket b s = bind (indicator s) (opening bracket)
-cutBy openBrace b s = bind (indicator s) (opening brace)
+cutBy openBracket b s = bind (indicator s) (openingToken bracket)
+cutBy openBrace b s = bind (indicator s) (openingToken brace)
 cutBy openParen b s = bind (expect 0x5f noToken s) (λ u r. ok (begins chunking) r)
 cutBy less b s = bind (expect 0x3c noToken s) (λ u r. ok (begins (opens embedding)) r)
 cutBy greater b s = bind (expect 0x3e noToken s) (λ u r. bind (indicator r) (λ i v. ok (closes angle i) v))

@@ -6,7 +6,7 @@ use mathlib.Core.Bool.{Bool, true, false}
 use lib.Dec.{leb, eqb}
 use lib.ListN.{length}
 use Rattle.cbor.specs.Refusals.{Result, ok, refuse, bind, badIndicator, tooDeep, notAllowed, mixedChunks, badTypedArray}
-use Rattle.cbor.specs.Widths.{Width, shortest}
+use Rattle.cbor.specs.Widths.{Width}
 use Rattle.cbor.specs.Items.{Kind, byteString, textString, Size, definite, indefinite, Chunk, Item, string, chunked, array, map, tag, Items, none, more, Pairs, none₂, more₂, count, count₂, levels}
 use Rattle.cbor.specs.Encode.{encodeAll}
 use Rattle.cbor.specs.TypedArrays.{mayTag}
@@ -91,31 +91,31 @@ shapeNumber round = 2
 shapeNumber angle = 3
 shapeNumber whole = 4
 
-unfoldable pub closing : {A : Type 0} → ℕ → Shape → Shape → Indicator → A → Rule A
-closing d h h′ i x = elim (eqb (shapeNumber h) (shapeNumber h′)) [ true ↦ give x | false ↦ strays d (closes h′ i) ]
+unfoldable pub closingRule : {A : Type 0} → ℕ → Shape → Shape → Indicator → A → Rule A
+closingRule d h h′ i x = elim (eqb (shapeNumber h) (shapeNumber h′)) [ true ↦ give x | false ↦ strays d (closes h′ i) ]
 
 -- CONTAINERS: "size of an indicator on a container (9) .. at its closing token", the place being the opening token's
-unfoldable pub sized : Chosen → (Width → Item) → Rule Item
-sized (chosen w) make = give (make w)
-sized misfit make = denyFirst badIndicator
+unfoldable pub widthRule : Chosen → (Width → Item) → Rule Item
+widthRule (chosen w) make = give (make w)
+widthRule misfit make = denyFirst badIndicator
 
 unfoldable pub contains : Indicator → ℕ → (Size → Item) → Rule Item
-contains absent n make = sized (choose absent n) (λ w. make (definite w))
+contains absent n make = widthRule (choose absent n) (λ w. make (definite w))
 contains indefinitely n make = give (make indefinite)
-contains unknown n make = sized (choose unknown n) (λ w. make (definite w))
-contains (wide w) n make = sized (choose (wide w) n) (λ w. make (definite w))
+contains unknown n make = widthRule (choose unknown n) (λ w. make (definite w))
+contains (wide w) n make = widthRule (choose (wide w) n) (λ w. make (definite w))
 
 -- "`<<` sheet `>>`: a byte string of the encoded sheet", under the indicator on `>>`
 unfoldable pub embeds : Closed → Rule Item
-embeds c = sized (choose (c .indicator) (length (encodeAll (c .all)))) (λ w. string byteString w (encodeAll (c .all)))
+embeds c = widthRule (choose (c .indicator) (length (encodeAll (c .all)))) (λ w. string byteString w (encodeAll (c .all)))
 
 -- behind the item of a tag: the typed-array check at the closing token, its place being the tag's
-unfoldable pub tags : Width → ℕ → Item → Rule Item
-tags w n x = elim (mayTag n x) [ true ↦ give (tag w n x) | false ↦ denyFirst badTypedArray ]
+unfoldable pub tagRule : Width → ℕ → Item → Rule Item
+tagRule w n x = elim (mayTag n x) [ true ↦ give (tag w n x) | false ↦ denyFirst badTypedArray ]
 
 unfoldable pub afterTag : ℕ → Width → ℕ → Item → Token → Rule Item
 afterTag d w n x (begins g) = strays d (begins g)
-afterTag d w n x (closes h i) = then (closing d round h i x) (tags w n)
+afterTag d w n x (closes h i) = then (closingRule d round h i x) (tagRule w n)
 afterTag d w n x aComma = strays d aComma
 afterTag d w n x aColon = strays d aColon
 
@@ -149,13 +149,13 @@ addItem x c = record { all = more x (c .all); indicator = c .indicator }
 
 unfoldable pub afterItem : Shape → ℕ → Item → Token → Rule Closed
 afterItem h d x (begins g) = strays d (begins g)
-afterItem h d x (closes h′ i) = closing d h h′ i (record { all = more x none; indicator = i })
+afterItem h d x (closes h′ i) = closingRule d h h′ i (record { all = more x none; indicator = i })
 afterItem h d x aComma = call (items h false d) (λ c. give (addItem x c))
 afterItem h d x aColon = strays d aColon
 
 unfoldable pub itemsRule : Shape → Bool → ℕ → Token → Rule Closed
 itemsRule h b d (begins g) = then (beginning d g) (λ x. take (afterItem h d x))
-itemsRule h true d (closes h′ i) = closing d h h′ i (record { all = none; indicator = i })
+itemsRule h true d (closes h′ i) = closingRule d h h′ i (record { all = none; indicator = i })
 itemsRule h false d (closes h′ i) = strays d (closes h′ i)
 itemsRule h b d aComma = strays d aComma
 itemsRule h b d aColon = strays d aColon
@@ -163,7 +163,7 @@ itemsRule h b d aColon = strays d aColon
 -- "Map: item `:` item pairs with commas"
 unfoldable pub afterValue : ℕ → Item → Item → Token → Rule Pairs
 afterValue d k x (begins g) = strays d (begins g)
-afterValue d k x (closes h i) = closing d curly h i (more₂ k x none₂)
+afterValue d k x (closes h i) = closingRule d curly h i (more₂ k x none₂)
 afterValue d k x aComma = call (pairs false d) (λ ps. give (more₂ k x ps))
 afterValue d k x aColon = strays d aColon
 
@@ -175,7 +175,7 @@ afterKey d k aColon = call (one d) (λ x. take (afterValue d k x))
 
 unfoldable pub pairsRule : Bool → ℕ → Token → Rule Pairs
 pairsRule b d (begins g) = then (beginning d g) (λ k. take (afterKey d k))
-pairsRule true d (closes h i) = closing d curly h i none₂
+pairsRule true d (closes h i) = closingRule d curly h i none₂
 pairsRule false d (closes h i) = strays d (closes h i)
 pairsRule b d aComma = strays d aComma
 pairsRule b d aColon = strays d aColon
@@ -186,7 +186,7 @@ addChunk c cs = record { kind = cs .kind; all = c ∷ cs .all }
 
 unfoldable pub afterChunk : ℕ → Kind → Chunk → Token → Rule Chunks
 afterChunk d k c (begins g) = strays d (begins g)
-afterChunk d k c (closes h i) = closing d round h i (record { kind = k; all = c ∷ [] })
+afterChunk d k c (closes h i) = closingRule d round h i (record { kind = k; all = c ∷ [] })
 afterChunk d k c aComma = call (chunks (only k) d) (λ cs. give (addChunk c cs))
 afterChunk d k c aColon = strays d aColon
 
@@ -197,13 +197,13 @@ isWanted (only byteString) textString = false
 isWanted (only textString) byteString = false
 isWanted (only textString) textString = true
 
-unfoldable pub chunk : Wanted → ℕ → Kind → Size → List ℕ → Rule Chunks
-chunk want d k (definite w) b = elim (isWanted want k) [ true ↦ take (afterChunk d k (record { width = w; content = b })) | false ↦ deny mixedChunks ]
-chunk want d k indefinite b = deny badIndicator
+unfoldable pub chunkRule : Wanted → ℕ → Kind → Size → List ℕ → Rule Chunks
+chunkRule want d k (definite w) b = elim (isWanted want k) [ true ↦ take (afterChunk d k (record { width = w; content = b })) | false ↦ deny mixedChunks ]
+chunkRule want d k indefinite b = deny badIndicator
 
 unfoldable pub chunksRule : Wanted → ℕ → Token → Rule Chunks
 chunksRule want d (begins (leaf x)) = strays d (begins (leaf x))
-chunksRule want d (begins (literal k z b)) = chunk want d k z b
+chunksRule want d (begins (literal k z b)) = chunkRule want d k z b
 chunksRule want d (begins chunking) = strays d (begins chunking)
 chunksRule want d (begins (opens o)) = strays d (begins (opens o))
 chunksRule want d (closes h i) = strays d (closes h i)

@@ -3,7 +3,7 @@ use Prim.Native.Nat.{ℕ}
 use mathlib.Core.List.{List, [], _∷_}
 use mathlib.Core.Bool.{Bool, true, false}
 use lib.Dec.{eqb}
-use Rattle.cbor.specs.Refusals.{Result, ok, refuse, bind}
+use Rattle.cbor.specs.Refusals.{Result, ok, bind}
 use Rattle.cbor.specs.Widths.{Width, w0, w1, w2, w4, w8, fits, shortest}
 use Rattle.notation.specs.Classes.{isWord}
 use Rattle.notation.specs.Scanning.{run, whether}

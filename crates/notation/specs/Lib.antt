@@ -12,5 +12,5 @@ pub mod Reading
 pub mod Alone
 pub mod Places
 pub mod Printing
-pub mod Theorems
 pub mod Examples
+pub mod Theorems

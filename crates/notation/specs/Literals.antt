@@ -4,12 +4,12 @@ use mathlib.Core.List.{List, [], _∷_, _++_}
 use mathlib.Core.Bool.{Bool, true, false, _&&_, _||_}
 use lib.Dec.{leb, eqb}
 use lib.ListN.{length}
-use Rattle.cbor.specs.Refusals.{Result, ok, refuse, bind, noToken, badContent, badIndicator}
-use Rattle.cbor.specs.Items.{Kind, byteString, textString, definite, indefinite}
+use Rattle.cbor.specs.Refusals.{Result, ok, bind, noToken, badContent, badIndicator}
+use Rattle.cbor.specs.Items.{Kind, byteString, definite, indefinite}
 use Rattle.cbor.specs.Utf8.{_to_, isIn}
 use Rattle.notation.specs.Classes.{blank, slash, hash, is}
 use Rattle.notation.specs.Scanning.{fault}
-use Rattle.notation.specs.Indicators.{Indicator, absent, indefinitely, unknown, wide, indicator, Chosen, chosen, misfit, choose}
+use Rattle.notation.specs.Indicators.{Indicator, absent, indefinitely, unknown, wide, indicator, chosen, misfit, choose}
 use Rattle.notation.specs.Numbers.{digitValue, isDigit}
 use Rattle.notation.specs.Quoted.{character, unquote}
 use Rattle.notation.specs.Tokens.{Token, begins, literal}
@@ -44,50 +44,50 @@ body (b ∷ s) =
 
 -- what its text stands for; 8: nothing
 pub data Content : Type 0 where
-  content : List ℕ → Content
+  standsFor : List ℕ → Content
   bad : Content
 
 unfoldable pub after : List ℕ → Content → Content
-after w (content c) = content (w ++ c)
+after w (standsFor c) = standsFor (w ++ c)
 after w bad = bad
 
 -- HEXADECIMAL: "an even count of hex digits, blanks and comments (each ended inside the literal) between, before and after any"
 pub data Commenting : Type 0 where
-  outside inSlash inHash : Commenting
+  noComment inSlash inHash : Commenting
 
 -- the digit that a byte begins with, if it is read
 pub data Half : Type 0 where
-  none : Half
+  noHalf : Half
   high : ℕ → Half
 
 unfoldable pub halfEnd : Half → Content
-halfEnd none = content []
+halfEnd noHalf = standsFor []
 halfEnd (high v) = bad
 
 unfoldable pub hexDigit : Half → ℕ → (Half → Content) → Content
-hexDigit none v k = k (high v)
-hexDigit (high u) v k = after ((u * 16 + v) ∷ []) (k none)
+hexDigit noHalf v k = k (high v)
+hexDigit (high u) v k = after ((u * 16 + v) ∷ []) (k noHalf)
 
 unfoldable pub hexFrom : Commenting → Half → List ℕ → Content
-hexFrom outside h [] = halfEnd h
+hexFrom noComment h [] = halfEnd h
 hexFrom inSlash h [] = bad
 hexFrom inHash h [] = bad
-hexFrom outside h (b ∷ s) =
+hexFrom noComment h (b ∷ s) =
     elim (is blank b) [
-      | true ↦ hexFrom outside h s
+      | true ↦ hexFrom noComment h s
       | false ↦ elim (is slash b) [
         | true ↦ hexFrom inSlash h s
         | false ↦ elim (is hash b) [
           | true ↦ hexFrom inHash h s
-          | false ↦ elim (isDigit 16 b) [ true ↦ hexDigit h (digitValue b) (λ h′. hexFrom outside h′ s) | false ↦ bad ]
+          | false ↦ elim (isDigit 16 b) [ true ↦ hexDigit h (digitValue b) (λ h′. hexFrom noComment h′ s) | false ↦ bad ]
         ]
       ]
     ]
-hexFrom inSlash h (b ∷ s) = elim (is slash b) [ true ↦ hexFrom outside h s | false ↦ hexFrom inSlash h s ]
-hexFrom inHash h (b ∷ s) = elim (eqb b 0x0a) [ true ↦ hexFrom outside h s | false ↦ hexFrom inHash h s ]
+hexFrom inSlash h (b ∷ s) = elim (is slash b) [ true ↦ hexFrom noComment h s | false ↦ hexFrom inSlash h s ]
+hexFrom inHash h (b ∷ s) = elim (eqb b 0x0a) [ true ↦ hexFrom noComment h s | false ↦ hexFrom inHash h s ]
 
 unfoldable pub hexContent : List ℕ → Content
-hexContent s = hexFrom outside none s
+hexContent s = hexFrom noComment noHalf s
 
 -- BASE64: "RFC 4648 alphabets of sections 4 and 5, .. the two mixed too"; 64 stands for `=`, 65 for what is in neither
 unfoldable pub sextet : ℕ → ℕ
@@ -110,11 +110,11 @@ sextets (b ∷ s) = elim (is blank b) [ true ↦ sextets s | false ↦ sextet b 
 
 -- "unused bits zero"
 unfoldable pub lastTwo : ℕ → ℕ → Content
-lastTwo a b = elim (leb a 63 && (leb b 63 && eqb (b % 16) 0)) [ true ↦ content ((a * 4 + b / 16) ∷ []) | false ↦ bad ]
+lastTwo a b = elim (leb a 63 && (leb b 63 && eqb (b % 16) 0)) [ true ↦ standsFor ((a * 4 + b / 16) ∷ []) | false ↦ bad ]
 
 unfoldable pub lastThree : ℕ → ℕ → ℕ → Content
 lastThree a b c =
-    elim (leb a 63 && (leb b 63 && (leb c 63 && eqb (c % 4) 0))) [ true ↦ content ((a * 4 + b / 16) ∷ (b % 16 * 16 + c / 4) ∷ []) | false ↦ bad ]
+    elim (leb a 63 && (leb b 63 && (leb c 63 && eqb (c % 4) 0))) [ true ↦ standsFor ((a * 4 + b / 16) ∷ (b % 16 * 16 + c / 4) ∷ []) | false ↦ bad ]
 
 -- "`=` absent, or at the end the least number that makes the count a multiple of four, no single letter left over"
 unfoldable pub lastFour : ℕ → ℕ → ℕ → Content
@@ -125,11 +125,11 @@ fullFour a b c d k =
     elim (leb a 63 && (leb b 63 && (leb c 63 && leb d 63))) [ true ↦ after ((a * 4 + b / 16) ∷ (b % 16 * 16 + c / 4) ∷ (c % 4 * 64 + d) ∷ []) k | false ↦ bad ]
 
 unfoldable pub base64From : List ℕ → Content
-base64From [] = content []
+base64From [] = standsFor []
 base64From (a ∷ []) = bad
 base64From (a ∷ b ∷ []) = lastTwo a b
 base64From (a ∷ b ∷ c ∷ []) = lastThree a b c
-base64From (a ∷ b ∷ c ∷ d ∷ []) = elim (eqb d 64) [ true ↦ lastFour a b c | false ↦ fullFour a b c d (content []) ]
+base64From (a ∷ b ∷ c ∷ d ∷ []) = elim (eqb d 64) [ true ↦ lastFour a b c | false ↦ fullFour a b c d (standsFor []) ]
 base64From (a ∷ b ∷ c ∷ d ∷ e ∷ s) = fullFour a b c d (base64From (e ∷ s))
 
 unfoldable pub base64Content : List ℕ → Content
@@ -137,7 +137,7 @@ base64Content s = base64From (sextets s)
 
 -- behind `h'` or `b64'`: 3, then 8, then 9
 unfoldable pub contained : Content → Indicator → List ℕ → Result Token
-contained (content b) i r = literalToken byteString b i r
+contained (standsFor b) i r = literalToken byteString b i r
 contained bad i r = fault badContent
 
 unfoldable pub encodedLiteral : (List ℕ → Content) → List ℕ → Result Token

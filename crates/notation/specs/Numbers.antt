@@ -3,7 +3,7 @@ use Prim.Native.Nat.{ℕ, zero, suc, _+_, _-_, _*_}
 use mathlib.Core.List.{List, [], _∷_}
 use mathlib.Core.Bool.{Bool, true, false, _&&_, _||_}
 use lib.Dec.{leb, ltb, eqb}
-use Rattle.cbor.specs.Refusals.{Result, ok, refuse, bind, noToken, float, outOfRange, badIndicator}
+use Rattle.cbor.specs.Refusals.{Result, ok, bind, noToken, float, outOfRange, badIndicator}
 use Rattle.cbor.specs.Widths.{Width, w8, limit}
 use Rattle.cbor.specs.Items.{Sign, unsigned, negative, int}
 use Rattle.cbor.specs.Utf8.{_to_, isIn}

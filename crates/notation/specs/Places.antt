@@ -7,21 +7,21 @@ use Rattle.cbor.specs.Refusals.{Result, ok, refuse, bind, noSuchPath}
 use Rattle.cbor.specs.Decode.{mostLevels}
 use Rattle.cbor.specs.Paths.{Found, found, nowhere}
 use Rattle.notation.specs.Scanning.{skip}
-use Rattle.notation.specs.Tokens.{Opener, bracket, brace, tagging, embedding, Beginning, leaf, literal, chunking, opens, Token, begins, closes, aComma, aColon}
+use Rattle.notation.specs.Tokens.{bracket, brace, tagging, embedding, leaf, literal, chunking, opens, Token, begins, closes, aComma, aColon}
 use Rattle.notation.specs.Form.{one, Rule, give, deny, take as takes, call, obey, reads}
 use Rattle.notation.specs.Reading.{marked}
 
 -- THE WAY TO AN ITEM: a rule that reads all that stands in front of it, d levels being left. 17: there is no such item
 pub data Separator : Type 0 where
-  comma colon : Separator
+  byComma byColon : Separator
 
 unfoldable pub separated : Separator → Rule Unit → Token → Rule Unit
 separated c go (begins g) = deny noSuchPath
 separated c go (closes h i) = deny noSuchPath
-separated comma go aComma = go
-separated colon go aComma = deny noSuchPath
-separated comma go aColon = deny noSuchPath
-separated colon go aColon = go
+separated byComma go aComma = go
+separated byColon go aComma = deny noSuchPath
+separated byComma go aColon = deny noSuchPath
+separated byColon go aColon = go
 
 -- past an item and what separates it from the next
 unfoldable pub past : ℕ → Separator → Rule Unit → Rule Unit
@@ -29,12 +29,12 @@ past d c go = call (one d) (λ x. takes (separated c go))
 
 unfoldable pub toElement : ℕ → Rule Unit → ℕ → Rule Unit
 toElement d go zero = go
-toElement d go (suc k) = past d comma (toElement d go k)
+toElement d go (suc k) = past d byComma (toElement d go k)
 
 -- the value of the pair number k
 unfoldable pub toValue : ℕ → Rule Unit → ℕ → Rule Unit
-toValue d go zero = past d colon go
-toValue d go (suc k) = past d colon (past d comma (toValue d go k))
+toValue d go zero = past d byColon go
+toValue d go (suc k) = past d byColon (past d byComma (toValue d go k))
 
 unfoldable pub into : ℕ → Rule Unit → ℕ → Token → Rule Unit
 into d go k (begins (leaf x)) = deny noSuchPath

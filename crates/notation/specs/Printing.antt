@@ -86,30 +86,30 @@ printInt negative w n = 0x2d ∷ (decimalOf (suc n) ++ indicatorOf w n)
 
 -- the rest of some items, or pairs, has what separates it in front of each
 unfoldable mutual
-  pub print : Item → List ℕ
-  print (int g w n) = printInt g w n
-  print (string k w b) = printString k w b
-  print (chunked k cs) = printChunked k cs
-  print (array z xs) = 0x5b ∷ (sizeOf z (count xs) ++ (printAll (ascii ", ") xs ++ ascii "]"))
-  print (map z ps) = 0x7b ∷ (sizeOf z (count₂ ps) ++ (printAll₂ ps ++ ascii "}"))
-  print (tag w n x) = (decimalOf n ++ indicatorOf w n) ++ (0x28 ∷ (print x ++ ascii ")"))
-  print (simple n) = printSimple n
+  pub printItem : Item → List ℕ
+  printItem (int g w n) = printInt g w n
+  printItem (string k w b) = printString k w b
+  printItem (chunked k cs) = printChunked k cs
+  printItem (array z xs) = 0x5b ∷ (sizeOf z (count xs) ++ (printAll (ascii ", ") xs ++ ascii "]"))
+  printItem (map z ps) = 0x7b ∷ (sizeOf z (count₂ ps) ++ (printAll₂ ps ++ ascii "}"))
+  printItem (tag w n x) = (decimalOf n ++ indicatorOf w n) ++ (0x28 ∷ (printItem x ++ ascii ")"))
+  printItem (simple n) = printSimple n
 
   pub printAll : List ℕ → Items → List ℕ
   printAll sep none = []
-  printAll sep (more x xs) = print x ++ printRest sep xs
+  printAll sep (more x xs) = printItem x ++ printRest sep xs
 
   pub printRest : List ℕ → Items → List ℕ
   printRest sep none = []
-  printRest sep (more x xs) = sep ++ (print x ++ printRest sep xs)
+  printRest sep (more x xs) = sep ++ (printItem x ++ printRest sep xs)
 
   pub printAll₂ : Pairs → List ℕ
   printAll₂ none₂ = []
-  printAll₂ (more₂ k x ps) = print k ++ (ascii ": " ++ (print x ++ printRest₂ ps))
+  printAll₂ (more₂ k x ps) = printItem k ++ (ascii ": " ++ (printItem x ++ printRest₂ ps))
 
   pub printRest₂ : Pairs → List ℕ
   printRest₂ none₂ = []
-  printRest₂ (more₂ k x ps) = ascii ", " ++ (print k ++ (ascii ": " ++ (print x ++ printRest₂ ps)))
+  printRest₂ (more₂ k x ps) = ascii ", " ++ (printItem k ++ (ascii ": " ++ (printItem x ++ printRest₂ ps)))
 
 -- "Top items are separated by `,` and newline, the last ends with newline; no items, no text"
 unfoldable pub printText : Items → List ℕ

@@ -3,7 +3,7 @@ use Prim.Native.Nat.{ℕ, zero, suc, _+_, _-_, _*_, _/_, _%_}
 use mathlib.Core.List.{List, [], _∷_, _++_}
 use mathlib.Core.Bool.{Bool, true, false, _&&_, not}
 use lib.Dec.{leb, ltb, eqb}
-use Rattle.cbor.specs.Refusals.{Result, ok, refuse, bind, noToken}
+use Rattle.cbor.specs.Refusals.{Result, ok, bind, noToken}
 use Rattle.cbor.specs.Utf8.{_to_, isIn}
 use Rattle.notation.specs.Scanning.{fault}
 use Rattle.notation.specs.Numbers.{digitValue, isDigit}

@@ -4,12 +4,11 @@ use mathlib.Core.List.{List, [], _∷_, _++_}
 use mathlib.Core.Bool.{Bool, true, false}
 use lib.Dec.{leb, eqb}
 use lib.ListN.{length}
-use Rattle.cbor.specs.Refusals.{Result, ok, refuse, bind, tooLong, notUtf8, notAllowed, Verdict, accepted, refused, verdictOf}
+use Rattle.cbor.specs.Refusals.{Result, ok, refuse, bind, tooLong, notUtf8, notAllowed, Verdict, refused, verdictOf}
 use Rattle.cbor.specs.Items.{Item, Items}
 use Rattle.cbor.specs.Utf8.{firstBad, isUtf8}
 use Rattle.cbor.specs.Decode.{mostBytes, mostLevels}
-use Rattle.notation.specs.Tokens.{whole, Token}
-use Rattle.notation.specs.Scanning.{skip}
+use Rattle.notation.specs.Tokens.{whole}
 use Rattle.notation.specs.Cutting.{next, place}
 use Rattle.notation.specs.Form.{one, items, Closed, stray, reads}
 

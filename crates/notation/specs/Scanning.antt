@@ -6,7 +6,7 @@ use mathlib.Core.Bool.{Bool, true, false, _&&_, _||_}
 use lib.Dec.{leb, eqb}
 use lib.ListN.{length}
 use Rattle.cbor.specs.Refusals.{Result, ok, refuse, bind}
-use Rattle.notation.specs.Classes.{Class, blank, slash, hash, is}
+use Rattle.notation.specs.Classes.{blank, slash, hash, is}
 
 -- BLANKS AND COMMENTS
 
@@ -21,13 +21,13 @@ pub data Skipping : Type 0 where
 
 -- what is skipped, or what is left where it ends
 pub data Skipped : Type 0 where
-  on : Skipping → Skipped
-  end : List ℕ → Skipped
+  skips : Skipping → Skipped
+  stops : List ℕ → Skipped
 
 unfoldable pub skipped : Skipping → ℕ → List ℕ → Skipped
-skipped between b s = elim (is blank b) [ true ↦ on between | false ↦ elim (is slash b) [ true ↦ on (slashed (b ∷ s)) | false ↦ elim (is hash b) [ true ↦ on (hashed (b ∷ s)) | false ↦ end (b ∷ s) ] ] ]
-skipped (slashed c) b s = elim (is slash b) [ true ↦ on between | false ↦ elim (isComment b) [ true ↦ on (slashed c) | false ↦ end c ] ]
-skipped (hashed c) b s = elim (eqb b 0x0a) [ true ↦ on between | false ↦ elim (isComment b) [ true ↦ on (hashed c) | false ↦ end c ] ]
+skipped between b s = elim (is blank b) [ true ↦ skips between | false ↦ elim (is slash b) [ true ↦ skips (slashed (b ∷ s)) | false ↦ elim (is hash b) [ true ↦ skips (hashed (b ∷ s)) | false ↦ stops (b ∷ s) ] ] ]
+skipped (slashed c) b s = elim (is slash b) [ true ↦ skips between | false ↦ elim (isComment b) [ true ↦ skips (slashed c) | false ↦ stops c ] ]
+skipped (hashed c) b s = elim (eqb b 0x0a) [ true ↦ skips between | false ↦ elim (isComment b) [ true ↦ skips (hashed c) | false ↦ stops c ] ]
 
 unfoldable pub leftIn : Skipping → List ℕ
 leftIn between = []
@@ -36,7 +36,7 @@ leftIn (hashed c) = c
 
 unfoldable pub skipFrom : Skipping → List ℕ → List ℕ
 skipFrom k [] = leftIn k
-skipFrom k (b ∷ s) = elim (skipped k b s) [ on k′ ↦ skipFrom k′ s | end r ↦ r ]
+skipFrom k (b ∷ s) = elim (skipped k b s) [ skips k′ ↦ skipFrom k′ s | stops r ↦ r ]
 
 -- "Between tokens any number of blanks and comments"
 unfoldable pub skip : List ℕ → List ℕ

@@ -1,18 +1,21 @@
 -- What holds of the notation's definitions. Each statement is proved in `proofs/` under its name in lower case.
 use Prim.Native.Nat.{ℕ, _≤_}
 use mathlib.Core.Path.{_≡_}
-use mathlib.Core.List.{List, [], _∷_}
+use mathlib.Core.List.{List, [], _∷_, _++_}
 use mathlib.Core.Bool.{true}
+use mathlib.Core.Logic.{_⊎_}
 use lib.ListN.{length}
-use Rattle.cbor.specs.Refusals.{Verdict, accepted, refused, noToken, notAllowed}
+use Rattle.cbor.specs.Refusals.{ok, accepted, refused, noToken, notAllowed}
 use Rattle.cbor.specs.Items.{Item, Items, levels, levelsAll}
 use Rattle.cbor.specs.Valid.{Valid, ValidAll}
 use Rattle.cbor.specs.Decode.{mostBytes, mostLevels}
 use Rattle.cbor.specs.Paths.{Spot, found, locate, replaceAt}
 use Rattle.notation.specs.Classes.{blank, is}
+use Rattle.notation.specs.Tokens.{leaf, begins}
+use Rattle.notation.specs.Cutting.{next}
 use Rattle.notation.specs.Reading.{readText, readItem}
 use Rattle.notation.specs.Places.{levelsAt, Span, spanAt, textAt, edited}
-use Rattle.notation.specs.Printing.{print, printText}
+use Rattle.notation.specs.Printing.{printItem, printText}
 
 -- READING GIVES WELL-FORMED ITEMS, which decoding accepts.
 abbrev pub TextValid : Type 0
@@ -26,7 +29,7 @@ abbrev pub TextOfPrint : Type 0
 TextOfPrint = (xs : Items) → ValidAll xs → levelsAll xs ≤ mostLevels → length (printText xs) ≤ mostBytes → readText (printText xs) ≡ accepted xs
 
 abbrev pub ItemOfPrint : Type 0
-ItemOfPrint = (x : Item) (d : ℕ) → Valid x → levels x ≤ d → length (print x) ≤ mostBytes → readItem d (print x) ≡ accepted x
+ItemOfPrint = (x : Item) (d : ℕ) → Valid x → levels x ≤ d → length (printItem x) ≤ mostBytes → readItem d (printItem x) ≡ accepted x
 
 -- AN EDITED TEXT: t is an accepted text with the items xs, and z is where the item at the path k ∷ p stands in it.
 pub record Edits (t : List ℕ) (xs : Items) (k : ℕ) (p : List ℕ) (z : Span) : Type 0 where
@@ -43,3 +46,31 @@ pub record Edits (t : List ℕ) (xs : Items) (k : ℕ) (p : List ℕ) (z : Span)
 
 abbrev pub EditedText : Type 0
 EditedText = (t : List ℕ) (xs : Items) (k : ℕ) (p : List ℕ) (z : Span) → readText t ≡ accepted xs → spanAt (k ∷ p) t ≡ found z → Edits t xs k p z
+
+-- THE ITEMS OF A TEXT ARE ALL FOUND, so that what is said of edited texts is said of each of them.
+
+-- the path p goes on into an item that the text t writes as one token: a front of p leads to that token
+pub record IntoLeaf (t : List ℕ) (p : List ℕ) : Type 0 where
+  pub front : List ℕ
+  pub step : ℕ
+  pub rest : List ℕ
+  pub path : p ≡ front ++ (step ∷ rest)
+  pub span : Span
+  pub place : spanAt front t ≡ found span
+  pub item : Item
+  pub token : next (textAt t span) ≡ ok (begins (leaf item)) []
+
+-- t is an accepted text with the items xs
+pub record AllFound (t : List ℕ) (xs : Items) : Type 0 where
+  -- an item that a path leads to has its place in the text, unless the path goes into a token
+  pub every : (p : List ℕ) (z : Spot) → locate p xs ≡ found z → ((w : Span) × (spanAt p t ≡ found w)) ⊎ IntoLeaf t p
+  -- and no such path does: an item that is written as one token has no items inside. (A literal that is an array in bytes would narrow
+  -- this clause, and no other.)
+  pub leaves : (p : List ℕ) (z : Spot) → locate p xs ≡ found z → IntoLeaf t p → ⊥
+
+abbrev pub ItemsFound : Type 0
+ItemsFound = (t : List ℕ) (xs : Items) → readText t ≡ accepted xs → AllFound t xs
+
+-- so each item has its place
+abbrev pub ItemFound : Type 0
+ItemFound = (t : List ℕ) (xs : Items) (p : List ℕ) (z : Spot) → readText t ≡ accepted xs → locate p xs ≡ found z → (w : Span) × (spanAt p t ≡ found w)

@@ -3,7 +3,7 @@ use Prim.Native.Nat.{ℕ, zero, suc}
 use mathlib.Core.List.{List, [], _∷_}
 use mathlib.Core.Bool.{Bool, true, false, _&&_, _||_}
 use lib.Dec.{leb, eqb}
-use Rattle.cbor.specs.Refusals.{Result, ok, refuse, bind, unknownWord, float, badContent}
+use Rattle.cbor.specs.Refusals.{Result, ok, bind, unknownWord, float, badContent}
 use Rattle.cbor.specs.Ascii.{ascii}
 use Rattle.cbor.specs.Items.{simple}
 use Rattle.cbor.specs.Valid.{isSimple}

@@ -1,7 +1,5 @@
-pub mod PrintLeaves
-pub mod PrintHeads
+pub mod PrintBounds
 pub mod PrintSeveral
 pub mod PrintCycle
-pub mod PrintWays
-pub mod PrintBounds
 pub mod PrintText
+pub mod PrintWays

@@ -13,12 +13,12 @@ use Rattle.cbor.specs.Ascii.{ascii}
 use Rattle.cbor.specs.Widths.{Width, w0, w1, w2, w4, w8, argumentBytes, limit, shortest}
 use Rattle.cbor.specs.Items.{Sign, unsigned, negative, Kind, byteString, textString, Size, definite, indefinite, Chunk, Item, int, string, chunked, array, map, tag, simple, Items, none, more, Pairs, none₂, more₂, count, count₂}
 use Rattle.cbor.specs.Heads.{Major, head, integers, strings, arrays, maps, tags, simples}
-use Rattle.cbor.specs.Encode.{encodeString, opening, enclosed, encodeChunks, encode, encodeAll, encodeAll₂}
+use Rattle.cbor.specs.Encode.{encodeString, openingHead, enclosed, encodeChunks, encode, encodeAll, encodeAll₂}
 use Rattle.cbor.specs.Valid.{Valid, ValidAll, ValidAll₂}
 use Rattle.cbor.proofs.DecodeEncode.{shortest-simple}
 use Rattle.notation.specs.Words.{falseWord, trueWord, nullWord, undefinedWord, simpleWord}
-use Rattle.notation.specs.Printing.{decimalOf, hexByteOf, hexOf, escapeOf, escapedOf, widthName, indicatorOf, printString, printChunks, printChunked, blankBehind, sizeOf, printSimple, printInt, print, printAll, printRest, printAll₂, printRest₂}
-use Rattle.printer.proofs.PrintLeaves.{decimal-one, decimal-more}
+use Rattle.notation.specs.Printing.{decimalOf, hexByteOf, hexOf, escapeOf, escapedOf, widthName, indicatorOf, printString, printChunks, printChunked, blankBehind, sizeOf, printSimple, printInt, printItem, printAll, printRest, printAll₂, printRest₂}
+use Rattle.text_output.proofs.PrintLeaves.{decimal-one, decimal-more}
 
 -- NUMBERS AND STRINGS
 
@@ -119,7 +119,7 @@ unfolding head
 head-length m w n = omega arith
 
 enclosed-length : (m : Major) (z : Size) (n : ℕ) (b : List ℕ) → 1 + length b ≤ length (enclosed m z n b)
-unfolding enclosed opening
+unfolding enclosed openingHead
 enclosed-length m (definite w) n b = let h = head-length m w n in simp length-append (omega arith)
 enclosed-length m indefinite n b = simp length-append (omega arith)
 
@@ -151,9 +151,9 @@ simple-length n h = go (eqb n 20) (eqb n 21) (eqb n 22) (eqb n 23)
 -- ITEMS
 
 mutual
-  unfolding print printAll printRest printAll₂ printRest₂ encode encodeAll encodeAll₂ Valid ValidAll ValidAll₂
+  unfolding printItem printAll printRest printAll₂ printRest₂ encode encodeAll encodeAll₂ Valid ValidAll ValidAll₂
 
-  item-length : (x : Item) → Valid x → length (print x) + 2 ≤ 40 * length (encode x)
+  item-length : (x : Item) → Valid x → length (printItem x) + 2 ≤ 40 * length (encode x)
   item-length (int g w n) v = let i = int-length g w n v in let h = head-length (integers g) w n in omega arith
   item-length (string k w b) v = let i = string-length k w b in let h = encoded-length k w b in omega arith
   item-length (chunked k cs) v = let i = chunked-length k cs in let h = enclosed-length (strings k) indefinite 0 (encodeChunks k cs) in omega arith

@@ -13,23 +13,24 @@ use Rattle.cbor.specs.Ascii.{ascii}
 use Rattle.cbor.specs.Refusals.{Result, ok, refuse, bind, float}
 use Rattle.cbor.specs.Widths.{Width, w0, w1, w2, w4, w8, argumentBytes, information, valueFrom}
 use Rattle.cbor.specs.Items.{Sign, Kind, byteString, textString, Size, definite, indefinite, Chunk, Item, int, string, chunked, array, map, tag, simple, Items, none, more, Pairs, none₂, more₂, count, count₂}
-use Rattle.cbor.specs.Heads.{Major, integers, strings, arrays, maps, tags, simples, majorNumber, majorOf, Head, Information, argument, reserved, indefinitely, informationOf, isFloat, isAllowed, isIndefinite, taking, started, argued, headBy, nextHead}
-use Rattle.cbor.specs.Decode.{content, extent, tagged, elements, entries, chunks, itemBy, item}
+use Rattle.cbor.specs.Heads.{Major, integers, strings, arrays, maps, tags, simples, majorNumber, majorOf, Head, Information, argument, reserved, openEnded, informationOf, isFloat, isAllowed, isIndefinite, taking, started, argued, headBy, nextHead}
+use Rattle.cbor.specs.Decode.{contentAt, extent, tagged, elements, entries, chunksOf, itemBy, item}
 use Rattle.cbor.specs.TypedArrays.{mayTag}
 use Rattle.cbor.specs.Valid.{isText}
-use Rattle.cbor.specs.HeadAnswers.{head as toldHead, headTold, sizeInformation, headFrom, headAt}
-use Rattle.cbor.specs.declared.refusal.Refusal.{Refusal}
-use Rattle.cbor.specs.declared.head.HeadAt.{HeadAt}
-use Rattle.cbor.specs.declared.head.HeadRead.{HeadRead}
-use Rattle.cbor.specs.declared.head.HeadRead.the-variants.{Head as HeadV, Refused as RefusedV}
+use Rattle.head.specs.HeadAnswers.{headFound as toldHead, headTold, sizeInformation, headFrom, headAt}
+use Rattle.refusal.specs.declared.Refusal.{Refusal}
+use Rattle.head.specs.declared.HeadAt.{HeadAt}
+use Rattle.head.specs.declared.HeadRead.{HeadRead}
+use Rattle.head.specs.declared.HeadRead.the-variants.{Head as HeadV, Refused as RefusedV}
 use Rattle.cbor.proofs.Results.{refuse-not-ok}
 use Rattle.cbor.proofs.Table.{between}
 use Rattle.cbor.proofs.Heads.{major-back, major-most, taking-yes}
 use Rattle.cbor.proofs.DecodeEncode.{enterAt}
-use Rattle.notation.specs.Printing.{printString, printChunks, printChunked, print, printAll, printRest, printAll₂, printRest₂}
-use Rattle.cbor.specs.WalkAnswers.{below, Within}
-use Rattle.printer.specs.PrintAnswers.{widthBy, sizeBy, entryText, chunkText, separatorOf, joined, chunkedText, Headed}
-use Rattle.printer.proofs.PrintHeads.{width-low}
+use Rattle.notation.specs.Printing.{printString, printChunks, printChunked, printItem, printAll, printRest, printAll₂, printRest₂}
+use Rattle.walk.specs.WalkAnswers.{below, Within}
+use Rattle.text_output.specs.PrintParts.{widthBy, sizeBy}
+use Rattle.printer.specs.PrintAnswers.{entryText, chunkText, separatorOf, joined, chunkedText, PrintHeaded}
+use Rattle.leaf_printer.proofs.PrintHeads.{width-low}
 use Rattle.printer.proofs.PrintSeveral.{bind-ok}
 
 -- THE HEAD
@@ -42,7 +43,7 @@ isNarrow (argument w2) = false
 isNarrow (argument w4) = false
 isNarrow (argument w8) = false
 isNarrow reserved = false
-isNarrow indefinitely = false
+isNarrow openEnded = false
 
 narrow : (i : ℕ) → i < 32 → informationOf i ≡ argument w0 → i ≤ 23
 unfolding isNarrow informationOf
@@ -114,7 +115,7 @@ module _ (b left : ℕ) (s : List ℕ) (m : Major) (hd : Head) (r : List ℕ) wh
       go true k = absurd (refuse-not-ok k)
       go false k = behind-argument w i (taking (argumentBytes w) left s) refl k
   behind-by reserved i e = absurd (refuse-not-ok e)
-  behind-by indefinitely i e = go (isIndefinite m) e
+  behind-by openEnded i e = go (isIndefinite m) e
     where
       go : (v : Bool) → elim v [ true ↦ ok (record { major = m; size = indefinite; argument = 0 }) s | false ↦ refuse 16 left ] ≡ ok hd r → Behind (b ∷ s) hd r
       go true k =
@@ -129,7 +130,7 @@ behind-head [] hd r e = absurd (refuse-not-ok e)
 behind-head (b ∷ s) hd r e = behind-by b (suc (length s)) s (majorOf (b / 32)) hd r (informationOf (b % 32)) refl e
 
 module _ {s : List ℕ} {at : ℕ} where
-  headed-by : (h : HeadAt) (res : Result Head) → nextHead (drop at s) ≡ res → toldHead (h .major) (h .info) (h .argument) (h .end) ≡ headFrom (length s) res → Headed s at h
+  headed-by : (h : HeadAt) (res : Result Head) → nextHead (drop at s) ≡ res → toldHead (h .major) (h .info) (h .argument) (h .end) ≡ headFrom (length s) res → PrintHeaded s at h
   unfolding headFrom
   headed-by h (refuse n l) e f = let z : _≡_ {A = ℕ} 0 1 = cc in absurd (omega arith)
   headed-by h (ok hd r) e f =
@@ -152,7 +153,7 @@ module _ {s : List ℕ} {at : ℕ} where
       }
 
 module _ (s : List ℕ) (at : ℕ) {x : HeadRead} (f : headTold x ≡ headAt s at) where
-  pub headed : {h : HeadAt} → x ≡ HeadV h → Headed s at h
+  pub headed : {h : HeadAt} → x ≡ HeadV h → PrintHeaded s at h
   unfolding headTold headAt
   headed {h} e = headed-by h (nextHead (drop at s)) refl (ap headTold (sym e) ∙ f)
 
@@ -196,8 +197,8 @@ made make (ok y t) {x} {r} e =
     record { inner = y; read = ap (ok y) p; is = q }
 made make (refuse n l) e = absurd (refuse-not-ok e)
 
-pub content-ok : (k : Kind) (n left : ℕ) (s : List ℕ) {x r : List ℕ} → content k n left s ≡ ok x r → taking n 0 s ≡ ok x r
-unfolding content
+pub content-ok : (k : Kind) (n left : ℕ) (s : List ℕ) {x r : List ℕ} → contentAt k n left s ≡ ok x r → taking n 0 s ≡ ok x r
+unfolding contentAt
 content-ok k n left s {x} {r} e =
     let m = bind-ok (taking n left s) _ e in
     let q = taking-ok n left s (m .first) in
@@ -220,12 +221,12 @@ module _ (d i n left : ℕ) (r₀ : List ℕ) {x : Item} {r : List ℕ} where
   unfolding itemBy
   string-of k a =
       by-size (λ z. itemBy (enterAt d) (strings k) z n left r₀ ≡ ok x r → Inner (string k (widthBy i)) (taking n 0 r₀) x r) i (λ o e. absurd (a o))
-      (λ o e. let m = made (string k (widthBy i)) (content k n left r₀) e in record { inner = m .inner; read = content-ok k n left r₀ (m .read); is = m .is })
+      (λ o e. let m = made (string k (widthBy i)) (contentAt k n left r₀) e in record { inner = m .inner; read = content-ok k n left r₀ (m .read); is = m .is })
 
-  pub chunked-of : (k : Kind) → i ≡ 31 → itemBy (enterAt d) (strings k) (sizeBy i) n left r₀ ≡ ok x r → Inner (chunked k) (chunks k r₀) x r
+  pub chunked-of : (k : Kind) → i ≡ 31 → itemBy (enterAt d) (strings k) (sizeBy i) n left r₀ ≡ ok x r → Inner (chunked k) (chunksOf k r₀) x r
   unfolding itemBy
   chunked-of k a =
-      by-size (λ z. itemBy (enterAt d) (strings k) z n left r₀ ≡ ok x r → Inner (chunked k) (chunks k r₀) x r) i (λ o e. made (chunked k) (chunks k r₀) e) (λ o e. absurd (o a))
+      by-size (λ z. itemBy (enterAt d) (strings k) z n left r₀ ≡ ok x r → Inner (chunked k) (chunksOf k r₀) x r) i (λ o e. made (chunked k) (chunksOf k r₀) e) (λ o e. absurd (o a))
 
 pub array-of : (d : ℕ) (z : Size) (n left : ℕ) (r₀ : List ℕ) {x : Item} {r : List ℕ} → itemBy (enterAt d) arrays z n left r₀ ≡ ok x r → Inner (array z) (elements (below d) (extent z n) r₀) x r
 unfolding itemBy below
@@ -260,7 +261,7 @@ tag-of (suc d) i n left r₀ {x} {r} =
 
 unfoldable pub itemTexts : Items → List (List ℕ)
 itemTexts none = []
-itemTexts (more x xs) = print x ∷ itemTexts xs
+itemTexts (more x xs) = printItem x ∷ itemTexts xs
 
 unfoldable pub pairTexts : Pairs → List (List ℕ)
 pairTexts none₂ = []
@@ -273,14 +274,14 @@ chunkTexts k (c ∷ cs) = chunkText k c ∷ chunkTexts k cs
 rest-joined : (c : ℕ) (xs : Items) → printRest (0x2c ∷ c ∷ []) xs ≡ joined c false (itemTexts xs)
 unfolding printRest joined separatorOf itemTexts
 rest-joined c none = refl
-rest-joined c (more x xs) = ap (λ (t : List ℕ). 0x2c ∷ c ∷ (print x ++ t)) (rest-joined c xs)
+rest-joined c (more x xs) = ap (λ (t : List ℕ). 0x2c ∷ c ∷ (printItem x ++ t)) (rest-joined c xs)
 
 pub all-joined : (c : ℕ) (xs : Items) → printAll (0x2c ∷ c ∷ []) xs ≡ joined c true (itemTexts xs)
 unfolding printAll joined separatorOf itemTexts
 all-joined c none = refl
-all-joined c (more x xs) = ap (λ (t : List ℕ). print x ++ t) (rest-joined c xs)
+all-joined c (more x xs) = ap (λ (t : List ℕ). printItem x ++ t) (rest-joined c xs)
 
-entry-joined : (k x : Item) (t u : List ℕ) → t ≡ u → print k ++ (ascii ": " ++ (print x ++ t)) ≡ entryText (record { key = k; value = x }) ++ u
+entry-joined : (k x : Item) (t u : List ℕ) → t ≡ u → printItem k ++ (ascii ": " ++ (printItem x ++ t)) ≡ entryText (record { key = k; value = x }) ++ u
 unfolding entryText
 entry-joined k x t u e = simp append-assoc (rw e)
 

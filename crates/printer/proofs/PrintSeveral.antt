@@ -12,14 +12,15 @@ use mir.Syntax.{w64 as bits64}
 use mir.Val.{Fits}
 use borrow.Author.Tests.{eq-eqb, ne-eqb, leb-true, leb-false, not-true, not-false}
 use Rattle.cbor.specs.Refusals.{Result, ok, refuse, bind}
-use Rattle.cbor.specs.Decode.{Until, counted, broken, ended, Step, over, another, stepAt, severalBy, severalWithin, several}
+use Rattle.cbor.specs.Decode.{Until, counted, broken, ended, Step, finished, another, stepAt, severalBy, severalWithin, several}
 use Rattle.cbor.proofs.Results.{refuse-not-ok}
-use Rattle.cbor.proofs.Lists.{front}
-use Rattle.cbor.specs.Sums.{capped}
-use Rattle.cbor.specs.WalkAnswers.{sized as mapped, Within}
-use Rattle.printer.specs.PrintAnswers.{Prints, oneOf, allOf, untilBy, modeBy, behindBy, stepBy, Turned, Moves, separatorOf, joined, openingBy, closingBy, Done, Told}
-use Rattle.printer.specs.declared.print.Printed.{Printed}
-use Rattle.printer.proofs.PrintLeaves.{prints-more, prints-as, prints-none}
+use Rattle.memory.proofs.Lists.{front}
+use Rattle.memory.specs.Sums.{capped}
+use Rattle.walk.specs.WalkAnswers.{mapResult as mapped, Within}
+use Rattle.text_output.specs.PrintParts.{Prints}
+use Rattle.printer.specs.PrintAnswers.{printOneOf, printAllOf, untilBy, modeBy, behindBy, stepBy, PrintTurned, Moves, separatorOf, joined, openingBy, closingBy, Done, PrintTold}
+use Rattle.printer.specs.declared.Printed.{Printed}
+use Rattle.text_output.proofs.PrintLeaves.{prints-more, prints-as, prints-none}
 
 -- WHAT A RESULT COMES FROM
 
@@ -65,7 +66,7 @@ module _ {A L : Type 0} (nil : L) (cons : A → L → L) (rd : List ℕ → Resu
     where
       go : (st : Step) → ((v : Until) (t : List ℕ) (ys : L) → severalWithin nil cons rd n v t ≡ ok ys r → severalWithin [] _∷_ rd′ n v t ≡ ok (g ys) r)
           → severalBy nil cons rd (severalWithin nil cons rd n) st s ≡ ok xs r → severalBy [] _∷_ rd′ (severalWithin [] _∷_ rd′ n) st s ≡ ok (g xs) r
-      go (over t) ih e =
+      go (finished t) ih e =
           let p : t ≡ r = cc in
           let q : nil ≡ xs = cc in
           let z : [] ≡ g xs = sym gn ∙ ap g q in
@@ -102,7 +103,7 @@ module _ (rd : List ℕ → Result (List ℕ)) where
     pub none : [] ≡ ts
     pub rest : t ≡ r
 
-  pub last : (f : ℕ) (u : Until) (s : List ℕ) {ts : List (List ℕ)} {r t : List ℕ} → severalWithin [] _∷_ rd f u s ≡ ok ts r → stepAt u s ≡ over t → Last ts r t
+  pub last : (f : ℕ) (u : Until) (s : List ℕ) {ts : List (List ℕ)} {r t : List ℕ} → severalWithin [] _∷_ rd f u s ≡ ok ts r → stepAt u s ≡ finished t → Last ts r t
   unfolding severalWithin severalBy
   last zero u s e h = absurd (refuse-not-ok e)
   last (suc f) u s {ts} {r} {t} e h =
@@ -155,19 +156,19 @@ module _ (s : List ℕ) (at mode n : ℕ) where
   here a = ap (λ (k : ℕ). drop k s) (sym (ap (λ (k : ℕ). at + k) (behind-none a) ∙ add-zero at))
 
 module _ {s : List ℕ} {at mode n : ℕ} where
-  pub over-count : mode ≡ 0 → Turned s at mode n (eqb n 0)
+  pub over-count : mode ≡ 0 → PrintTurned s at mode n (eqb n 0)
   unfolding stepAt stepBy
   over-count e = record { is = ap (λ (u : Until). stepAt u (drop at s)) (until-count s at mode n e) ∙ go n; inside = λ t i. omega (arith, behind-none s at mode n (omega arith)) }
     where
       go : (k : ℕ) → stepAt (counted k) (drop at s) ≡ stepBy (eqb k 0) mode k s at
-      go zero = let a : mode ≡ 1 → ⊥ = omega arith in ap over (here s at mode n a)
+      go zero = let a : mode ≡ 1 → ⊥ = omega arith in ap finished (here s at mode n a)
       go (suc k) =
           let f : suc k - 1 ≡ k = omega arith in
           let z : suc k ≡ 0 → ⊥ = omega arith in
           ap another (sym (ap (λ (m : ℕ). untilBy mode m) f ∙ until-count s at mode k e)) ∙ ap (λ (t : Bool). stepBy t mode (suc k) s at) (sym (ne-eqb (suc k) 0 z))
 
   module _ (e : mode ≡ 1) where
-    pub over-none : length s ≤ at → Turned s at mode n false
+    pub over-none : length s ≤ at → PrintTurned s at mode n false
     unfolding stepAt stepBy
     over-none h =
         record {
@@ -175,7 +176,7 @@ module _ {s : List ℕ} {at mode n : ℕ} where
           inside = λ t i. absurd (false≢true t);
         }
 
-    pub over-break : at < length s → Turned s at mode n (eqb (getD s at 0) 0xff)
+    pub over-break : at < length s → PrintTurned s at mode n (eqb (getD s at 0) 0xff)
     unfolding stepAt stepBy
     over-break h =
         record {
@@ -183,19 +184,19 @@ module _ {s : List ℕ} {at mode n : ℕ} where
           inside = λ t i. omega (arith, behind-one s at mode n e);
         }
       where
-        go : (t : Bool) → elim t [ true ↦ over (drop (at + 1) s) | false ↦ another broken ] ≡ stepBy t mode n s at
-        go true = ap (λ (k : ℕ). over (drop (at + k) s)) (sym (behind-one s at mode n e))
+        go : (t : Bool) → elim t [ true ↦ finished (drop (at + 1) s) | false ↦ another broken ] ≡ stepBy t mode n s at
+        go true = ap (λ (k : ℕ). finished (drop (at + k) s)) (sym (behind-one s at mode n e))
         go false = ap another (sym (until-break s at mode (n - 1) e))
 
   module _ (a : mode ≡ 0 → ⊥) (b : mode ≡ 1 → ⊥) where
-    pub over-end : Turned s at mode n (leb (length s) at)
+    pub over-end : PrintTurned s at mode n (leb (length s) at)
     unfolding stepAt stepBy
     over-end = record { is = ap (λ (u : Until). stepAt u (drop at s)) (until-end s at mode n a b) ∙ go (leb (length s) at) refl; inside = λ t i. omega (arith, behind-none s at mode n b) }
       where
         go : (t : Bool) → leb (length s) at ≡ t → stepAt ended (drop at s) ≡ stepBy t mode n s at
         go true e =
             let d : drop at s ≡ [] = drop-of-length-le s (leb-true (length s) at e) in
-            ap (stepAt ended) d ∙ ap over (sym d ∙ here s at mode n b)
+            ap (stepAt ended) d ∙ ap finished (sym d ∙ here s at mode n b)
         go false e = let l = leb-false (length s) at e in rw (front s at l) (ap another (sym (until-end s at mode (n - 1) a b)))
 
 pub ruleset over-ways = (over-count, over-none, over-break, over-end)
@@ -262,14 +263,14 @@ pub ruleset separator-ways = (separator-none, separator-some)
 -- TOLD
 
 pub told-via : {s : List ℕ} {least least′ : ℕ} {b b′ : List ℕ} {pos : ℕ} {p : Printed} {res res′ : Result (List ℕ)} → least′ ≤ least
-    → ((ws r : List ℕ) → res′ ≡ ok ws r → res ≡ ok ws r) → Told s least b b′ pos p res → Told s least′ b b′ pos p res′
+    → ((ws r : List ℕ) → res′ ≡ ok ws r → res ≡ ok ws r) → PrintTold s least b b′ pos p res → PrintTold s least′ b b′ pos p res′
 told-via h f t =
     record {
       same = t .same;
       done = λ ws r e. let d = t .done ws r (f ws r e) in record { ahead = omega (arith, d .ahead); inside = d .inside; drops = d .drops; prints = d .prints };
     }
 
-pub told-none : {s : List ℕ} {least : ℕ} {b b′ : List ℕ} {pos : ℕ} {p : Printed} {res : Result (List ℕ)} → length b′ ≡ length b → ((ws r : List ℕ) → res ≡ ok ws r → ⊥) → Told s least b b′ pos p res
+pub told-none : {s : List ℕ} {least : ℕ} {b b′ : List ℕ} {pos : ℕ} {p : Printed} {res : Result (List ℕ)} → length b′ ≡ length b → ((ws r : List ℕ) → res ≡ ok ws r → ⊥) → PrintTold s least b b′ pos p res
 told-none h f = record { same = h; done = λ ws r e. absurd (f ws r e) }
 
 -- THE LOOP
@@ -282,7 +283,7 @@ pub record Left (major d c mode n : ℕ) (s : List ℕ) (at : ℕ) (first : Bool
   pub fuel : ℕ
   pub texts : List (List ℕ)
   pub before : List ℕ
-  pub rest : severalWithin [] _∷_ (oneOf major d) fuel (untilBy mode n) (drop at s) ≡ ok texts r
+  pub rest : severalWithin [] _∷_ (printOneOf major d) fuel (untilBy mode n) (drop at s) ≡ ok texts r
   pub split : ws ≡ before ++ joined c first texts
   pub prints : Prints b₀ b pos before p
 
@@ -290,22 +291,22 @@ pub record Turns (s b₀ : List ℕ) (from mode count major d c pos at n p : ℕ
   pub ahead : from ≤ at
   pub inside : at ≤ length s
   pub same : length b ≡ length b₀
-  pub left : (ws r : List ℕ) → mapped (joined c true) (allOf major d (untilBy mode count) (drop from s)) ≡ ok ws r → Left major d c mode n s at first b₀ b pos p ws r
+  pub left : (ws r : List ℕ) → mapped (joined c true) (printAllOf major d (untilBy mode count) (drop from s)) ≡ ok ws r → Left major d c mode n s at first b₀ b pos p ws r
 
 pub turn-start : {s b : List ℕ} {from mode count major d c pos : ℕ} → Within s from → length b * 1 < 2 ^ 63 → Fits bits64 pos → Turns s b from mode count major d c pos from count pos true b
-unfolding allOf several
+unfolding printAllOf several
 turn-start {s} {b} {from} {mode} {count} {major} {d} {c} {pos} w h u =
     record {
       ahead = omega arith;
       inside = w .inside;
       same = refl;
       left = λ ws r e.
-          let m = mapped-ok (joined c true) (allOf major d (untilBy mode count) (drop from s)) e in
+          let m = mapped-ok (joined c true) (printAllOf major d (untilBy mode count) (drop from s)) e in
           record { fuel = suc (length (drop from s)); texts = m .value; before = []; rest = m .is; split = m .same; prints = prints-none h u };
     }
 
-module _ {s b₀ : List ℕ} {from mode count major d c pos at n p : ℕ} {first : Bool} {b : List ℕ} (inv : Turns s b₀ from mode count major d c pos at n p first b) {t : Bool} (tn : Turned s at mode n t) where
-  module _ (y : not t ≡ true) {b₁ b₂ : List ℕ} {q : ℕ} {part : Printed} (sep : Prints b b₁ p (separatorOf first c) q) (one : Told s (at + 1) b₁ b₂ q part (oneOf major d (drop at s))) where
+module _ {s b₀ : List ℕ} {from mode count major d c pos at n p : ℕ} {first : Bool} {b : List ℕ} (inv : Turns s b₀ from mode count major d c pos at n p first b) {t : Bool} (tn : PrintTurned s at mode n t) where
+  module _ (y : not t ≡ true) {b₁ b₂ : List ℕ} {q : ℕ} {part : Printed} (sep : Prints b b₁ p (separatorOf first c) q) (one : PrintTold s (at + 1) b₁ b₂ q part (printOneOf major d (drop at s))) where
     step : stepAt (untilBy mode n) (drop at s) ≡ another (untilBy mode (n - 1))
     unfolding stepBy
     step = tn .is ∙ ap (λ (v : Bool). stepBy v mode n s at) (not-true t y)
@@ -313,17 +314,17 @@ module _ {s b₀ : List ℕ} {from mode count major d c pos at n p : ℕ} {first
     length-on : length b₂ ≡ length b₀
     length-on = one .same ∙ sep .same ∙ inv .same
 
-    module _ (ws r : List ℕ) (e : mapped (joined c true) (allOf major d (untilBy mode count) (drop from s)) ≡ ok ws r) where
+    module _ (ws r : List ℕ) (e : mapped (joined c true) (printAllOf major d (untilBy mode count) (drop from s)) ≡ ok ws r) where
       l : Left major d c mode n s at first b₀ b pos p ws r
       l = inv .left ws r e
 
-      nx : Next (oneOf major d) (untilBy mode (n - 1)) (drop at s) (l .texts) r
-      nx = next (oneOf major d) (l .fuel) (untilBy mode n) (untilBy mode (n - 1)) (drop at s) (l .rest) step
+      nx : Next (printOneOf major d) (untilBy mode (n - 1)) (drop at s) (l .texts) r
+      nx = next (printOneOf major d) (l .fuel) (untilBy mode n) (untilBy mode (n - 1)) (drop at s) (l .rest) step
 
       dn : Done s (at + 1) b₁ b₂ q part (nx .text) (nx .rest)
       dn = one .done (nx .text) (nx .rest) (nx .one)
 
-    pub turn-stuck : {v : Bool} {e : ℕ} → Moves at (part .end) (length s) v → not v ≡ true → Told s from b₀ b₂ pos (record { end = e; pos = p }) (mapped (joined c true) (allOf major d (untilBy mode count) (drop from s)))
+    pub turn-stuck : {v : Bool} {e : ℕ} → Moves at (part .end) (length s) v → not v ≡ true → PrintTold s from b₀ b₂ pos (record { end = e; pos = p }) (mapped (joined c true) (printAllOf major d (untilBy mode count) (drop from s)))
     turn-stuck {v} h k = told-none length-on (λ ws r e. let i = dn ws r e in h .no (not-true v k) (omega (arith, i .ahead)) (i .inside))
 
     pub turn-on : {v : Bool} {m : ℕ} → Moves at (part .end) (length s) v → not v ≡ false → m ≡ n - 1 → Turns s b₀ from mode count major d c pos (part .end) m (part .pos) false b₂
@@ -341,7 +342,7 @@ module _ {s b₀ : List ℕ} {from mode count major d c pos at n p : ℕ} {first
                 fuel = z .fuel;
                 texts = z .more;
                 before = x .before ++ (separatorOf first c ++ z .text);
-                rest = ap (λ (j : ℕ). severalWithin [] _∷_ (oneOf major d) (z .fuel) (untilBy mode j) (drop (part .end) s)) k ∙ ap (severalWithin [] _∷_ (oneOf major d) (z .fuel) (untilBy mode (n - 1))) (i .drops) ∙ z .on;
+                rest = ap (λ (j : ℕ). severalWithin [] _∷_ (printOneOf major d) (z .fuel) (untilBy mode j) (drop (part .end) s)) k ∙ ap (severalWithin [] _∷_ (printOneOf major d) (z .fuel) (untilBy mode (n - 1))) (i .drops) ∙ z .on;
                 split =
                     x .split ∙ ap (λ (ts : List (List ℕ)). x .before ++ joined c first ts) (sym (z .is))
                     ∙ ap (λ (v : List ℕ). x .before ++ v) (sym (append-assoc (separatorOf first c) (z .text) (joined c false (z .more))))
@@ -351,18 +352,18 @@ module _ {s b₀ : List ℕ} {from mode count major d c pos at n p : ℕ} {first
         }
 
   pub turn-end : {e : ℕ} → not t ≡ false → length s * 1 < 2 ^ 63 → e ≡ capped at (behindBy mode)
-      → Told s from b₀ b pos (record { end = e; pos = p }) (mapped (joined c true) (allOf major d (untilBy mode count) (drop from s)))
+      → PrintTold s from b₀ b pos (record { end = e; pos = p }) (mapped (joined c true) (printAllOf major d (untilBy mode count) (drop from s)))
   unfolding stepBy joined
   turn-end {e} y f g =
       let tr = not-false t y in
       let i = tn .inside tr (inv .inside) in
       let a : e ≡ at + behindBy mode = omega (arith, g, i) in
-      let st : stepAt (untilBy mode n) (drop at s) ≡ over (drop (at + behindBy mode) s) = tn .is ∙ ap (λ (v : Bool). stepBy v mode n s at) tr in
+      let st : stepAt (untilBy mode n) (drop at s) ≡ finished (drop (at + behindBy mode) s) = tn .is ∙ ap (λ (v : Bool). stepBy v mode n s at) tr in
       record {
         same = inv .same;
         done = λ ws r k.
             let x = inv .left ws r k in
-            let z = last (oneOf major d) (x .fuel) (untilBy mode n) (drop at s) (x .rest) st in
+            let z = last (printOneOf major d) (x .fuel) (untilBy mode n) (drop at s) (x .rest) st in
             record {
               ahead = omega (arith, inv .ahead);
               inside = omega (arith, i);

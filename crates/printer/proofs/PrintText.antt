@@ -11,20 +11,21 @@ use mir.Syntax.{w8 as bits8}
 use mir.Val.{Fits}
 use Rattle.cbor.specs.Ascii.{ascii}
 use Rattle.cbor.specs.Refusals.{ok, refuse}
-use Rattle.cbor.specs.Buffer.{over}
+use Rattle.memory.specs.Buffer.{over}
 use Rattle.cbor.specs.Items.{Items, none, more}
 use Rattle.cbor.specs.Encode.{encodeAll}
 use Rattle.cbor.specs.Valid.{Bytes}
 use Rattle.cbor.specs.Decode.{ended, stepAt, severalBy, severalWithin, several, elements, item, decode, mostBytes, mostLevels}
 use Rattle.cbor.specs.Theorems.{Decoded}
-use Rattle.cbor.proofs.Buffer.{over-nil}
+use Rattle.memory.proofs.Buffer.{over-nil}
 use Rattle.cbor.proofs.Results.{refuse-not-ok}
 use Rattle.cbor.proofs.EncodeDecode.{encode-of-decode}
-use Rattle.notation.specs.Printing.{print, printText}
-use Rattle.cbor.specs.WalkAnswers.{sized as mapped, below}
-use Rattle.printer.specs.PrintAnswers.{Prints, oneOf, allOf, untilBy, joined, Told, PrintedAll}
-use Rattle.printer.specs.declared.print.Printed.{Printed}
-use Rattle.printer.proofs.PrintLeaves.{prints-more, prints-as}
+use Rattle.notation.specs.Printing.{printItem, printText}
+use Rattle.walk.specs.WalkAnswers.{mapResult as mapped, below}
+use Rattle.text_output.specs.PrintParts.{Prints}
+use Rattle.printer.specs.PrintAnswers.{printOneOf, printAllOf, untilBy, joined, PrintTold, PrintedAll}
+use Rattle.printer.specs.declared.Printed.{Printed}
+use Rattle.text_output.proofs.PrintLeaves.{prints-more, prints-as}
 use Rattle.printer.proofs.PrintSeveral.{mapped-is, several-as}
 use Rattle.printer.proofs.PrintCycle.{itemTexts, all-joined}
 use Rattle.printer.proofs.PrintBounds.{all-length}
@@ -67,10 +68,10 @@ module _ (s : List ℕ) (g : (i : ℕ) → Fits bits8 (getD s i 0)) (n : length 
   record Text (xs : Items) : Type 0 where
     short : length (printText xs) < 2 ^ 32
     is : joined 0x0a true (itemTexts xs) ++ 0x0a ∷ [] ≡ printText xs
-    read : mapped (joined 0x0a true) (allOf 4 17 (untilBy 2 0) (drop 0 s)) ≡ ok (joined 0x0a true (itemTexts xs)) []
+    read : mapped (joined 0x0a true) (printAllOf 4 17 (untilBy 2 0) (drop 0 s)) ≡ ok (joined 0x0a true (itemTexts xs)) []
 
   text-of : (xs : Items) → decode s ≡ ok xs [] → Text xs
-  unfolding encodeAll printText elements allOf oneOf below untilBy itemTexts
+  unfolding encodeAll printText elements printAllOf printOneOf below untilBy itemTexts
   text-of xs e = go xs e (encode-of-decode s xs [] (bytes-of s g) e)
     where
       go : (xs : Items) → decode s ≡ ok xs [] → Decoded s xs [] → Text xs
@@ -78,15 +79,15 @@ module _ (s : List ℕ) (g : (i : ℕ) → Fits bits8 (getD s i 0)) (n : length 
       go (more x xs) e d =
           let l = all-length (ascii ",\n") (more x xs) (d .valid) (omega arith) in
           let k = ap length (d .same) in
-          let a : several [] _∷_ (oneOf 4 17) ended s ≡ ok (itemTexts (more x xs)) []
-          = several-as none more (item mostLevels) print itemTexts (oneOf 4 17) refl (λ z zs. refl) (λ t. refl) ended s (more x xs) [] (elements-of s e) in
+          let a : several [] _∷_ (printOneOf 4 17) ended s ≡ ok (itemTexts (more x xs)) []
+          = several-as none more (item mostLevels) printItem itemTexts (printOneOf 4 17) refl (λ z zs. refl) (λ t. refl) ended s (more x xs) [] (elements-of s e) in
           record {
             short = simp length-append (omega (arith, d .short));
             is = ap (λ (t : List ℕ). t ++ 0x0a ∷ []) (sym (all-joined 0x0a (more x xs)));
             read = mapped-is (joined 0x0a true) a refl;
           }
 
-  module _ {b b₁ b₂ : List ℕ} {r : ℕ} {part : Printed} (t : Told s 0 b b₁ 0 part (mapped (joined 0x0a true) (allOf 4 17 (untilBy 2 0) (drop 0 s)))) (p : Prints b₁ b₂ (part .pos) (0x0a ∷ []) r) where
+  module _ {b b₁ b₂ : List ℕ} {r : ℕ} {part : Printed} (t : PrintTold s 0 b b₁ 0 part (mapped (joined 0x0a true) (printAllOf 4 17 (untilBy 2 0) (drop 0 s)))) (p : Prints b₁ b₂ (part .pos) (0x0a ∷ []) r) where
     whole : (xs : Items) → decode s ≡ ok xs [] → Prints b b₂ 0 (printText xs) r
     whole xs e = let k = text-of xs e in prints-as (k .is) (prints-more (t .done (joined 0x0a true (itemTexts xs)) [] (k .read) .prints) p)
 

@@ -1,79 +1,42 @@
 -- What the code that prints answers.
-use Prim.Native.Nat.{ℕ, _+_, _-_, _^_, _≤_, _<_}
+use Prim.Native.Nat.{ℕ, _+_, _-_, _≤_, _<_}
 use mathlib.Core.Path.{_≡_}
 use mathlib.Core.Bool.{Bool, true, false}
 use mathlib.Core.List.{List, [], _∷_, _++_}
 use lib.Dec.{eqb}
 use lib.ListN.{length, drop}
 use Rattle.cbor.specs.Ascii.{ascii}
-use Rattle.cbor.specs.Buffer.{over as overBuffer}
+use Rattle.memory.specs.Buffer.{over as overBuffer}
 use Rattle.cbor.specs.Refusals.{Result, ok}
-use Rattle.cbor.specs.Widths.{Width, w0, w1, w2, w4, w8}
-use Rattle.cbor.specs.Items.{Sign, unsigned, negative, Kind, Size, definite, indefinite, Chunk, Item, tag, Items}
+use Rattle.cbor.specs.Items.{Kind, Chunk, Item, tag, Items}
 use Rattle.cbor.specs.Heads.{majorOf, nextHead}
-use Rattle.cbor.specs.Decode.{Until, counted, broken, ended, Step, over, another, stepAt, several, chunk, Entry, entry, decode}
-use Rattle.cbor.specs.Sums.{capped}
-use Rattle.cbor.specs.WalkAnswers.{sized as mapped, below, kindOf}
-use Rattle.cbor.specs.declared.head.HeadAt.{HeadAt}
-use Rattle.notation.specs.Words.{simpleWord}
-use Rattle.notation.specs.Printing.{decimalOf, hexOf, escapedOf, printString, printChunked, sizeOf, print, printText}
-use Rattle.printer.specs.declared.print.Printed.{Printed}
-
--- from b to b′: ws was written at pos, if it fits; if not, nothing is said but that the buffer is as long. r is the place behind it
-pub record Prints (b b′ : List ℕ) (pos : ℕ) (ws : List ℕ) (r : ℕ) : Type 0 where
-  pub same : length b′ ≡ length b
-  pub short : length b < 2 ^ 64
-  pub next : r ≡ capped pos (length ws)
-  pub is : pos + length ws ≤ length b → b′ ≡ overBuffer b pos ws
-
--- the bytes of a string, as they stand between its quotes
-unfoldable pub contentOf : Bool → List ℕ → List ℕ
-contentOf true b = escapedOf b
-contentOf false b = hexOf b
-
--- BY NUMBERS: what the code has for a width, a size, a sign, a kind
-
--- the width that additional information stands for
-unfoldable pub widthBy : ℕ → Width
-widthBy i = elim (eqb i 24) [ true ↦ w1 | false ↦ elim (eqb i 25) [ true ↦ w2 | false ↦ elim (eqb i 26) [ true ↦ w4 | false ↦ elim (eqb i 27) [ true ↦ w8 | false ↦ w0 ] ] ] ]
-
-unfoldable pub sizeBy : ℕ → Size
-sizeBy i = elim (eqb i 31) [ true ↦ indefinite | false ↦ definite (widthBy i) ]
-
-unfoldable pub signOf : Bool → Sign
-signOf true = negative
-signOf false = unsigned
-
-unfoldable pub quoteOf : Bool → ℕ
-quoteOf true = 0x22
-quoteOf false = 0x27
-
-unfoldable pub openQuote : Bool → List ℕ
-openQuote true = 0x22 ∷ []
-openQuote false = ascii "h'"
-
-unfoldable pub otherSimple : ℕ → List ℕ
-otherSimple n = simpleWord ++ (0x28 ∷ (decimalOf n ++ 0x29 ∷ []))
+use Rattle.cbor.specs.Decode.{Until, counted, broken, ended, Step, finished, another, stepAt, several, chunkAt, Entry, entryAt, decode}
+use Rattle.walk.specs.WalkAnswers.{mapResult as mapped, below}
+use Rattle.cbor.specs.Flags.{kindOf}
+use Rattle.head.specs.declared.HeadAt.{HeadAt}
+use Rattle.notation.specs.Printing.{printString, printChunked, sizeOf, printItem, printText}
+use Rattle.printer.specs.declared.Printed.{Printed}
+use Rattle.text_output.specs.PrintParts.{Prints, widthBy, sizeBy}
 
 -- WHAT IS READ, AS TEXT
 
 unfoldable pub entryText : Entry → List ℕ
-entryText e = print (e .key) ++ (ascii ": " ++ print (e .value))
+entryText e = printItem (e .key) ++ (ascii ": " ++ printItem (e .value))
 
 unfoldable pub chunkText : Kind → Chunk → List ℕ
 chunkText k c = printString k (c .width) (c .content)
 
 -- one of several inside an item of a major type: an element of an array, an entry of a map, a chunk of a string
-unfoldable pub oneOf : ℕ → ℕ → List ℕ → Result (List ℕ)
-oneOf major d s =
+unfoldable pub printOneOf : ℕ → ℕ → List ℕ → Result (List ℕ)
+printOneOf major d s =
     elim (eqb major 4) [
-      | true ↦ mapped print (below d s)
-      | false ↦ elim (eqb major 5) [ true ↦ mapped entryText (entry (below d) s) | false ↦ mapped (chunkText (kindOf (eqb major 3))) (chunk (kindOf (eqb major 3)) s) ]
+      | true ↦ mapped printItem (below d s)
+      | false ↦ elim (eqb major 5) [ true ↦ mapped entryText (entryAt (below d) s) | false ↦ mapped (chunkText (kindOf (eqb major 3))) (chunkAt (kindOf (eqb major 3)) s) ]
     ]
 
 -- all of them
-unfoldable pub allOf : ℕ → ℕ → Until → List ℕ → Result (List (List ℕ))
-allOf major d u s = several [] _∷_ (oneOf major d) u s
+unfoldable pub printAllOf : ℕ → ℕ → Until → List ℕ → Result (List (List ℕ))
+printAllOf major d u s = several [] _∷_ (printOneOf major d) u s
 
 -- how far they go: 0 a number of them, 1 to a break, else to the end of the bytes
 unfoldable pub untilBy : ℕ → ℕ → Until
@@ -87,10 +50,10 @@ unfoldable pub behindBy : ℕ → ℕ
 behindBy mode = elim (eqb mode 1) [ true ↦ 1 | false ↦ 0 ]
 
 unfoldable pub stepBy : Bool → ℕ → ℕ → List ℕ → ℕ → Step
-stepBy true mode n s at = over (drop (at + behindBy mode) s)
+stepBy true mode n s at = finished (drop (at + behindBy mode) s)
 stepBy false mode n s at = another (untilBy mode (n - 1))
 
-pub record Turned (s : List ℕ) (at mode n : ℕ) (r : Bool) : Type 0 where
+pub record PrintTurned (s : List ℕ) (at mode n : ℕ) (r : Bool) : Type 0 where
   pub is : stepAt (untilBy mode n) (drop at s) ≡ stepBy r mode n s at
   pub inside : r ≡ true → at ≤ length s → at + behindBy mode ≤ length s
 
@@ -122,7 +85,7 @@ chunkedText k [] = printChunked k []
 chunkedText k (t ∷ ts) = ascii "(_ " ++ (joined 0x20 true (t ∷ ts) ++ ascii ")")
 
 unfoldable pub tagText : ℕ → ℕ → Item → List ℕ
-tagText i n x = print (tag (widthBy i) n x)
+tagText i n x = printItem (tag (widthBy i) n x)
 
 -- THE ANSWER
 
@@ -134,12 +97,12 @@ pub record Done (s : List ℕ) (least : ℕ) (b b′ : List ℕ) (pos : ℕ) (p 
   pub prints : Prints b b′ pos ws (p .pos)
 
 -- if reading gives a text, it is printed; of other bytes nothing is said
-pub record Told (s : List ℕ) (least : ℕ) (b b′ : List ℕ) (pos : ℕ) (p : Printed) (res : Result (List ℕ)) : Type 0 where
+pub record PrintTold (s : List ℕ) (least : ℕ) (b b′ : List ℕ) (pos : ℕ) (p : Printed) (res : Result (List ℕ)) : Type 0 where
   pub same : length b′ ≡ length b
   pub done : (ws r : List ℕ) → res ≡ ok ws r → Done s least b b′ pos p ws r
 
 -- the head at a place
-pub record Headed (s : List ℕ) (at : ℕ) (h : HeadAt) : Type 0 where
+pub record PrintHeaded (s : List ℕ) (at : ℕ) (h : HeadAt) : Type 0 where
   pub is : nextHead (drop at s) ≡ ok (record { major = majorOf (h .major); size = sizeBy (h .info); argument = h .argument }) (drop (h .end) s)
   pub ahead : at < h .end
   pub inside : h .end ≤ length s

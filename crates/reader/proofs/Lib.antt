@@ -1,11 +1,2 @@
-pub mod ReadSmall
-pub mod ReadWriting
-pub mod ReadTokens
-pub mod Telling
-pub mod ReadRules
-pub mod ReadLoops
-pub mod ReadLists
-pub mod ReadStrings
-pub mod ReadItems
 pub mod ReadContainers
-pub mod ReadOne
+pub mod ReadItems

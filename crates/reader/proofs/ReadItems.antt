@@ -14,29 +14,25 @@ use Rattle.cbor.specs.Items.{unsigned, negative, byteString, textString, Item, 
 use Rattle.cbor.specs.Heads.{Major, integers, tags, simples, majorNumber, initial, head}
 use Rattle.cbor.specs.Encode.{encode}
 use Rattle.cbor.specs.TypedArrays.{mayTag}
-use Rattle.cbor.specs.HeadAnswers.{headBytes}
-use Rattle.cbor.specs.declared.refusal.Refusal.{Refusal}
+use Rattle.head.specs.HeadAnswers.{headBytes}
 use Rattle.notation.specs.Indicators.{Indicator, absent, indefinitely, unknown, wide}
 use Rattle.notation.specs.Tokens.{Opener, bracket, brace, tagging, embedding, leaf, literal, chunking, opens, square, curly, round, angle, whole, Token, begins, closes, aComma, aColon}
 use Rattle.notation.specs.Cutting.{next, place}
-use Rattle.notation.specs.Form.{one, stray, strays, then, give, denyFirst, shapeNumber, closing, beginning, oneRule, inside, afterTag, obey, reads}
-use Rattle.notation.specs.Form.{tags as tagRule}
+use Rattle.notation.specs.Form.{one, stray, strays, then, give, denyFirst, shapeNumber, closingRule, beginning, oneRule, inside, afterTag, obey, reads, tagRule}
 use Rattle.notation.specs.Reading.{marked}
-use Rattle.tokens.specs.Stands.{Stands}
-use Rattle.tokens.specs.TokenAnswers.{widthNumber, indicatorNumber, itemCode, openCode, kindCode, beginCode, shapeCode, codeOf, itemMark, openMark, beginMark, markOf, itemNumber, openNumber, beginNumber, numberOf, Seen, Took}
-use Rattle.reader.specs.ReadAnswers.{noteOf, ofItem, ofTagged, followBy, followed, chunkedRead, within, taggedRead, indicatorFor, infoBy, majorBy, initialBy, Room, Opened, Bracketed, Told, Strayed, Leafed}
-use Rattle.tokens.specs.declared.token.Token.{Token as Cut}
-use Rattle.reader.specs.declared.answer.Answer.{Answer}
-use Rattle.reader.specs.declared.answer.Answer.the-variants.{Made}
-use Rattle.cbor.proofs.HeadCode.{head-bytes}
+use Rattle.token.specs.TokenAnswers.{widthNumber, indicatorNumber, itemCode, openCode, kindCode, beginCode, shapeCode, codeOf, itemMark, openMark, beginMark, markOf, itemNumber, openNumber, beginNumber, numberOf, Seen, Took}
+use Rattle.encoding.specs.ReadAnswers.{noteOf, ofItem, ofTagged, followBy, followed, chunkedRead, behindOpener, taggedRead, indicatorFor, infoBy, majorBy, initialBy, Room, Opened, Bracketed, ReadTold, Strayed, Leafed}
+use Rattle.token.specs.declared.Token.{Token as Cut}
+use Rattle.encoding.specs.declared.answer.ReadAnswer.{ReadAnswer}
+use Rattle.head.proofs.HeadCode.{head-bytes}
 use Rattle.notation.proofs.Equations.{bind-same, bind-assoc, obey-if}
-use Rattle.tokens.proofs.Marked.{stands-left}
-use Rattle.reader.proofs.ReadTokens.{LeafFine, OpenerFine, Fine, next-fine}
-use Rattle.reader.proofs.ReadSmall.{head-short, head-some}
-use Rattle.reader.proofs.ReadWriting.{info-width}
-use Rattle.reader.proofs.Telling.{bind-yes, bind-no, told-ok, told-more, told-map, told-stop, token, past, place-left}
-use Rattle.reader.proofs.ReadStrings.{item-literal}
-use Rattle.reader.proofs.ReadRules.{one-is, begin-not, shape-low, shape-shuts, opensBy, follow-yes, follow-no}
+use Rattle.scanning.proofs.Marked.{stands-left}
+use Rattle.encoding.proofs.ReadTokens.{LeafFine, OpenerFine, Fine, next-fine}
+use Rattle.encoding.proofs.ReadSmall.{head-short, head-some}
+use Rattle.encoding.proofs.ReadWriting.{info-width}
+use Rattle.encoding.proofs.Telling.{bind-yes, bind-no, told-ok, told-more, told-map, told-stop, token, past, place-left}
+use Rattle.string_reader.proofs.ReadStrings.{item-literal}
+use Rattle.encoding.proofs.ReadRules.{one-is, begin-not, shape-low, shape-shuts, opensBy, follow-yes, follow-no}
 
 -- A LEAF: its head
 int-head : (m : Major) (w : Width) (n : ℕ) → n ≤ limit w → headBytes (majorNumber m * 32 + infoBy (widthNumber w) n) n ≡ head m w n
@@ -101,8 +97,8 @@ none-begins d n (closes h i) k p r f l n13 n6 n15 n17 n19 = refl
 none-begins d n aComma k p r f l n13 n6 n15 n17 n19 = refl
 none-begins d n aColon k p r f l n13 n6 n15 n17 n19 = refl
 
-goes-inside : (d : ℕ) (o : Opener) (p : ℕ) (r : List ℕ) → (d ≡ 0 → ⊥) → obey reads (oneRule d (begins (opens o))) p p r ≡ within (d - 1) o p r
-unfolding oneRule beginning within
+goes-inside : (d : ℕ) (o : Opener) (p : ℕ) (r : List ℕ) → (d ≡ 0 → ⊥) → obey reads (oneRule d (begins (opens o))) p p r ≡ behindOpener (d - 1) o p r
+unfolding oneRule beginning behindOpener
 goes-inside zero o p r n = absurd (n refl)
 goes-inside (suc d) o p r n = let e : suc d - 1 ≡ d = omega arith in rw e
 
@@ -184,7 +180,7 @@ Checked n p x r = elim (mayTag n x) [ true ↦ ok x r | false ↦ refuse badType
 
 tag-step : (d : ℕ) (w : Width) (n : ℕ) (x : Item) (u : Token) (p q : ℕ) (r : List ℕ)
     → obey reads (afterTag d w n x u) p q r ≡ bind (followBy 14 d x u q r) (λ x r. bind (Checked n p x r) (λ x r. ok (tag w n x) r))
-unfolding afterTag obey strays then closing tagRule shapeNumber codeOf shapeCode bind opensBy
+unfolding afterTag obey strays then closingRule tagRule shapeNumber codeOf shapeCode bind opensBy
 tag-step d w n x (begins g) p q r = sym (bind-no _ _ _ _ (follow-no 14 d x (begins g) q r (λ e. begin-not g 14 refl e)))
 tag-step d w n x (closes square i) p q r = sym (bind-no _ _ _ _ (follow-no 14 d x (closes square i) q r (λ e. absurd (omega arith))))
 tag-step d w n x (closes curly i) p q r = sym (bind-no _ _ _ _ (follow-no 14 d x (closes curly i) q r (λ e. absurd (omega arith))))
@@ -195,8 +191,8 @@ tag-step d w n x (closes round i) p q r =
 tag-step d w n x aComma p q r = sym (bind-no _ _ _ _ (follow-no 14 d x aComma q r (λ e. absurd (omega arith))))
 tag-step d w n x aColon p q r = sym (bind-no _ _ _ _ (follow-no 14 d x aColon q r (λ e. absurd (omega arith))))
 
-within-tag : (d : ℕ) (w : Width) (n p : ℕ) (s : List ℕ) → within d (tagging w n) p s ≡ bind (taggedRead d n p s) (λ x r. ok (tag w n x) r)
-unfolding within inside obey taggedRead followed
+within-tag : (d : ℕ) (w : Width) (n p : ℕ) (s : List ℕ) → behindOpener d (tagging w n) p s ≡ bind (taggedRead d n p s) (λ x r. ok (tag w n x) r)
+unfolding behindOpener inside obey taggedRead followed
 within-tag d w n p s =
     bind-same (reads (one d) s) _ _ (λ x r e. bind-same (next r) _ _ (λ u r′ e′. tag-step d w n x u p (place r) r′) ∙ sym (bind-assoc (next r) _ _))
     ∙ sym (bind-assoc (reads (one d) s) _ _) ∙ sym (bind-assoc (followed 14 d s) _ _)
@@ -215,12 +211,12 @@ fine-at : (u : List ℕ) (tok : Token) (r : List ℕ) → next u ≡ ok tok r �
 fine-at u tok r e = (rw e at (next-fine u)) .0
 
 -- AN ITEM, by its first token
-module _ {s b b′ : List ℕ} {pos at : ℕ} {t : Cut} {a : Answer} (d : ℕ) (tk : Took s at t) where
-  pub item-none : t .code ≡ 0 → Strayed d t a → Told ofItem s b b′ (length (marked s) - at) pos a (reads (one d) (drop at (marked s)))
+module _ {s b b′ : List ℕ} {pos at : ℕ} {t : Cut} {a : ReadAnswer} (d : ℕ) (tk : Took s at t) where
+  pub item-none : t .code ≡ 0 → Strayed d t a → ReadTold ofItem s b b′ (length (marked s) - at) pos a (reads (one d) (drop at (marked s)))
   item-none e f = told-stop d _ _ tk f (one-is d (drop at (marked s))) (λ tok r c u. absurd (omega (arith, code-some tok, c)))
 
   leaf-told : (x : Item) (r : List ℕ) → next (drop at (marked s)) ≡ ok (begins (leaf x)) r → Seen s t (begins (leaf x)) r → LeafFine x → t .place < t .next → Leafed t b b′ pos a
-      → Told ofItem s b b′ (length (marked s) - at) pos a (reads (one d) (drop at (marked s)))
+      → ReadTold ofItem s b b′ (length (marked s) - at) pos a (reads (one d) (drop at (marked s)))
   unfolding ofItem codeOf markOf numberOf beginCode beginMark beginNumber initialBy oneRule
   leaf-told x r e se f ah lf =
       let lb = leaf-bytes x f in
@@ -236,25 +232,25 @@ module _ {s b b′ : List ℕ} {pos at : ℕ} {t : Cut} {a : Answer} (d : ℕ) (
         wrote = rw hs at (lf .wrote);
       })
 
-  pub item-deep : 5 < t .code → (t .code ≡ 13 → ⊥) → d ≡ 0 → Strayed d t a → Told ofItem s b b′ (length (marked s) - at) pos a (reads (one d) (drop at (marked s)))
+  pub item-deep : 5 < t .code → (t .code ≡ 13 → ⊥) → d ≡ 0 → Strayed d t a → ReadTold ofItem s b b′ (length (marked s) - at) pos a (reads (one d) (drop at (marked s)))
   item-deep l n13 z f =
       told-stop d _ _ tk f (one-is d (drop at (marked s)))
       (λ tok r c u. none-open d (place (drop at (marked s)) - 1) tok (length r) (place (drop at (marked s))) r (fine-at (drop at (marked s)) tok r u) (rw c at l) (λ q. n13 (c ∙ q)) z)
 
   pub item-other : 5 < t .code → (t .code ≡ 13 → ⊥) → (t .code ≡ 6 → ⊥) → (t .code ≡ 15 → ⊥) → (t .code ≡ 17 → ⊥) → (t .code ≡ 19 → ⊥) → Strayed d t a
-      → Told ofItem s b b′ (length (marked s) - at) pos a (reads (one d) (drop at (marked s)))
+      → ReadTold ofItem s b b′ (length (marked s) - at) pos a (reads (one d) (drop at (marked s)))
   item-other l n13 n6 n15 n17 n19 f =
       told-stop d _ _ tk f (one-is d (drop at (marked s)))
       (λ tok r c u. none-begins d (place (drop at (marked s)) - 1) tok (length r) (place (drop at (marked s))) r (fine-at (drop at (marked s)) tok r u) (rw c at l) (λ q. n13 (c ∙ q)) (λ q. n6 (c ∙ q)) (λ q. n15 (c ∙ q)) (λ q. n17 (c ∙ q)) (λ q. n19 (c ∙ q)))
 
-  pub item-leaf : (t .code ≡ 0 → ⊥) → t .code ≤ 3 → Leafed t b b′ pos a → Told ofItem s b b′ (length (marked s) - at) pos a (reads (one d) (drop at (marked s)))
+  pub item-leaf : (t .code ≡ 0 → ⊥) → t .code ≤ 3 → Leafed t b b′ pos a → ReadTold ofItem s b b′ (length (marked s) - at) pos a (reads (one d) (drop at (marked s)))
   item-leaf n h lf =
       let ta = token tk n in
       let lo = low-leaf (place (drop at (marked s)) - 1) (ta .tok) (length (ta .rest)) (ta .fine) (rw (ta .seen .code) at h) (λ z. n (ta .seen .code ∙ z)) in
       leaf-told (lo .0) (ta .rest) (ta .is ∙ ap (λ (u : Token). ok u (ta .rest)) (lo .1)) (rw (lo .1) at (ta .seen)) (lo .2) (ta .ahead) lf
 
-  pub item-chunked : t .code ≡ 13 → Told ofItem s b b′ (length (marked s) - t .next + 1) pos a (chunkedRead d (drop (t .next) (marked s)))
-      → Told ofItem s b b′ (length (marked s) - at) pos a (reads (one d) (drop at (marked s)))
+  pub item-chunked : t .code ≡ 13 → ReadTold ofItem s b b′ (length (marked s) - t .next + 1) pos a (chunkedRead d (drop (t .next) (marked s)))
+      → ReadTold ofItem s b b′ (length (marked s) - at) pos a (reads (one d) (drop at (marked s)))
   unfolding oneRule beginning obey chunkedRead
   item-chunked e h =
       let ta = token tk (λ z. omega arith) in
@@ -266,11 +262,11 @@ module _ {s b b′ : List ℕ} {pos at : ℕ} {t : Cut} {a : Answer} (d : ℕ) (
 
   -- an opening token, and what is told of the inside
   open-told : (o : Opener) (r : List ℕ) → next (drop at (marked s)) ≡ ok (begins (opens o)) r → Seen s t (begins (opens o)) r → t .place < t .next → (d ≡ 0 → ⊥)
-      → Told ofItem s b b′ (length (marked s) - t .next + 1) pos a (within (d - 1) o (length (marked s) - t .place) (drop (t .next) (marked s)))
-      → Told ofItem s b b′ (length (marked s) - at) pos a (reads (one d) (drop at (marked s)))
+      → ReadTold ofItem s b b′ (length (marked s) - t .next + 1) pos a (behindOpener (d - 1) o (length (marked s) - t .place) (drop (t .next) (marked s)))
+      → ReadTold ofItem s b b′ (length (marked s) - at) pos a (reads (one d) (drop at (marked s)))
   open-told o r e se ah n h =
       let le : length (marked s) - t .next + 1 ≤ length (marked s) - at = omega (arith, past tk ah, se .next .inside) in
-      let q : reads (one d) (drop at (marked s)) ≡ within (d - 1) o (length (marked s) - t .place) (drop (t .next) (marked s)) =
+      let q : reads (one d) (drop at (marked s)) ≡ behindOpener (d - 1) o (length (marked s) - t .place) (drop (t .next) (marked s)) =
       one-is d (drop at (marked s)) ∙ bind-yes (next (drop at (marked s))) _ (begins (opens o)) r e ∙ goes-inside d o (place (drop at (marked s))) r n ∙ rw (place-left tk, se .next .drops) in
       told-more le (rw q h)
 
@@ -358,12 +354,12 @@ unfolding numberOf beginNumber
 opener-number o se = se .number
 
 -- what is told of the inside behind an opening token t
-abbrev Inner : List ℕ → List ℕ → List ℕ → ℕ → Answer → ℕ → Cut → Opener → Type 0
-Inner s b b′ pos a d t o = Told ofItem s b b′ (length (marked s) - t .next + 1) pos a (within (d - 1) o (length (marked s) - t .place) (drop (t .next) (marked s)))
+abbrev Inner : List ℕ → List ℕ → List ℕ → ℕ → ReadAnswer → ℕ → Cut → Opener → Type 0
+Inner s b b′ pos a d t o = ReadTold ofItem s b b′ (length (marked s) - t .next + 1) pos a (behindOpener (d - 1) o (length (marked s) - t .place) (drop (t .next) (marked s)))
 
-module _ {s b b′ : List ℕ} {pos at : ℕ} {t : Cut} {a : Answer} (d : ℕ) (tk : Took s at t) where
-  pub item-array : t .code ≡ 15 → (d ≡ 0 → ⊥) → Told ofItem s b b′ (length (marked s) - t .next + 1) pos a (within (d - 1) (bracket (indicatorFor (t .indicator))) (length (marked s) - t .place) (drop (t .next) (marked s)))
-      → Told ofItem s b b′ (length (marked s) - at) pos a (reads (one d) (drop at (marked s)))
+module _ {s b b′ : List ℕ} {pos at : ℕ} {t : Cut} {a : ReadAnswer} (d : ℕ) (tk : Took s at t) where
+  pub item-array : t .code ≡ 15 → (d ≡ 0 → ⊥) → ReadTold ofItem s b b′ (length (marked s) - t .next + 1) pos a (behindOpener (d - 1) (bracket (indicatorFor (t .indicator))) (length (marked s) - t .place) (drop (t .next) (marked s)))
+      → ReadTold ofItem s b b′ (length (marked s) - at) pos a (reads (one d) (drop at (marked s)))
   unfolding openMark
   item-array e n h =
       let oa = opener-15 tk e in
@@ -371,8 +367,8 @@ module _ {s b b′ : List ℕ} {pos at : ℕ} {t : Cut} {a : Answer} (d : ℕ) (
       (by-15 (Inner s b b′ pos a d t) (oa .opener) (sym (opener-code (oa .opener) (oa .seen)) ∙ e)
       (λ i q. let k : indicatorFor (t .indicator) ≡ i = ap indicatorFor (opener-mark (oa .opener) (oa .seen) ∙ ap openMark q) ∙ indicator-back i in rw k at h))
 
-  pub item-map : t .code ≡ 17 → (d ≡ 0 → ⊥) → Told ofItem s b b′ (length (marked s) - t .next + 1) pos a (within (d - 1) (brace (indicatorFor (t .indicator))) (length (marked s) - t .place) (drop (t .next) (marked s)))
-      → Told ofItem s b b′ (length (marked s) - at) pos a (reads (one d) (drop at (marked s)))
+  pub item-map : t .code ≡ 17 → (d ≡ 0 → ⊥) → ReadTold ofItem s b b′ (length (marked s) - t .next + 1) pos a (behindOpener (d - 1) (brace (indicatorFor (t .indicator))) (length (marked s) - t .place) (drop (t .next) (marked s)))
+      → ReadTold ofItem s b b′ (length (marked s) - at) pos a (reads (one d) (drop at (marked s)))
   unfolding openMark
   item-map e n h =
       let oa = opener-17 tk e in
@@ -380,15 +376,15 @@ module _ {s b b′ : List ℕ} {pos at : ℕ} {t : Cut} {a : Answer} (d : ℕ) (
       (by-17 (Inner s b b′ pos a d t) (oa .opener) (sym (opener-code (oa .opener) (oa .seen)) ∙ e)
       (λ i q. let k : indicatorFor (t .indicator) ≡ i = ap indicatorFor (opener-mark (oa .opener) (oa .seen) ∙ ap openMark q) ∙ indicator-back i in rw k at h))
 
-  pub item-embed : t .code ≡ 19 → (d ≡ 0 → ⊥) → Told ofItem s b b′ (length (marked s) - t .next + 1) pos a (within (d - 1) embedding (length (marked s) - t .place) (drop (t .next) (marked s)))
-      → Told ofItem s b b′ (length (marked s) - at) pos a (reads (one d) (drop at (marked s)))
+  pub item-embed : t .code ≡ 19 → (d ≡ 0 → ⊥) → ReadTold ofItem s b b′ (length (marked s) - t .next + 1) pos a (behindOpener (d - 1) embedding (length (marked s) - t .place) (drop (t .next) (marked s)))
+      → ReadTold ofItem s b b′ (length (marked s) - at) pos a (reads (one d) (drop at (marked s)))
   item-embed e n h =
       let oa = opener-19 tk e in
       open-told d tk (oa .opener) (oa .rest) (oa .is) (oa .seen) (oa .ahead) n (by-19 (Inner s b b′ pos a d t) (oa .opener) (sym (opener-code (oa .opener) (oa .seen)) ∙ e) h)
 
   pub item-tag : {first : ℕ} → t .code ≡ 6 → (d ≡ 0 → ⊥) → first ≡ initialBy t
-      → Told (ofTagged first (t .number)) s b b′ (length (marked s) - t .next + 1) pos a (taggedRead (d - 1) (t .number) (length (marked s) - t .place) (drop (t .next) (marked s)))
-      → Told ofItem s b b′ (length (marked s) - at) pos a (reads (one d) (drop at (marked s)))
+      → ReadTold (ofTagged first (t .number)) s b b′ (length (marked s) - t .next + 1) pos a (taggedRead (d - 1) (t .number) (length (marked s) - t .place) (drop (t .next) (marked s)))
+      → ReadTold ofItem s b b′ (length (marked s) - at) pos a (reads (one d) (drop at (marked s)))
   unfolding openMark openNumber
   item-tag {first} e n fe h =
       let oa = opener-6 tk e in

@@ -8,43 +8,43 @@ use native.Mathlib.Omega.{arith}
 use lib.Dec.{leb, eqb}
 use lib.ListN.{length, drop, getD, length-drop, drop-of-length-le}
 use borrow.Author.Tests.{eq-eqb, leb-true, leb-false}
-use Rattle.cbor.specs.Refusals.{Result, ok, refuse, bind, noToken, dots, badIndicator, notAllowed}
-use Rattle.cbor.specs.Items.{unsigned, byteString, textString}
+use Rattle.cbor.specs.Refusals.{Result, ok, refuse, bind, noToken, badIndicator, notAllowed}
+use Rattle.cbor.specs.Items.{unsigned}
 use Rattle.notation.specs.Classes.{Class, other, blank, digit, letter, underscore, minus, dot, quote, apostrophe, slash, hash, comma, colon, openParen, closeParen, openBracket, closeBracket, openBrace, closeBrace, less, greater, endMark, classNumber, classOf, is}
-use Rattle.notation.specs.Scanning.{skip, fault, expect}
+use Rattle.notation.specs.Scanning.{skip, fault}
 use Rattle.notation.specs.Indicators.{Indicator, absent, indefinitely, unknown, wide, indicator}
 use Rattle.notation.specs.Numbers.{number}
 use Rattle.notation.specs.Literals.{quoted}
 use Rattle.notation.specs.Words.{word}
 use Rattle.notation.specs.Tokens.{Opener, bracket, brace, embedding, chunking, opens, square, curly, round, angle, whole, Token, begins, closes, aComma, aColon}
-use Rattle.notation.specs.Cutting.{afterMinus, opening, cutBy, cut, place, placed, next}
+use Rattle.notation.specs.Cutting.{afterMinus, openingToken, cutBy, cut, place, placed, next}
 use Rattle.notation.specs.Reading.{marked}
-use Rattle.tokens.specs.Stands.{Stands}
-use Rattle.tokens.specs.ScanAnswers.{Skips, Peeked}
-use Rattle.tokens.specs.TokenAnswers.{indicatorNumber, openCode, beginCode, shapeCode, codeOf, openMark, beginMark, markOf, openNumber, beginNumber, numberOf, BeginsAs, Written, Seen, Failed, Shown, Says, Took, Refused, Made}
-use Rattle.tokens.specs.NumberAnswers.{Indicated, signOf}
-use Rattle.tokens.specs.WordAnswers.{frontClass, Stood}
-use Rattle.tokens.specs.CutAnswers.{kindOf, quoteOf, QuotedAt, Opens, Paired}
-use Rattle.tokens.specs.declared.indicator.Mark.{Mark}
-use Rattle.tokens.specs.declared.token.Token.{Token as Cut}
+use Rattle.scanning.specs.ScanAnswers.{Skips, Peeked}
+use Rattle.token.specs.TokenAnswers.{indicatorNumber, openCode, beginCode, shapeCode, codeOf, openMark, beginMark, markOf, openNumber, beginNumber, numberOf, BeginsAs, Written, Shown, Says, Took, Refused, TokenMade}
+use Rattle.numbers.specs.NumberAnswers.{Indicated}
+use Rattle.cbor.specs.Flags.{signOf}
+use Rattle.words.specs.WordAnswers.{frontClass, Stood}
+use Rattle.tokens.specs.CutAnswers.{quoteKind, quoteByte, QuotedAt, Opens, Paired}
+use Rattle.numbers.specs.declared.indicator.Mark.{Mark}
+use Rattle.token.specs.declared.Token.{Token as Cut}
 use Rattle.notation.proofs.Good.{Below}
 use Rattle.notation.proofs.Locality.{cut-below}
 use Rattle.notation.proofs.ScanningElements.{class-is}
-use Rattle.tokens.proofs.Marked.{front, length-marked, byte-at, stands-at}
-use Rattle.tokens.proofs.ScanCode.{expect-yes, expect-no}
-use Rattle.tokens.proofs.IndicatorCode.{width-some}
-use Rattle.tokens.proofs.NumberCode.{says-as, says-refuse, says-made}
+use Rattle.scanning.proofs.Marked.{front, length-marked, byte-at, stands-at}
+use Rattle.scanning.proofs.ScanCode.{expect-yes, expect-no}
+use Rattle.numbers.proofs.IndicatorCode.{width-some}
+use Rattle.numbers.proofs.NumberCode.{says-as, says-refuse, says-made}
 
 -- `[` AND `{`
-opening-known : (o : Indicator → Opener) (i : Indicator) (r : List ℕ) → (indicatorNumber i ≡ 2 → ⊥) → opening o i r ≡ ok (begins (opens (o i))) r
-unfolding opening indicatorNumber
+opening-known : (o : Indicator → Opener) (i : Indicator) (r : List ℕ) → (indicatorNumber i ≡ 2 → ⊥) → openingToken o i r ≡ ok (begins (opens (o i))) r
+unfolding openingToken indicatorNumber
 opening-known o absent r n = refl
 opening-known o indefinitely r n = refl
 opening-known o unknown r n = absurd (n refl)
 opening-known o (wide w) r n = refl
 
-opening-unknown : (o : Indicator → Opener) (i : Indicator) (r : List ℕ) → indicatorNumber i ≡ 2 → opening o i r ≡ fault badIndicator
-unfolding opening indicatorNumber
+opening-unknown : (o : Indicator → Opener) (i : Indicator) (r : List ℕ) → indicatorNumber i ≡ 2 → openingToken o i r ≡ fault badIndicator
+unfolding openingToken indicatorNumber
 opening-unknown o absent r e = absurd (omega arith)
 opening-unknown o indefinitely r e = absurd (omega arith)
 opening-unknown o unknown r e = refl
@@ -60,7 +60,7 @@ module _ {s : List ℕ} {place code : ℕ} {m : Mark} {t : Cut} (x : Indicated s
         curly = λ c. says-as (rw (x .is) (opening-unknown brace (x .ind) (drop (m .next) (marked s)) n)) (says-refuse 0 r);
       }
 
-  pub opens-good : (m .mark ≡ 2 → ⊥) → Made code (m .mark) 0 place (m .next) t → Opens s place code t
+  pub opens-good : (m .mark ≡ 2 → ⊥) → TokenMade code (m .mark) 0 place (m .next) t → Opens s place code t
   unfolding bind codeOf beginCode openCode markOf beginMark openMark numberOf beginNumber openNumber Written BeginsAs
   opens-good n h =
       let k : indicatorNumber (x .ind) ≡ 2 → ⊥ = λ z. n (x .mark ∙ z) in
@@ -72,7 +72,7 @@ module _ {s : List ℕ} {place code : ℕ} {m : Mark} {t : Cut} (x : Indicated s
 -- SIGNS OF MORE BYTES
 module _ {s : List ℕ} {place : ℕ} {t : Cut} where
   module _ {c : ℕ} {b : Bool} (p : Peeked s (place + 1) c b) where
-    pub pair-yes : {code : ℕ} → b ≡ true → Made code 0 0 place (place + 2) t → Paired s place c code t
+    pub pair-yes : {code : ℕ} → b ≡ true → TokenMade code 0 0 place (place + 2) t → Paired s place c code t
     unfolding bind
     pair-yes e m =
         let n : place + 1 + 1 ≡ place + 2 = omega arith in
@@ -87,7 +87,7 @@ module _ {s : List ℕ} {place : ℕ} {t : Cut} where
     pair-no e r = record { is = λ tok ec em en w. says-as (rw (expect-no p noToken e)) (says-refuse 0 r) }
 
   module _ {b : Bool} (p : Peeked s (place + 1) 0x3e b) where
-    pub close-yes : {m : Mark} → b ≡ true → Indicated s (place + 2) m → Made 20 (m .mark) 0 place (m .next) t → Says s place t (cutBy greater 0 (drop (place + 1) (marked s)))
+    pub close-yes : {m : Mark} → b ≡ true → Indicated s (place + 2) m → TokenMade 20 (m .mark) 0 place (m .next) t → Says s place t (cutBy greater 0 (drop (place + 1) (marked s)))
     unfolding bind cutBy codeOf shapeCode markOf numberOf Written
     close-yes {m} e x h =
         let n : place + 1 + 1 ≡ place + 2 = omega arith in
@@ -160,7 +160,7 @@ cut-at {s} {at} {k} st c e =
     let q : classNumber c ≡ classNumber (classOf b) = sym e ∙ (st .is ∙ rw f) in
     rw f (ap (λ (k : Class). cutBy k b (drop (at + 1) (marked s))) (class-is c b (eq-eqb (classNumber c) (classNumber (classOf b)) q)))
 
-plain : {s : List ℕ} {at c : ℕ} {t : Cut} → Made c 0 0 at (at + 1) t → (tok : Token) → c ≡ codeOf tok → 0 ≡ markOf tok → 0 ≡ numberOf tok → Written s t tok → at < length (marked s)
+plain : {s : List ℕ} {at c : ℕ} {t : Cut} → TokenMade c 0 0 at (at + 1) t → (tok : Token) → c ≡ codeOf tok → 0 ≡ markOf tok → 0 ≡ numberOf tok → Written s t tok → at < length (marked s)
     → Says s at t (ok tok (drop (at + 1) (marked s)))
 unfolding Shown
 plain m tok ec em en w h =
@@ -266,12 +266,12 @@ module _ {s : List ℕ} {at k : ℕ} {t : Cut} (st : Stood s at k) where
   unfolding cutBy classNumber
   cut-greater e h = says-as (cut-at st greater e) h
 
-  pub cut-quote : k ≡ 7 → Says s at t (quoted (kindOf 0) (quoteOf 0) (drop (at + 1) (marked s))) → Says s at t (cut (drop at (marked s)))
-  unfolding cutBy classNumber kindOf quoteOf
+  pub cut-quote : k ≡ 7 → Says s at t (quoted (quoteKind 0) (quoteByte 0) (drop (at + 1) (marked s))) → Says s at t (cut (drop at (marked s)))
+  unfolding cutBy classNumber quoteKind quoteByte
   cut-quote e h = says-as (cut-at st quote e) h
 
-  pub cut-apostrophe : k ≡ 8 → Says s at t (quoted (kindOf 1) (quoteOf 1) (drop (at + 1) (marked s))) → Says s at t (cut (drop at (marked s)))
-  unfolding cutBy classNumber kindOf quoteOf
+  pub cut-apostrophe : k ≡ 8 → Says s at t (quoted (quoteKind 1) (quoteByte 1) (drop (at + 1) (marked s))) → Says s at t (cut (drop at (marked s)))
+  unfolding cutBy classNumber quoteKind quoteByte
   cut-apostrophe e h = says-as (cut-at st apostrophe e) h
 
   pub cut-bracket : k ≡ 15 → Opens s at 15 t → Says s at t (cut (drop at (marked s)))
@@ -290,27 +290,27 @@ module _ {s : List ℕ} {at k : ℕ} {t : Cut} (st : Stood s at k) where
   unfolding cutBy classNumber codeOf beginCode openCode markOf beginMark openMark numberOf beginNumber openNumber Written BeginsAs
   cut-embedding e h = says-as (cut-at st less e) (h .is (begins (opens embedding)) refl refl refl tt)
 
-  pub cut-comma : k ≡ 11 → Made 11 0 0 at (at + 1) t → Says s at t (cut (drop at (marked s)))
+  pub cut-comma : k ≡ 11 → TokenMade 11 0 0 at (at + 1) t → Says s at t (cut (drop at (marked s)))
   unfolding cutBy classNumber codeOf shapeCode markOf indicatorNumber numberOf Written
   cut-comma e h = says-as (cut-at st comma e) (plain h aComma refl refl refl tt (stood-some st comma e))
 
-  pub cut-colon : k ≡ 12 → Made 12 0 0 at (at + 1) t → Says s at t (cut (drop at (marked s)))
+  pub cut-colon : k ≡ 12 → TokenMade 12 0 0 at (at + 1) t → Says s at t (cut (drop at (marked s)))
   unfolding cutBy classNumber codeOf shapeCode markOf indicatorNumber numberOf Written
   cut-colon e h = says-as (cut-at st colon e) (plain h aColon refl refl refl tt (stood-some st colon e))
 
-  pub cut-round : k ≡ 14 → Made 14 0 0 at (at + 1) t → Says s at t (cut (drop at (marked s)))
+  pub cut-round : k ≡ 14 → TokenMade 14 0 0 at (at + 1) t → Says s at t (cut (drop at (marked s)))
   unfolding cutBy classNumber codeOf shapeCode markOf indicatorNumber numberOf Written
   cut-round e h = says-as (cut-at st closeParen e) (plain h (closes round absent) refl refl refl tt (stood-some st closeParen e))
 
-  pub cut-square : k ≡ 16 → Made 16 0 0 at (at + 1) t → Says s at t (cut (drop at (marked s)))
+  pub cut-square : k ≡ 16 → TokenMade 16 0 0 at (at + 1) t → Says s at t (cut (drop at (marked s)))
   unfolding cutBy classNumber codeOf shapeCode markOf indicatorNumber numberOf Written
   cut-square e h = says-as (cut-at st closeBracket e) (plain h (closes square absent) refl refl refl tt (stood-some st closeBracket e))
 
-  pub cut-curly : k ≡ 18 → Made 18 0 0 at (at + 1) t → Says s at t (cut (drop at (marked s)))
+  pub cut-curly : k ≡ 18 → TokenMade 18 0 0 at (at + 1) t → Says s at t (cut (drop at (marked s)))
   unfolding cutBy classNumber codeOf shapeCode markOf indicatorNumber numberOf Written
   cut-curly e h = says-as (cut-at st closeBrace e) (plain h (closes curly absent) refl refl refl tt (stood-some st closeBrace e))
 
-  pub cut-end : k ≡ 21 → Made 21 0 0 at (at + 1) t → Says s at t (cut (drop at (marked s)))
+  pub cut-end : k ≡ 21 → TokenMade 21 0 0 at (at + 1) t → Says s at t (cut (drop at (marked s)))
   unfolding cutBy classNumber codeOf shapeCode markOf indicatorNumber numberOf Written
   cut-end e h = says-as (cut-at st endMark e) (plain h (closes whole absent) refl refl refl tt (stood-some st endMark e))
 

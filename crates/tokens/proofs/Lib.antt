@@ -1,15 +1,2 @@
-pub mod ClassCode
-pub mod Marked
-pub mod ScanCode
-pub mod AmountCode
-pub mod IndicatorCode
-pub mod NumberCode
-pub mod WordCode
-pub mod LiteralCode
-pub mod HexCode
-pub mod QuotedCode
-pub mod QuotedLoops
-pub mod Base64Code
-pub mod LiteralViews
-pub mod StringCode
 pub mod CutCode
+pub mod StringCode

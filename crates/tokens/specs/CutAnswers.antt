@@ -5,28 +5,28 @@ use mathlib.Core.Bool.{Bool, true, false}
 use mathlib.Core.List.{List, [], _∷_}
 use lib.Dec.{eqb}
 use lib.ListN.{length, drop}
-use Rattle.cbor.specs.Refusals.{Result, ok, refuse, bind, noToken}
+use Rattle.cbor.specs.Refusals.{ok, bind, noToken}
 use Rattle.cbor.specs.Items.{Kind, byteString, textString}
 use Rattle.notation.specs.Scanning.{expect}
 use Rattle.notation.specs.Indicators.{Indicator, indicator}
 use Rattle.notation.specs.Literals.{Content, hexContent, base64Content, literalToken, quotedToken}
 use Rattle.notation.specs.Tokens.{bracket, brace, Token}
-use Rattle.notation.specs.Cutting.{opening}
+use Rattle.notation.specs.Cutting.{openingToken}
 use Rattle.notation.specs.Reading.{marked}
-use Rattle.tokens.specs.TokenAnswers.{indicatorNumber, kindCode, codeOf, markOf, numberOf, Written, Spelled, Says}
-use Rattle.tokens.specs.NumberAnswers.{Indicated}
-use Rattle.tokens.specs.declared.indicator.Mark.{Mark}
-use Rattle.tokens.specs.declared.token.Token.{Token as Cut}
+use Rattle.token.specs.TokenAnswers.{indicatorNumber, codeOf, markOf, numberOf, Written, Spelled, Says}
+use Rattle.numbers.specs.NumberAnswers.{Indicated}
+use Rattle.numbers.specs.declared.indicator.Mark.{Mark}
+use Rattle.token.specs.declared.Token.{Token as Cut}
 
 -- STRINGS, by their form
-unfoldable pub kindOf : ℕ → Kind
-kindOf form = elim (eqb form 0) [ true ↦ textString | false ↦ byteString ]
+unfoldable pub quoteKind : ℕ → Kind
+quoteKind form = elim (eqb form 0) [ true ↦ textString | false ↦ byteString ]
 
-unfoldable pub quoteOf : ℕ → ℕ
-quoteOf form = elim (eqb form 0) [ true ↦ 0x22 | false ↦ 0x27 ]
+unfoldable pub quoteByte : ℕ → ℕ
+quoteByte form = elim (eqb form 0) [ true ↦ 0x22 | false ↦ 0x27 ]
 
-unfoldable pub contentOf : ℕ → List ℕ → Content
-contentOf form l = elim (eqb form 2) [ true ↦ hexContent l | false ↦ base64Content l ]
+unfoldable pub literalContent : ℕ → List ℕ → Content
+literalContent form l = elim (eqb form 2) [ true ↦ hexContent l | false ↦ base64Content l ]
 
 -- where a literal of a form may stand
 pub record QuotedAt (s : List ℕ) (place form : ℕ) : Type 0 where
@@ -43,16 +43,16 @@ pub record Spells (s : List ℕ) (form start stop next : ℕ) (b : List ℕ) : T
   pub inside : next ≤ length s
 
 pub record Literally (form mark size start stop place next : ℕ) (t : Cut) : Type 0 where
-  pub is : (s b : List ℕ) (i : Indicator) → size ≡ length b → mark ≡ indicatorNumber i → Spells s form start stop next b → Says s place t (literalToken (kindOf form) b i (drop next (marked s)))
+  pub is : (s b : List ℕ) (i : Indicator) → size ≡ length b → mark ≡ indicatorNumber i → Spells s form start stop next b → Says s place t (literalToken (quoteKind form) b i (drop next (marked s)))
 
 pub record Quotedly (form size start place : ℕ) (m : Mark) (t : Cut) : Type 0 where
-  pub is : (s b : List ℕ) (at : ℕ) → size ≡ length b → (x : Indicated s at m) → Spells s form start 0 (m .next) b → Says s place t (quotedToken (kindOf form) b (x .ind) (drop (m .next) (marked s)))
+  pub is : (s b : List ℕ) (at : ℕ) → size ≡ length b → (x : Indicated s at m) → Spells s form start 0 (m .next) b → Says s place t (quotedToken (quoteKind form) b (x .ind) (drop (m .next) (marked s)))
 
 -- SIGNS
 -- `[` or `{`, by its code, and an indicator
 pub record Opens (s : List ℕ) (place code : ℕ) (t : Cut) : Type 0 where
-  pub square : code ≡ 15 → Says s place t (bind (indicator (drop (place + 1) (marked s))) (opening bracket))
-  pub curly : code ≡ 17 → Says s place t (bind (indicator (drop (place + 1) (marked s))) (opening brace))
+  pub square : code ≡ 15 → Says s place t (bind (indicator (drop (place + 1) (marked s))) (openingToken bracket))
+  pub curly : code ≡ 17 → Says s place t (bind (indicator (drop (place + 1) (marked s))) (openingToken brace))
 
 -- a token of two bytes, of which c is the second
 pub record Paired (s : List ℕ) (place c code : ℕ) (t : Cut) : Type 0 where

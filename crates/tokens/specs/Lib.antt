@@ -1,9 +1,1 @@
-pub mod Stands
-pub mod ScanAnswers
-pub mod TokenAnswers
-pub mod NumberAnswers
-pub mod WordAnswers
-pub mod LiteralAnswers
-pub mod QuotedAnswers
-pub mod Base64Answers
 pub mod CutAnswers

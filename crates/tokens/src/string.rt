@@ -1,32 +1,32 @@
 // String literals as tokens. Their forms: 0 "..", 1 '..', 2 h'..', 3 b64'..'.
-use crate::base64::scan_base64;
-use crate::hex::scan_hex;
-use crate::indicator::Mark;
-use crate::indicator::choose;
-use crate::indicator::indicator_at;
-use crate::literal::Scanned;
-use crate::literal::scan_body;
-use crate::quoted::scan_quoted;
-use crate::scan::Cursor;
-use crate::scan::next_is;
-use crate::token::Token;
-use crate::token::refuse;
-use crate::word::prefix_word;
-use crate::word::worded;
+use base64::scan_base64;
+use hex::scan_hex;
+use literal_body::LiteralScan;
+use literal_body::scan_body;
+use numbers::indicator::Mark;
+use numbers::indicator::choose;
+use numbers::indicator::indicator_at;
+use quoted::scan_quoted;
+use scanning::scan::TextCursor;
+use scanning::scan::next_is;
+use token::Token;
+use token::refuse;
+use words::prefix_word;
+use words::worded;
 ghost use mathlib.Core.Path.{_≡_};
 ghost use Prim.Native.Nat.{_+_, _-_, _≤_, _<_};
 ghost use lib.ListN.{length, take, drop, getD};
 ghost use Rattle.notation.specs.Literals.{quoted, encodedLiteral};
 ghost use Rattle.notation.specs.Words.{prefixed, word};
 ghost use Rattle.notation.specs.Reading.{marked};
-ghost use Rattle.tokens.specs.Stands.{span};
-ghost use Rattle.tokens.specs.LiteralAnswers.{Decodes};
-ghost use Rattle.tokens.specs.TokenAnswers.{Says, kindCode};
-ghost use Rattle.tokens.specs.WordAnswers.{Enclosed};
-ghost use Rattle.tokens.specs.CutAnswers.{kindOf, quoteOf, contentOf, QuotedAt, EncodedAt, Literally, Quotedly};
+ghost use Rattle.scanning.specs.Stands.{span};
+ghost use Rattle.literal_body.specs.LiteralAnswers.{Decodes};
+ghost use Rattle.token.specs.TokenAnswers.{Says, kindCode};
+ghost use Rattle.words.specs.WordAnswers.{Enclosed};
+ghost use Rattle.tokens.specs.CutAnswers.{quoteKind, quoteByte, literalContent, QuotedAt, EncodedAt, Literally, Quotedly};
 
 fn code_of(form: u8) -> u8
-    ensures { λ r. ⌜ r ≡ kindCode (kindOf form) ⌝ }
+    ensures { λ r. ⌜ r ≡ kindCode (quoteKind form) ⌝ }
 {
     if form == 0 {
         return 4;
@@ -35,7 +35,7 @@ fn code_of(form: u8) -> u8
 }
 
 fn quote_of(form: u8) -> u8
-    ensures { λ r. ⌜ r ≡ quoteOf form ⌝ }
+    ensures { λ r. ⌜ r ≡ quoteByte form ⌝ }
 {
     if form == 0 {
         return 0x22;
@@ -97,7 +97,7 @@ fn quoted_token(form: u8, size: usize, start: usize, place: usize, m: Mark) -> T
 
 pub fn quoted(text: &[u8], place: usize, form: u8) -> Token
     requires { ⌜ QuotedAt (now text) place form ⌝ }
-    ensures { λ r. ⌜ Says (now (text .entry)) place r (quoted (kindOf form) (quoteOf form) (drop (place + 1) (marked (now (text .entry))))) ⌝ }
+    ensures { λ r. ⌜ Says (now (text .entry)) place r (quoted (quoteKind form) (quoteByte form) (drop (place + 1) (marked (now (text .entry))))) ⌝ }
 {
     let at = place + 1;
     let q = scan_quoted(text, at, quote_of(form));
@@ -109,8 +109,8 @@ pub fn quoted(text: &[u8], place: usize, form: u8) -> Token
     refuse(3, place)
 }
 
-fn scan_encoded(text: &[u8], at: usize, end: usize, form: u8) -> Scanned
-    ensures { λ r. ⌜ Decodes r (contentOf form (take (end - at) (drop at (now (text .entry))))) ⌝ }
+fn scan_encoded(text: &[u8], at: usize, end: usize, form: u8) -> LiteralScan
+    ensures { λ r. ⌜ Decodes r (literalContent form (take (end - at) (drop at (now (text .entry))))) ⌝ }
 {
     if form == 2 {
         return scan_hex(text, at, end);
@@ -121,7 +121,7 @@ fn scan_encoded(text: &[u8], at: usize, end: usize, form: u8) -> Scanned
 // Behind `h'` or `b64'`: 3, then 8, then 9.
 fn encoded(text: &[u8], place: usize, at: usize, form: u8) -> Token
     requires { ⌜ EncodedAt (now text) at form ⌝ }
-    ensures { λ r. ⌜ Says (now (text .entry)) place r (encodedLiteral (contentOf form) (drop at (marked (now (text .entry))))) ⌝ }
+    ensures { λ r. ⌜ Says (now (text .entry)) place r (encodedLiteral (literalContent form) (drop at (marked (now (text .entry))))) ⌝ }
 {
     let raw = scan_body(text, at);
     let good = raw.good;
@@ -155,7 +155,7 @@ pub fn word(text: &[u8], place: usize) -> Token
     requires { ⌜ place < length (now text) ⌝ }
     ensures { λ r. ⌜ Says (now (text .entry)) place r (word (getD (now (text .entry)) place 0) (drop (place + 1) (marked (now (text .entry))))) ⌝ }
 {
-    let end = Cursor { at: place + 1 }.word(text);
+    let end = TextCursor { at: place + 1 }.word(text);
     let next = end.at;
     if next_is(text, next, 0x27) {
         return prefixed(text, place, next);

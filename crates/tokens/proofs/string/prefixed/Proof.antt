@@ -4,7 +4,7 @@ use borrow.Author.Needs.{needs}
 use Rattle.tokens.proofs.string.prefixed.Statement.{statement}
 use Rattle.tokens.proofs.string.prefixed.Tie as tie
 use Rattle.tokens.proofs.StringCode.{prefix-encoded, prefixed-refused, prefixed-encoded}
-use Rattle.tokens.proofs.WordCode.{enclosed-part}
+use Rattle.words.proofs.WordCode.{enclosed-part}
 
 pub prefixed-spec : {M : Type 1} → statement M
 prefixed-spec =

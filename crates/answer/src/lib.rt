@@ -1,0 +1,30 @@
+// What an operation answers that writes into a lent buffer.
+use refusal::Refusal;
+use refusal::RefusalKind;
+ghost use mathlib.Core.Path.{_≡_};
+ghost use Prim.Native.Nat.{min};
+ghost use lib.Dec.{leb};
+ghost use Rattle.cbor.specs.Decode.{mostBytes};
+ghost use Rattle.answer.specs.Outcomes.{Refuses};
+
+// The result stands at the front of the buffer and has this many bytes; or the buffer is as it was.
+pub enum Answer {
+    Written(usize),
+    Refused(Refusal),
+}
+
+pub fn refuse(kind: RefusalKind, place: usize) -> Answer
+    ensures { λ r. ⌜ Refuses kind place r ⌝ }
+{
+    Answer::Refused(Refusal { kind, place })
+}
+
+// Whether a result of some bytes has room in a buffer of some bytes.
+pub fn fits(size: usize, room: usize) -> bool
+    ensures { λ r. ⌜ r ≡ leb size (min room mostBytes) ⌝ }
+{
+    if 65535 < size {
+        return false;
+    }
+    size <= room
+}

@@ -1,0 +1,618 @@
+-- Base64 text: a letter, a group of letters, and the loops that count and write what they stand for.
+-- Assumes nothing.
+use mathlib.Core.Path.{_≡_, refl, sym, ap, _∙_, subst⁻¹}
+use mathlib.Core.List.{List, [], _∷_, _++_, append-assoc, append-nil}
+use mathlib.Core.Bool.{Bool, true, false, _&&_, _||_}
+use Prim.Native.Nat.{ℕ, zero, suc, _+_, _-_, _*_, _/_, _%_, _≤_, _<_, min}
+use native.Mathlib.Omega.{arith}
+use lib.Dec.{T, leb, eqb, eqb→eq, leb→le}
+use lib.ListN.{length, take, drop, getD, replicate, length-append}
+use borrow.Author.Tests.{le-leb, lt-leb, leb-true, leb-false, eq-eqb, ne-eqb, lt-ltb, le-ltb}
+use Rattle.cbor.specs.Utf8.{isIn}
+use Rattle.memory.specs.Buffer.{over}
+use Rattle.cbor.proofs.Table.{every, between, byte}
+use Rattle.cbor.proofs.Utf8Laws.{both-true}
+use Rattle.notation.specs.Classes.{blank, is}
+use Rattle.notation.specs.Literals.{Content, standsFor, bad, after, sextet, sextets, lastTwo, lastThree, lastFour, fullFour, base64From, base64Content}
+use Rattle.literal_body.specs.LiteralAnswers.{decodedBy, Decodes, Put, Fills}
+use Rattle.base64.specs.Base64Answers.{sign, lettered, Letter, waits, waitingOf, Pushed, allSextets, firstByte, secondOf, thirdOf, base64Bytes, flowing, Steps, fullSize, lastTwoSize, lastThreeSize, lastFourSize, Last}
+use Rattle.base64.specs.declared.Group.{Group}
+use Rattle.literal_body.proofs.LiteralCode.{take-none, front-part, part-end, put-none, put-more, after-nil, after-after, decodes, content-is}
+
+-- LETTERS
+
+signBy : Bool → Bool → Bool → Bool → Bool → ℕ
+signBy p m s u e = elim (p || m) [ true ↦ 62 | false ↦ elim (s || u) [ true ↦ 63 | false ↦ elim e [ true ↦ 64 | false ↦ 65 ] ] ]
+
+module _ {b : ℕ} where
+  pub sign-plus : b ≡ 0x2b → 62 ≡ sign b
+  unfolding sign
+  sign-plus e = rw e
+
+  pub sign-minus : b ≡ 0x2d → 62 ≡ sign b
+  unfolding sign
+  sign-minus e = rw e
+
+  pub sign-slash : b ≡ 0x2f → 63 ≡ sign b
+  unfolding sign
+  sign-slash e = rw e
+
+  pub sign-underscore : b ≡ 0x5f → 63 ≡ sign b
+  unfolding sign
+  sign-underscore e = rw e
+
+  pub sign-equals : b ≡ 0x3d → 64 ≡ sign b
+  unfolding sign
+  sign-equals e = rw e
+
+  pub sign-none : (b ≡ 0x2b → ⊥) → (b ≡ 0x2d → ⊥) → (b ≡ 0x2f → ⊥) → (b ≡ 0x5f → ⊥) → (b ≡ 0x3d → ⊥) → 65 ≡ sign b
+  unfolding sign signBy
+  sign-none n₁ n₂ n₃ n₄ n₅ = sym (λ j. signBy (ne-eqb b 0x2b n₁ j) (ne-eqb b 0x2d n₂ j) (ne-eqb b 0x2f n₃ j) (ne-eqb b 0x5f n₄ j) (ne-eqb b 0x3d n₅ j))
+
+pub ruleset sign-ways = (sign-plus, sign-minus, sign-slash, sign-underscore, sign-equals, sign-none)
+
+-- between two bounds
+a-sign : {b r : ℕ} (lo hi : ℕ) → lo ≤ b → b < hi → T (every (λ k x. eqb (sign k) (sextet k)) lo (replicate (hi - lo) 0)) → r ≡ sign b → r ≡ sextet b
+a-sign {b} lo hi p q t e = e ∙ eqb→eq (sign b) (sextet b) (between (λ k. eqb (sign k) (sextet k)) lo hi t b p q)
+
+module _ {b : ℕ} where
+  pub sextet-below : {r : ℕ} → b < 0x30 → r ≡ sign b → r ≡ sextet b
+  unfolding sign sextet isIn
+  sextet-below h e = a-sign 0 0x30 (omega arith) h tt e
+
+  pub sextet-digit : 0x30 ≤ b → b < 0x3a → b + 4 ≡ sextet b
+  unfolding sextet isIn
+  sextet-digit l h = eqb→eq (b + 4) (sextet b) (between (λ k. eqb (k + 4) (sextet k)) 0x30 0x3a tt b l h)
+
+  pub sextet-between : {r : ℕ} → 0x3a ≤ b → b < 0x41 → r ≡ sign b → r ≡ sextet b
+  unfolding sign sextet isIn
+  sextet-between l h e = a-sign 0x3a 0x41 l h tt e
+
+  pub sextet-upper : 0x41 ≤ b → b < 0x5b → b - 0x41 ≡ sextet b
+  unfolding sextet isIn
+  sextet-upper l h = eqb→eq (b - 0x41) (sextet b) (between (λ k. eqb (k - 0x41) (sextet k)) 0x41 0x5b tt b l h)
+
+  pub sextet-beyond : {r : ℕ} → 0x5b ≤ b → b < 0x61 → r ≡ sign b → r ≡ sextet b
+  unfolding sign sextet isIn
+  sextet-beyond l h e = a-sign 0x5b 0x61 l h tt e
+
+  pub sextet-lower : 0x61 ≤ b → b < 0x7b → b - 0x47 ≡ sextet b
+  unfolding sextet isIn
+  sextet-lower l h = eqb→eq (b - 0x47) (sextet b) (between (λ k. eqb (k - 0x47) (sextet k)) 0x61 0x7b tt b l h)
+
+  pub sextet-above : {r : ℕ} → 0x7b ≤ b → b < 256 → r ≡ sign b → r ≡ sextet b
+  unfolding sign sextet isIn
+  sextet-above l h e = a-sign 0x7b 256 l h tt e
+
+pub ruleset sextet-ways = (sextet-below, sextet-digit, sextet-between, sextet-upper, sextet-beyond, sextet-lower, sextet-above)
+
+sextet-most : (b : ℕ) → b < 256 → sextet b ≤ 65
+unfolding sextet isIn
+sextet-most b h = leb→le (sextet b) 65 (byte (λ k. leb (sextet k) 65) tt b h)
+
+module _ (b : ℕ) {t : Bool} (x : t ≡ is blank b) where
+  pub letter-blank : t ≡ true → Letter b 66
+  unfolding sextets lettered
+  letter-blank e = record { is = λ s. rw (sym x ∙ e, sextets) }
+
+  pub letter-other : {v : ℕ} → b < 256 → t ≡ false → v ≡ sextet b → Letter b v
+  unfolding sextets lettered
+  letter-other {v} u e d =
+      let n : v ≡ 66 → ⊥ = omega (arith, sextet-most b u) in
+      record { is = λ s. (rw (sym x ∙ e, sextets)) ∙ ap (λ (k : ℕ). k ∷ sextets s) (sym d) ∙ sym (rw (ne-eqb v 66 n, lettered)) }
+
+pub ruleset letter-ways = (letter-blank, letter-other)
+
+lettered-on : (x : ℕ) (s : List ℕ) → (x ≡ 66 → ⊥) → lettered x s ≡ x ∷ s
+unfolding lettered
+lettered-on x s n = rw (ne-eqb x 66 n, lettered)
+
+-- GROUPS
+
+counted : (g : Group) (n : ℕ) → g .count ≡ n → waitingOf g ≡ waits n (g .a) (g .b) (g .c) (g .d)
+unfolding waitingOf
+counted g n e = ap (λ (k : ℕ). waits k (g .a) (g .b) (g .c) (g .d)) e
+
+module _ (g : Group) (x : ℕ) where
+  pub push-first : {r : Group} → g .count ≡ 0 → r ≡ record { count = 1; a = x; b = 0; c = 0; d = 0; flows = 0 } → Pushed g x r
+  unfolding waitingOf waits
+  push-first e p =
+      subst⁻¹ (Pushed g x) p (record { is = λ h. sym (ap (λ (u : List ℕ). u ++ (x ∷ [])) (counted g 0 e)); count = λ h. omega arith; flows = refl })
+
+  pub push-second : {r : Group} → g .count ≡ 1 → r ≡ record { count = 2; a = g .a; b = x; c = 0; d = 0; flows = 0 } → Pushed g x r
+  unfolding waitingOf waits
+  push-second e p =
+      subst⁻¹ (Pushed g x) p (record { is = λ h. sym (ap (λ (u : List ℕ). u ++ (x ∷ [])) (counted g 1 e)); count = λ h. omega arith; flows = refl })
+
+  pub push-third : {r : Group} → g .count ≡ 2 → r ≡ record { count = 3; a = g .a; b = g .b; c = x; d = 0; flows = 0 } → Pushed g x r
+  unfolding waitingOf waits
+  push-third e p =
+      subst⁻¹ (Pushed g x) p (record { is = λ h. sym (ap (λ (u : List ℕ). u ++ (x ∷ [])) (counted g 2 e)); count = λ h. omega arith; flows = refl })
+
+  pub push-fourth : {r : Group} → (g .count ≡ 0 → ⊥) → (g .count ≡ 1 → ⊥) → (g .count ≡ 2 → ⊥)
+      → r ≡ record { count = 4; a = g .a; b = g .b; c = g .c; d = x; flows = 0 } → Pushed g x r
+  unfolding waitingOf waits
+  push-fourth n₀ n₁ n₂ p =
+      subst⁻¹ (Pushed g x) p
+      (record {
+        is = λ h. let e : g .count ≡ 3 = omega arith in sym (ap (λ (u : List ℕ). u ++ (x ∷ [])) (counted g 3 e));
+        count = λ h. omega arith;
+        flows = refl;
+      })
+
+pub ruleset push-ways = (push-first, push-second, push-third, push-fourth)
+
+module _ (g : Group) where
+  pub all-a : 63 < g .a → false ≡ allSextets g
+  unfolding allSextets
+  all-a h = sym (simp (allSextets, lt-leb (g .a) 63 h))
+
+  module _ (ha : g .a ≤ 63) where
+    pub all-b : 63 < g .b → false ≡ allSextets g
+    unfolding allSextets
+    all-b h = sym (simp (allSextets, le-leb (g .a) 63 ha, lt-leb (g .b) 63 h))
+
+    module _ (hb : g .b ≤ 63) where
+      pub all-c : 63 < g .c → false ≡ allSextets g
+      unfolding allSextets
+      all-c h = sym (simp (allSextets, le-leb (g .a) 63 ha, le-leb (g .b) 63 hb, lt-leb (g .c) 63 h))
+
+      pub all-d : g .c ≤ 63 → leb (g .d) 63 ≡ allSextets g
+      unfolding allSextets
+      all-d h = sym (simp (allSextets, le-leb (g .a) 63 ha, le-leb (g .b) 63 hb, le-leb (g .c) 63 h))
+
+  pub full-three : {t : Bool} → t ≡ allSextets g → t ≡ true → 3 ≡ fullSize g
+  unfolding fullSize
+  full-three x e = sym (rw (sym x ∙ e, fullSize))
+
+  pub full-four : {t : Bool} → t ≡ allSextets g → t ≡ false → 4 ≡ fullSize g
+  unfolding fullSize
+  full-four x e = sym (rw (sym x ∙ e, fullSize))
+
+  pub first-is : g .a % 64 * 4 + g .b % 64 / 16 ≡ firstByte g
+  unfolding firstByte
+  first-is = refl
+
+  pub second-is : g .b % 16 * 16 + g .c % 64 / 4 ≡ secondOf g
+  unfolding secondOf
+  second-is = refl
+
+  pub third-is : g .c % 4 * 64 + g .d % 64 ≡ thirdOf g
+  unfolding thirdOf
+  third-is = refl
+
+pub ruleset all-ways = (all-a, all-b, all-c, all-d)
+
+pub ruleset full-ways = (full-three, full-four)
+
+-- SIZES AT THE END
+
+module _ (a b : ℕ) where
+  pub two-a : 63 < a → 4 ≡ lastTwoSize a b
+  unfolding lastTwoSize
+  two-a h = sym (simp (lastTwoSize, lt-leb a 63 h))
+
+  pub three-a : (c : ℕ) → 63 < a → 4 ≡ lastThreeSize a b c
+  unfolding lastThreeSize
+  three-a c h = sym (simp (lastThreeSize, lt-leb a 63 h))
+
+  module _ (ha : a ≤ 63) where
+    pub two-b : 63 < b → 4 ≡ lastTwoSize a b
+    unfolding lastTwoSize
+    two-b h = sym (simp (lastTwoSize, le-leb a 63 ha, lt-leb b 63 h))
+
+    pub three-b : (c : ℕ) → 63 < b → 4 ≡ lastThreeSize a b c
+    unfolding lastThreeSize
+    three-b c h = sym (simp (lastThreeSize, le-leb a 63 ha, lt-leb b 63 h))
+
+    module _ (hb : b ≤ 63) where
+      pub two-good : b % 16 ≡ 0 → 1 ≡ lastTwoSize a b
+      unfolding lastTwoSize
+      two-good e = sym (simp (lastTwoSize, le-leb a 63 ha, le-leb b 63 hb, eq-eqb (b % 16) 0 e))
+
+      pub two-bits : (b % 16 ≡ 0 → ⊥) → 4 ≡ lastTwoSize a b
+      unfolding lastTwoSize
+      two-bits n = sym (simp (lastTwoSize, le-leb a 63 ha, le-leb b 63 hb, ne-eqb (b % 16) 0 n))
+
+      module _ (c : ℕ) where
+        pub three-c : 63 < c → 4 ≡ lastThreeSize a b c
+        unfolding lastThreeSize
+        three-c h = sym (simp (lastThreeSize, le-leb a 63 ha, le-leb b 63 hb, lt-leb c 63 h))
+
+        pub three-good : c ≤ 63 → c % 4 ≡ 0 → 2 ≡ lastThreeSize a b c
+        unfolding lastThreeSize
+        three-good h e = sym (simp (lastThreeSize, le-leb a 63 ha, le-leb b 63 hb, le-leb c 63 h, eq-eqb (c % 4) 0 e))
+
+        pub three-bits : c ≤ 63 → (c % 4 ≡ 0 → ⊥) → 4 ≡ lastThreeSize a b c
+        unfolding lastThreeSize
+        three-bits h n = sym (simp (lastThreeSize, le-leb a 63 ha, le-leb b 63 hb, le-leb c 63 h, ne-eqb (c % 4) 0 n))
+
+pub ruleset two-ways = (two-a, two-b, two-good, two-bits)
+
+pub ruleset three-ways = (three-a, three-b, three-c, three-good, three-bits)
+
+module _ (g : Group) where
+  module _ (e : g .d ≡ 64) where
+    pub four-two : {r : ℕ} → g .c ≡ 64 → r ≡ lastTwoSize (g .a) (g .b) → r ≡ lastFourSize g
+    unfolding lastFourSize
+    four-two q p = p ∙ sym (simp (lastFourSize, eq-eqb (g .d) 64 e, eq-eqb (g .c) 64 q))
+
+    pub four-three : {r : ℕ} → (g .c ≡ 64 → ⊥) → r ≡ lastThreeSize (g .a) (g .b) (g .c) → r ≡ lastFourSize g
+    unfolding lastFourSize
+    four-three n p = p ∙ sym (simp (lastFourSize, eq-eqb (g .d) 64 e, ne-eqb (g .c) 64 n))
+
+  pub four-full : {r : ℕ} → (g .d ≡ 64 → ⊥) → r ≡ fullSize g → r ≡ lastFourSize g
+  unfolding lastFourSize
+  four-full n p = p ∙ sym (rw (ne-eqb (g .d) 64 n, lastFourSize))
+
+pub ruleset four-ways = (four-two, four-three, four-full)
+
+-- WHAT A GROUP STANDS FOR
+
+flow-none : (g : Group) (c : Content) → flowing 0 g c ≡ c
+unfolding flowing
+flow-none g c = after-nil c
+
+-- four letters with what follows
+full-is : (g : Group) (k : Content) → fullFour (g .a) (g .b) (g .c) (g .d) k ≡ flowing (fullSize g) g k
+unfolding fullFour fullSize allSextets flowing base64Bytes firstByte secondOf thirdOf
+full-is g k = go (leb (g .a) 63 && (leb (g .b) 63 && (leb (g .c) 63 && leb (g .d) 63))) refl
+  where
+    go : (t : Bool) → leb (g .a) 63 && (leb (g .b) 63 && (leb (g .c) 63 && leb (g .d) 63)) ≡ t
+        → _≡_ {A = Content} (elim t [ true ↦ after ((g .a * 4 + g .b / 16) ∷ (g .b % 16 * 16 + g .c / 4) ∷ (g .c % 4 * 64 + g .d) ∷ []) k | false ↦ bad ])
+        (flowing (elim t [ true ↦ 3 | false ↦ 4 ]) g k)
+    go false e = refl
+    go true e =
+        let p = both-true (leb (g .a) 63) _ e in
+        let q = both-true (leb (g .b) 63) _ (p .1) in
+        let r = both-true (leb (g .c) 63) _ (q .1) in
+        let ha = leb-true (g .a) 63 (p .0) in
+        let hb = leb-true (g .b) 63 (q .0) in
+        let hc = leb-true (g .c) 63 (r .0) in
+        let hd = leb-true (g .d) 63 (r .1) in
+        let e₁ : g .a * 4 + g .b / 16 ≡ firstByte g = omega arith in
+        let e₂ : g .b % 16 * 16 + g .c / 4 ≡ secondOf g = omega arith in
+        let e₃ : g .c % 4 * 64 + g .d ≡ thirdOf g = omega arith in
+        λ j. after (e₁ j ∷ e₂ j ∷ e₃ j ∷ []) k
+
+two-is : (g : Group) → lastTwo (g .a) (g .b) ≡ flowing (lastTwoSize (g .a) (g .b)) g (standsFor [])
+unfolding lastTwo lastTwoSize flowing base64Bytes firstByte after
+two-is g = go (leb (g .a) 63 && (leb (g .b) 63 && eqb (g .b % 16) 0)) refl
+  where
+    go : (t : Bool) → leb (g .a) 63 && (leb (g .b) 63 && eqb (g .b % 16) 0) ≡ t
+        → _≡_ {A = Content} (elim t [ true ↦ standsFor ((g .a * 4 + g .b / 16) ∷ []) | false ↦ bad ]) (flowing (elim t [ true ↦ 1 | false ↦ 4 ]) g (standsFor []))
+    go false e = refl
+    go true e =
+        let p = both-true (leb (g .a) 63) _ e in
+        let q = both-true (leb (g .b) 63) _ (p .1) in
+        let ha = leb-true (g .a) 63 (p .0) in
+        let hb = leb-true (g .b) 63 (q .0) in
+        let e₁ : g .a * 4 + g .b / 16 ≡ firstByte g = omega arith in
+        λ j. standsFor (e₁ j ∷ [])
+
+three-is : (g : Group) → lastThree (g .a) (g .b) (g .c) ≡ flowing (lastThreeSize (g .a) (g .b) (g .c)) g (standsFor [])
+unfolding lastThree lastThreeSize flowing base64Bytes firstByte secondOf after
+three-is g = go (leb (g .a) 63 && (leb (g .b) 63 && (leb (g .c) 63 && eqb (g .c % 4) 0))) refl
+  where
+    go : (t : Bool) → leb (g .a) 63 && (leb (g .b) 63 && (leb (g .c) 63 && eqb (g .c % 4) 0)) ≡ t
+        → _≡_ {A = Content} (elim t [ true ↦ standsFor ((g .a * 4 + g .b / 16) ∷ (g .b % 16 * 16 + g .c / 4) ∷ []) | false ↦ bad ])
+        (flowing (elim t [ true ↦ 2 | false ↦ 4 ]) g (standsFor []))
+    go false e = refl
+    go true e =
+        let p = both-true (leb (g .a) 63) _ e in
+        let q = both-true (leb (g .b) 63) _ (p .1) in
+        let r = both-true (leb (g .c) 63) _ (q .1) in
+        let ha = leb-true (g .a) 63 (p .0) in
+        let hb = leb-true (g .b) 63 (q .0) in
+        let hc = leb-true (g .c) 63 (r .0) in
+        let e₁ : g .a * 4 + g .b / 16 ≡ firstByte g = omega arith in
+        let e₂ : g .b % 16 * 16 + g .c / 4 ≡ secondOf g = omega arith in
+        λ j. standsFor (e₁ j ∷ e₂ j ∷ [])
+
+four-is : (g : Group) → base64From (g .a ∷ g .b ∷ g .c ∷ g .d ∷ []) ≡ flowing (lastFourSize g) g (standsFor [])
+unfolding base64From lastFour lastFourSize
+four-is g = go (eqb (g .d) 64) (eqb (g .c) 64)
+  where
+    go : (t u : Bool) → _≡_ {A = Content}
+        (elim t [ true ↦ elim u [ true ↦ lastTwo (g .a) (g .b) | false ↦ lastThree (g .a) (g .b) (g .c) ] | false ↦ fullFour (g .a) (g .b) (g .c) (g .d) (standsFor []) ])
+        (flowing (elim t [ true ↦ elim u [ true ↦ lastTwoSize (g .a) (g .b) | false ↦ lastThreeSize (g .a) (g .b) (g .c) ] | false ↦ fullSize g ]) g (standsFor []))
+    go true true = two-is g
+    go true false = three-is g
+    go false u = full-is g (standsFor [])
+
+picked : (P : ℕ → Type 0) (t : Bool) (x y : ℕ) → P x → P y → P (elim t [ true ↦ x | false ↦ y ])
+picked P true x y p q = p
+picked P false x y p q = q
+
+full-most : (g : Group) → fullSize g ≤ 4
+unfolding fullSize
+full-most g = picked (λ (k : ℕ). k ≤ 4) (allSextets g) 3 4 (omega arith) (omega arith)
+
+two-most : (a b : ℕ) → lastTwoSize a b ≤ 4
+unfolding lastTwoSize
+two-most a b = picked (λ (k : ℕ). k ≤ 4) (leb a 63 && (leb b 63 && eqb (b % 16) 0)) 1 4 (omega arith) (omega arith)
+
+three-most : (a b c : ℕ) → lastThreeSize a b c ≤ 4
+unfolding lastThreeSize
+three-most a b c = picked (λ (k : ℕ). k ≤ 4) (leb a 63 && (leb b 63 && (leb c 63 && eqb (c % 4) 0))) 2 4 (omega arith) (omega arith)
+
+four-most : (g : Group) → lastFourSize g ≤ 4
+unfolding lastFourSize
+four-most g =
+    picked (λ (k : ℕ). k ≤ 4) (eqb (g .d) 64) _ _
+    (picked (λ (k : ℕ). k ≤ 4) (eqb (g .c) 64) _ _ (two-most (g .a) (g .b)) (three-most (g .a) (g .b) (g .c))) (full-most g)
+
+module _ (g : Group) where
+  last-by : (n : ℕ) → g .count ≡ n → base64From (waitingOf g) ≡ base64From (waits n (g .a) (g .b) (g .c) (g .d))
+  last-by n e = ap base64From (counted g n e)
+
+  pub last-none : g .count ≡ 0 → Last g 0
+  unfolding waits base64From flowing after
+  last-none e = record { is = λ h. last-by 0 e; most = omega arith }
+
+  pub last-one : g .count ≡ 1 → Last g 4
+  unfolding waits base64From flowing
+  last-one e = record { is = λ h. last-by 1 e; most = omega arith }
+
+  pub last-pair : {r : ℕ} → g .count ≡ 2 → r ≡ lastTwoSize (g .a) (g .b) → Last g r
+  unfolding waits base64From
+  last-pair {r} e p =
+      record { is = λ h. last-by 2 e ∙ two-is g ∙ ap (λ (k : ℕ). flowing k g (standsFor [])) (sym p); most = omega (arith, two-most (g .a) (g .b)) }
+
+  pub last-triple : {r : ℕ} → g .count ≡ 3 → r ≡ lastThreeSize (g .a) (g .b) (g .c) → Last g r
+  unfolding waits base64From
+  last-triple {r} e p =
+      record { is = λ h. last-by 3 e ∙ three-is g ∙ ap (λ (k : ℕ). flowing k g (standsFor [])) (sym p); most = omega (arith, three-most (g .a) (g .b) (g .c)) }
+
+  pub last-whole : {r : ℕ} → (g .count ≡ 0 → ⊥) → (g .count ≡ 1 → ⊥) → (g .count ≡ 2 → ⊥) → (g .count ≡ 3 → ⊥) → r ≡ lastFourSize g → Last g r
+  unfolding waits
+  last-whole {r} n₀ n₁ n₂ n₃ p =
+      record {
+        is = λ h. let e : g .count ≡ 4 = omega arith in last-by 4 e ∙ four-is g ∙ ap (λ (k : ℕ). flowing k g (standsFor [])) (sym p);
+        most = omega (arith, four-most g);
+      }
+
+pub ruleset last-ways = (last-none, last-one, last-pair, last-triple, last-whole)
+
+-- A STEP
+
+module _ (g : Group) (b : ℕ) {x : ℕ} (y : Letter b x) where
+  pub step-blank : {r : Group} → x ≡ 66 → r ≡ record { count = g .count; a = g .a; b = g .b; c = g .c; d = g .d; flows = 0 } → Steps g b r
+  unfolding lettered waitingOf
+  step-blank e p =
+      subst⁻¹ (Steps g b) p
+      (record {
+        is = λ h s.
+            ap (λ (u : List ℕ). base64From (waitingOf g ++ u)) (y .is s ∙ ap (λ (k : ℕ). lettered k (sextets s)) e) ∙ sym (flow-none g (base64From (waitingOf g ++ sextets s)));
+        most = omega arith;
+        count = λ h. h;
+        short = λ h k. omega arith;
+      })
+
+  module _ (n : x ≡ 66 → ⊥) where
+    joined : (s : List ℕ) → base64From (waitingOf g ++ sextets (b ∷ s)) ≡ base64From (waitingOf g ++ (x ∷ sextets s))
+    joined s = ap (λ (u : List ℕ). base64From (waitingOf g ++ u)) (y .is s ∙ lettered-on x (sextets s) n)
+
+    pub step-push : {r : Group} → g .count < 4 → Pushed g x r → Steps g b r
+    step-push {r} h z =
+        record {
+          is = λ k s.
+              joined s
+              ∙ ap base64From (sym (append-assoc (waitingOf g) (x ∷ []) (sextets s)) ∙ ap (λ (u : List ℕ). u ++ sextets s) (sym (z .is h)))
+              ∙ sym (flow-none g (base64From (waitingOf r ++ sextets s)))
+              ∙ ap (λ (m : ℕ). flowing m g (base64From (waitingOf r ++ sextets s))) (sym (z .flows));
+          most = omega (arith, z .flows);
+          count = λ k. omega (arith, z .count h);
+          short = λ k l. omega (arith, z .count h, z .flows);
+        }
+
+    pub step-full : {m : ℕ} → 4 ≤ g .count → m ≡ fullSize g → Steps g b (record { count = 1; a = x; b = 0; c = 0; d = 0; flows = m })
+    unfolding waitingOf waits base64From
+    step-full {m} h p =
+        record {
+          is = λ k s.
+              let e : g .count ≡ 4 = omega arith in
+              joined s
+              ∙ ap (λ (u : List ℕ). base64From (u ++ (x ∷ sextets s))) (counted g 4 e)
+              ∙ full-is g (base64From (x ∷ sextets s))
+              ∙ ap (λ (z : ℕ). flowing z g (base64From (x ∷ sextets s))) (sym p);
+          most = omega (arith, full-most g);
+          count = λ k. omega arith;
+          short = λ k l. omega arith;
+        }
+
+pub ruleset base64-step-ways = (step-blank, step-push, step-full)
+
+-- BYTES OF A GROUP, WRITTEN
+
+take-three : (n x y z : ℕ) → 3 ≤ n → take n (x ∷ y ∷ z ∷ []) ≡ x ∷ y ∷ z ∷ []
+take-three zero x y z h = absurd (omega arith)
+take-three (suc zero) x y z h = absurd (omega arith)
+take-three (suc (suc zero)) x y z h = absurd (omega arith)
+take-three (suc (suc (suc n))) x y z h = ap (λ (u : List ℕ). x ∷ y ∷ z ∷ u) (take-none n)
+
+length-some : (n : ℕ) (g : Group) → n ≤ 3 → length (take n (base64Bytes g)) ≡ n
+unfolding base64Bytes
+length-some zero g h = refl
+length-some (suc zero) g h = refl
+length-some (suc (suc zero)) g h = refl
+length-some (suc (suc (suc zero))) g h = refl
+length-some (suc (suc (suc (suc n)))) g h = absurd (omega arith)
+
+pub bytes-none : (b : List ℕ) (p n : ℕ) (g : Group) → n ≡ 0 → Put b b p p (take n (base64Bytes g))
+unfolding base64Bytes
+bytes-none b p n g e = rw e (put-none b p)
+
+module _ {b b₁ : List ℕ} {p p₁ v₁ : ℕ} (n : ℕ) (g : Group) (e₁ : v₁ ≡ firstByte g) (x₁ : Put b b₁ p p₁ (v₁ ∷ [])) where
+  pub bytes-one : n ≡ 1 → Put b b₁ p p₁ (take n (base64Bytes g))
+  unfolding base64Bytes
+  bytes-one e = rw (e, ← e₁) x₁
+
+  module _ {b₂ : List ℕ} {p₂ v₂ : ℕ} (e₂ : v₂ ≡ secondOf g) (x₂ : Put b₁ b₂ p₁ p₂ (v₂ ∷ [])) where
+    pub bytes-two : n ≡ 2 → Put b b₂ p p₂ (take n (base64Bytes g))
+    unfolding base64Bytes
+    bytes-two e = rw (e, ← e₁, ← e₂) (put-more x₁ x₂)
+
+    pub bytes-three : {b₃ : List ℕ} {p₃ v₃ : ℕ} → (n ≡ 0 → ⊥) → (n ≡ 1 → ⊥) → (n ≡ 2 → ⊥) → v₃ ≡ thirdOf g → Put b₂ b₃ p₂ p₃ (v₃ ∷ []) → Put b b₃ p p₃ (take n (base64Bytes g))
+    unfolding base64Bytes
+    bytes-three n₀ n₁ n₂ e₃ x₃ =
+        let l : 3 ≤ n = omega arith in
+        rw (take-three n (firstByte g) (secondOf g) (thirdOf g) l, ← e₁, ← e₂, ← e₃) (put-more (put-more x₁ x₂) x₃)
+
+pub ruleset bytes-ways = (bytes-none, bytes-one, bytes-two, bytes-three)
+
+-- THE LOOPS: `done` is made up to i
+
+pub record GroupRun (s : List ℕ) (at end i : ℕ) (g : Group) (done : List ℕ) : Type 0 where
+  pub from : at ≤ i
+  pub left : base64Content (take (end - at) (drop at s)) ≡ after done (base64From (waitingOf g ++ sextets (take (end - i) (drop i s))))
+  pub count : g .count ≤ 4
+  pub short : length done + g .count ≤ i - at
+
+run-start : (s : List ℕ) (at end : ℕ) {g : Group} → g ≡ record { count = 0; a = 0; b = 0; c = 0; d = 0; flows = 0 } → GroupRun s at end at g []
+unfolding base64Content waitingOf waits
+run-start s at end e =
+    subst⁻¹ (λ (g : Group). GroupRun s at end at g []) e
+    (record { from = omega arith; left = sym (after-nil (base64From (sextets (take (end - at) (drop at s))))); count = omega arith; short = omega arith })
+
+flow-bad : (n : ℕ) (g : Group) (c : Content) → 3 < n → flowing n g c ≡ bad
+unfolding flowing
+flow-bad n g c h = rw (lt-ltb 3 n h, flowing)
+
+flow-on : (n : ℕ) (g : Group) (c : Content) → n ≤ 3 → flowing n g c ≡ after (take n (base64Bytes g)) c
+unfolding flowing
+flow-on n g c h = rw (le-ltb 3 n h, flowing)
+
+module _ {s : List ℕ} {at end i stop : ℕ} {g : Group} {done : List ℕ} (inv : GroupRun s at end i g done) (es : stop ≡ min end (length s)) where
+  module _ {r : Group} (l : i < stop) (x : Steps g (getD s i 0) r) where
+    abbrev rest : Content
+    rest = base64From (waitingOf r ++ sextets (take (end - (i + 1)) (drop (i + 1) s)))
+
+    run-here : base64Content (take (end - at) (drop at s)) ≡ after done (flowing (r .flows) g rest)
+    run-here =
+        let l′ : i < min end (length s) = omega arith in
+        inv .left
+        ∙ ap (λ (u : List ℕ). after done (base64From (waitingOf g ++ sextets u))) (front-part s i end l′)
+        ∙ ap (after done) (x .is (inv .count) (take (end - (i + 1)) (drop (i + 1) s)))
+
+    run-wrong : 3 < r .flows → base64Content (take (end - at) (drop at s)) ≡ bad
+    unfolding after
+    run-wrong h = run-here ∙ ap (after done) (flow-bad (r .flows) g rest h)
+
+    run-on : r .flows ≤ 3 → GroupRun s at end (i + 1) r (done ++ take (r .flows) (base64Bytes g))
+    run-on h =
+        let e = length-append done (take (r .flows) (base64Bytes g)) in
+        let e₂ = length-some (r .flows) g h in
+        record {
+          from = omega (arith, inv .from);
+          left = run-here ∙ ap (after done) (flow-on (r .flows) g rest h) ∙ after-after done (take (r .flows) (base64Bytes g)) rest;
+          count = x .count (inv .count);
+          short = omega (arith, inv .short, inv .from, x .short (inv .count) h);
+        }
+
+  module _ {n : ℕ} (l : stop ≤ i) (x : Last g n) where
+    run-end : base64Content (take (end - at) (drop at s)) ≡ after done (flowing n g (standsFor []))
+    unfolding sextets
+    run-end =
+        let l′ : min end (length s) ≤ i = omega arith in
+        inv .left
+        ∙ ap (λ (u : List ℕ). after done (base64From (waitingOf g ++ sextets u))) (part-end s i end l′)
+        ∙ ap (λ (u : List ℕ). after done (base64From u)) (append-nil (waitingOf g))
+        ∙ ap (after done) (x .is (inv .count))
+
+    run-none : 3 < n → base64Content (take (end - at) (drop at s)) ≡ bad
+    unfolding after
+    run-none h = run-end ∙ ap (after done) (flow-bad n g (standsFor []) h)
+
+    run-whole : n ≤ 3 → base64Content (take (end - at) (drop at s)) ≡ standsFor (done ++ take n (base64Bytes g))
+    unfolding after
+    run-whole h =
+        run-end
+        ∙ ap (after done) (flow-on n g (standsFor []) h)
+        ∙ ap (λ (u : List ℕ). standsFor (done ++ u)) (append-nil (take n (base64Bytes g)))
+
+-- counting
+pub record GroupScan (s : List ℕ) (at end stop i size : ℕ) (g : Group) : Type 0 where
+  pub done : List ℕ
+  pub run : GroupRun s at end i g done
+  pub stops : stop ≡ min end (length s)
+  pub sized : size ≡ length done
+  pub inside : size ≤ length s
+
+pub group-start : {s : List ℕ} {at end stop : ℕ} {g : Group} → stop ≡ min end (length s) → g ≡ record { count = 0; a = 0; b = 0; c = 0; d = 0; flows = 0 } → GroupScan s at end stop at 0 g
+group-start {s} {at} {end} e p = record { done = []; run = run-start s at end p; stops = e; sized = refl; inside = omega arith }
+
+module _ {s : List ℕ} {at end stop i size : ℕ} {g : Group} (inv : GroupScan s at end stop i size g) where
+  module _ {r : Group} (l : i < stop) (x : Steps g (getD s i 0) r) where
+    pub group-wrong : 3 < r .flows → Decodes (record { good = false; next = end; size = 0 }) (base64Content (take (end - at) (drop at s)))
+    unfolding decodedBy
+    group-wrong h = decodes bad (run-wrong (inv .run) (inv .stops) l x h) refl
+
+    pub group-on : r .flows ≤ 3 → GroupScan s at end stop (i + 1) (size + r .flows) r
+    group-on h =
+        let y = run-on (inv .run) (inv .stops) l x h in
+        let e = length-append (inv .done) (take (r .flows) (base64Bytes g)) in
+        let e₂ = length-some (r .flows) g h in
+        record {
+          done = inv .done ++ take (r .flows) (base64Bytes g);
+          run = y;
+          stops = inv .stops;
+          sized = omega (arith, inv .sized);
+          inside = omega (arith, inv .sized, inv .stops, y .short);
+        }
+
+  module _ {n : ℕ} (l : stop ≤ i) (x : Last g n) where
+    pub group-none : 3 < n → Decodes (record { good = false; next = end; size = 0 }) (base64Content (take (end - at) (drop at s)))
+    unfolding decodedBy
+    group-none h = decodes bad (run-none (inv .run) (inv .stops) l x h) refl
+
+    pub group-end : n ≤ 3 → Decodes (record { good = true; next = end; size = size + n }) (base64Content (take (end - at) (drop at s)))
+    unfolding decodedBy
+    group-end h =
+        let e : size + n ≡ length (inv .done ++ take n (base64Bytes g)) = omega (arith, inv .sized, length-append (inv .done) (take n (base64Bytes g)), length-some n g h) in
+        decodes (standsFor (inv .done ++ take n (base64Bytes g))) (run-whole (inv .run) (inv .stops) l x h) (refl, e)
+
+-- writing
+pub record GroupPut (s b : List ℕ) (at end pos stop i p : ℕ) (g : Group) (b′ : List ℕ) : Type 0 where
+  pub done : List ℕ
+  pub run : GroupRun s at end i g done
+  pub stops : stop ≡ min end (length s)
+  pub wrote : Put b b′ pos p done
+  pub same : length b′ ≡ length b
+
+pub group-put-start : {s : List ℕ} {at end stop : ℕ} {g : Group} (b : List ℕ) (pos : ℕ) → stop ≡ min end (length s)
+    → g ≡ record { count = 0; a = 0; b = 0; c = 0; d = 0; flows = 0 } → GroupPut s b at end pos stop at pos g b
+group-put-start {s} {at} {end} b pos e q = record { done = []; run = run-start s at end q; stops = e; wrote = put-none b pos; same = refl }
+
+module _ {s b b′ : List ℕ} {at end pos stop i p : ℕ} {g : Group} (inv : GroupPut s b at end pos stop i p g b′) where
+  module _ {r : Group} (l : i < stop) (x : Steps g (getD s i 0) r) where
+    pub group-put-wrong : 3 < r .flows → Fills b b′ pos (base64Content (take (end - at) (drop at s)))
+    group-put-wrong h =
+        let f = run-wrong (inv .run) (inv .stops) l x h in
+        record { same = inv .same; is = λ c q. let w : _≡_ {A = ℕ} 0 1 = cc in absurd (omega arith) }
+
+    pub group-put-on : {b″ : List ℕ} {p′ : ℕ} → r .flows ≤ 3 → Put b′ b″ p p′ (take (r .flows) (base64Bytes g)) → GroupPut s b at end pos stop (i + 1) p′ r b″
+    group-put-on h y =
+        let w = put-more (inv .wrote) y in
+        record { done = inv .done ++ take (r .flows) (base64Bytes g); run = run-on (inv .run) (inv .stops) l x h; stops = inv .stops; wrote = w; same = w .same }
+
+  module _ {n : ℕ} (l : stop ≤ i) (x : Last g n) where
+    pub group-put-end : {b″ : List ℕ} {p′ : ℕ} → Put b′ b″ p p′ (take n (base64Bytes g)) → Fills b b″ pos (base64Content (take (end - at) (drop at s)))
+    group-put-end {b″} {p′} y = go (leb n 3) refl
+      where
+        w : Put b b″ pos p′ (inv .done ++ take n (base64Bytes g))
+        w = put-more (inv .wrote) y
+
+        go : (t : Bool) → leb n 3 ≡ t → Fills b b″ pos (base64Content (take (end - at) (drop at s)))
+        go true e =
+            let f = run-whole (inv .run) (inv .stops) l x (leb-true n 3 e) in
+            record {
+              same = w .same;
+              is = λ c q k.
+                  let d : c ≡ inv .done ++ take n (base64Bytes g) = content-is (sym q ∙ f) in
+                  let k′ : pos + length (inv .done ++ take n (base64Bytes g)) ≤ length b = rw d at k in
+                  w .is k′ ∙ ap (over b pos) (sym d);
+            }
+        go false e =
+            let f = run-none (inv .run) (inv .stops) l x (leb-false n 3 e) in
+            record { same = w .same; is = λ c q. let z : _≡_ {A = ℕ} 0 1 = cc in absurd (omega arith) }

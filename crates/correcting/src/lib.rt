@@ -1,0 +1,99 @@
+// One item of bytes replaced by the item that a text spells: first what would come of it, with nothing written; then the writing.
+use answer::Answer;
+use answer::fits;
+use encoding::answer::ReadAnswer;
+use looking::Located;
+use looking::Part;
+use looking::locate;
+use one_item::read_one;
+use planning::Decision;
+use planning::Plan;
+use planning::level;
+use planning::plan_for;
+use planning::put;
+use planning::refuse;
+use refusal::RefusalKind;
+use text_check::Text;
+use text_check::check_text;
+ghost use mathlib.Core.Path.{_≡_};
+ghost use Prim.Native.Nat.{_≤_};
+ghost use lib.ListN.{length, take};
+ghost use Rattle.cbor.specs.Decode.{mostBytes};
+ghost use Rattle.operations.specs.Operations.{level, correct};
+ghost use Rattle.answer.specs.Outcomes.{outcomeOf};
+ghost use Rattle.planning.specs.PlanAnswers.{Bounded};
+ghost use Rattle.correcting.specs.Corrections.{Spots, Newly, Replaces, Decides, Corrects};
+
+fn spot(bytes: &[u8], path: &[u16]) -> Located
+    ensures { λ r. ⌜ Spots (now (bytes .entry)) (now (path .entry)) r ⌝ }
+{
+    locate(bytes, path)
+}
+
+// The new item's bytes, from its text.
+fn read_new(text: &[u8], levels: usize, item: &mut [u8]) -> ReadAnswer
+    requires { ⌜ length (now item) ≡ mostBytes ⌝ }
+    ensures { λ r. ⌜ Newly (now (text .entry)) levels (now (item .exit)) r ⌝ }
+{
+    let t = check_text(text);
+    match t {
+        Text::Refused(e) => ReadAnswer::Refused(e),
+        Text::Good => read_one(text, levels, item),
+    }
+}
+
+fn replace(
+    p: Part,
+    used: usize,
+    room: usize,
+    levels: usize,
+    text: &[u8],
+    item: &mut [u8],
+) -> Decision
+    requires { ⌜ Bounded p used ⌝ }
+    requires { ⌜ length (now item) ≡ mostBytes ⌝ }
+    ensures { λ r. ⌜ Replaces p used room levels (now (text .entry)) (now (item .exit)) r ⌝ }
+{
+    let a = read_new(text, levels, item);
+    match a {
+        ReadAnswer::Refused(e) => Decision::Refused(e),
+        ReadAnswer::Made(m) => plan_for(p, used, m.size, room),
+    }
+}
+
+// What a correction comes to: the used length, the bytes, the path, the text, then room. The new item's bytes are in `item`.
+fn decide(buffer: &[u8], used: usize, path: &[u16], text: &[u8], item: &mut [u8]) -> Decision
+    requires { ⌜ length (now item) ≡ mostBytes ⌝ }
+    ensures { λ r. ⌜ Decides (now (buffer .entry)) used (now (path .entry)) (now (text .entry)) (now (item .exit)) r ⌝ }
+{
+    if fits(used, buffer.len()) {
+        let found = spot(&buffer[..used], path);
+        return match found {
+            Located::Refused(e) => Decision::Refused(e),
+            Located::Part(p) => replace(p, used, buffer.len(), level(path), text, item),
+        };
+    }
+    refuse(RefusalKind::TooLong, 0)
+}
+
+fn carry_out(buffer: &mut [u8], used: usize, path: &[u16], text: &[u8], item: &mut [u8]) -> Answer
+    requires { ⌜ length (now item) ≡ mostBytes ⌝ }
+    ensures { λ r. ⌜ Corrects (now (buffer .entry)) (now (buffer .exit)) used (now (path .entry)) (now (text .entry)) r ⌝ }
+{
+    let d = decide(buffer, used, path, text, item);
+    match d {
+        Decision::Refused(e) => Answer::Refused(e),
+        Decision::Replace(p) => {
+            let length = p.length;
+            put(buffer, used, p, item);
+            Answer::Written(length)
+        }
+    }
+}
+
+pub fn correct(buffer: &mut [u8], used: usize, path: &[u16], text: &[u8]) -> Answer
+    ensures { λ r. ⌜ outcomeOf r (now (buffer .exit)) ≡ correct (now (buffer .entry)) used (now (path .entry)) (now (text .entry)) ⌝ }
+{
+    let mut item = [0; 65535];
+    carry_out(buffer, used, path, text, &mut item)
+}

@@ -1,0 +1,268 @@
+-- The reader's small functions: a lemma for each way that one returns.
+-- Assumes nothing.
+use mathlib.Core.Path.{_≡_, refl, sym, ap, _∙_}
+use mathlib.Core.Bool.{Bool, true, false, _&&_}
+use mathlib.Core.List.{List, [], _∷_, _++_}
+use Prim.Native.Nat.{ℕ, zero, suc, _+_, _-_, _*_, _/_, _%_, _≤_, _<_, _^_, min}
+use native.Mathlib.Omega.{arith}
+use lib.Dec.{leb, eqb}
+use lib.ListN.{length}
+use mir.Syntax.{w8 as bits8, w64 as bits64}
+use mir.Val.{Fits}
+use borrow.Author.Tests.{le-leb, lt-leb, eq-eqb, ne-eqb}
+use Rattle.cbor.specs.Refusals.{badIndicator, badTypedArray}
+use Rattle.cbor.specs.Widths.{w0, w1, w2, w4, w8, limit, fits, shortest, information}
+use Rattle.typed_array.specs.TypedArrayAnswers.{mayTagBy}
+use Rattle.refusal.specs.RefusalKinds.{kindNumber, Kinded}
+use Rattle.memory.specs.Buffer.{headPut}
+use Rattle.head.specs.HeadAnswers.{argumentSize, headBytes}
+use Rattle.refusal.specs.declared.Refusal.{Refusal}
+use Rattle.refusal.specs.declared.RefusalKind.{RefusalKind}
+use Rattle.cbor.proofs.Arguments.{length-big}
+use Rattle.encoding.specs.ReadAnswers.{infoBy, Informed, majorBy, initialBy, MajorBy, HeadSize, strayBy, mayTagNoted, noteBy, Light, Heavy, Strayed, Denies, Finished, TagMade, joinedAs}
+use Rattle.token.specs.declared.Token.{Token as Cut}
+use Rattle.encoding.specs.declared.answer.MadeItem.{MadeItem as MadeS}
+use Rattle.encoding.specs.declared.answer.ReadAnswer.{ReadAnswer}
+use Rattle.encoding.specs.declared.answer.ReadAnswer.the-variants.{Made, Refused}
+
+-- THE MAJOR TYPE
+module _ {c : ℕ} where
+  pub major-1 : c ≡ 1 → MajorBy c 0
+  unfolding majorBy
+  major-1 e = rw e (record { is = refl; most = omega arith })
+
+  pub major-2 : c ≡ 2 → MajorBy c 1
+  unfolding majorBy
+  major-2 e = rw e (record { is = refl; most = omega arith })
+
+  pub major-3 : c ≡ 3 → MajorBy c 7
+  unfolding majorBy
+  major-3 e = rw e (record { is = refl; most = omega arith })
+
+  pub major-4 : c ≡ 4 → MajorBy c 3
+  unfolding majorBy
+  major-4 e = rw e (record { is = refl; most = omega arith })
+
+  pub major-5 : c ≡ 5 → MajorBy c 2
+  unfolding majorBy
+  major-5 e = rw e (record { is = refl; most = omega arith })
+
+  pub major-6 : (c ≡ 1 → ⊥) → (c ≡ 2 → ⊥) → (c ≡ 3 → ⊥) → (c ≡ 4 → ⊥) → (c ≡ 5 → ⊥) → MajorBy c 6
+  unfolding majorBy
+  major-6 n1 n2 n3 n4 n5 = record { is = simp (majorBy, ne-eqb c 1 n1, ne-eqb c 2 n2, ne-eqb c 3 n3, ne-eqb c 4 n4, ne-eqb c 5 n5); most = omega arith }
+
+pub ruleset major-ways = (major-1, major-2, major-3, major-4, major-5, major-6)
+
+-- ADDITIONAL INFORMATION
+short-most : (n : ℕ) → information (shortest n) n ≤ 27
+unfolding shortest fits limit information
+short-most n = go (leb n 23) refl (leb n 0xff) (leb n 0xffff) (leb n 0xffff_ffff)
+  where
+    go : (t : Bool) → leb n 23 ≡ t → (u v x : Bool)
+        → information (elim t [ true ↦ w0 | false ↦ elim u [ true ↦ w1 | false ↦ elim v [ true ↦ w2 | false ↦ elim x [ true ↦ w4 | false ↦ w8 ] ] ] ]) n ≤ 27
+    go true e u v x = omega (arith, borrow.Author.Tests.leb-true n 23 e)
+    go false e true v x = omega arith
+    go false e false true x = omega arith
+    go false e false false true = omega arith
+    go false e false false false = omega arith
+
+module _ {k n : ℕ} where
+  pub info-0 : {r : ℕ} → k ≡ 0 → r ≡ information (shortest n) n → Informed k n r
+  unfolding infoBy
+  info-0 e f = rw e (record { is = f; most = omega (arith, f, short-most n) })
+
+  pub info-1 : k ≡ 1 → Informed k n 31
+  unfolding infoBy
+  info-1 e = rw e (record { is = refl; most = omega arith })
+
+  pub info-3 : k ≡ 3 → Informed k n (n % 32)
+  unfolding infoBy
+  info-3 e = rw e (record { is = refl; most = omega arith })
+
+  pub info-4 : k ≡ 4 → Informed k n 24
+  unfolding infoBy
+  info-4 e = rw e (record { is = refl; most = omega arith })
+
+  pub info-5 : k ≡ 5 → Informed k n 25
+  unfolding infoBy
+  info-5 e = rw e (record { is = refl; most = omega arith })
+
+  pub info-6 : k ≡ 6 → Informed k n 26
+  unfolding infoBy
+  info-6 e = rw e (record { is = refl; most = omega arith })
+
+  pub info-7 : (k ≡ 0 → ⊥) → (k ≡ 1 → ⊥) → (k ≡ 3 → ⊥) → (k ≡ 4 → ⊥) → (k ≡ 5 → ⊥) → (k ≡ 6 → ⊥) → Informed k n 27
+  unfolding infoBy
+  info-7 n0 n1 n3 n4 n5 n6 = record { is = simp (infoBy, ne-eqb k 0 n0, ne-eqb k 1 n1, ne-eqb k 3 n3, ne-eqb k 4 n4, ne-eqb k 5 n5, ne-eqb k 6 n6); most = omega arith }
+
+pub ruleset info-ways = (info-0, info-1, info-3, info-4, info-5, info-6, info-7)
+
+-- HEADS
+argument-most : (i : ℕ) → argumentSize i ≤ 8
+unfolding argumentSize
+argument-most i = go (eqb i 24) (eqb i 25) (eqb i 26) (eqb i 27)
+  where
+    go : (t u v x : Bool) → _≤_ (elim t [ true ↦ 1 | false ↦ elim u [ true ↦ 2 | false ↦ elim v [ true ↦ 4 | false ↦ elim x [ true ↦ 8 | false ↦ 0 ] ] ] ]) 8
+    go true u v x = omega arith
+    go false true v x = omega arith
+    go false false true x = omega arith
+    go false false false true = omega arith
+    go false false false false = omega arith
+
+pub size-fits : {r : ℕ} (i : ℕ) → r ≡ argumentSize i → Fits bits64 (r + 1)
+size-fits i e = record { fits = omega (arith, e, argument-most i) }
+
+pub length-head : (i n : ℕ) → length (headBytes i n) ≡ argumentSize (i % 32) + 1
+unfolding headBytes
+length-head i n = omega (arith, length-big (argumentSize (i % 32)) n)
+
+pub head-short : (i n : ℕ) → length (headBytes i n) ≤ 9
+head-short i n = omega (arith, length-head i n, argument-most (i % 32))
+
+pub head-some : (i n : ℕ) → 0 < length (headBytes i n)
+head-some i n = omega (arith, length-head i n)
+
+pub size-is : {i r : ℕ} → r ≡ argumentSize (i % 32) → HeadSize i (r + 1)
+size-is {i} e = record { is = λ n. omega (arith, e, length-head i n); most = omega (arith, e, argument-most (i % 32)) }
+
+module _ {c k n major info : ℕ} (a : MajorBy c major) (b : Informed k n info) where
+  pub initial-mul : Fits bits8 (major * 32)
+  initial-mul = record { fits = omega (arith, a .most) }
+
+  pub initial-add : Fits bits8 (major * 32 + info)
+  initial-add = record { fits = omega (arith, a .most, b .most) }
+
+pub initial-is : {major info : ℕ} (t : Cut) → MajorBy (t .code) major → Informed (t .indicator) (t .number) info → major * 32 + info ≡ initialBy t
+unfolding initialBy
+initial-is t a b = rw (a .is, b .is)
+
+-- NOTES
+module _ (k n : ℕ) where
+  pub note-text : k ≡ 4 → 0 ≡ noteBy k n
+  unfolding noteBy
+  note-text e = rw e
+
+  pub note-bytes : (k ≡ 4 → ⊥) → n + 1 ≡ noteBy k n
+  unfolding noteBy
+  note-bytes m = simp (noteBy, ne-eqb k 4 m) (omega arith)
+
+pub ruleset note-ways = (note-text, note-bytes)
+
+pub light-more : {n : ℕ} → Light n → Fits bits64 (n + 1)
+light-more l = record { fits = omega (arith, l .fits) }
+
+-- TYPED ARRAYS
+module _ (n : ℕ) {r : Bool} where
+  pub may-none : (note : ℕ) → note ≡ 0 → r ≡ mayTagBy n false 0 → r ≡ mayTagNoted n note
+  unfolding mayTagNoted
+  may-none note e f = rw e f
+
+  pub may-some : (note : ℕ) → (note ≡ 0 → ⊥) → r ≡ mayTagBy n true (note - 1) → r ≡ mayTagNoted n note
+  unfolding mayTagNoted
+  may-some zero z f = absurd (z refl)
+  may-some (suc l) z f = let e : suc l - 1 ≡ l = omega arith in rw e at f
+
+pub ruleset may-ways = (may-none, may-some)
+
+-- REFUSALS AND ANSWERS
+pub denies-is : {k : RefusalKind} {at : ℕ} → Denies (kindNumber k) at (Refused (record { kind = k; place = at }))
+denies-is {k} {at} = record { refusal = record { kind = k; place = at }; is = refl; number = refl; place = refl }
+
+pub strayed-is : {d k : ℕ} {t : Cut} {kind : RefusalKind} → k ≡ strayBy d (t .code) (t .indicator) → Kinded k kind → Strayed d t (Refused (record { kind = kind; place = t .place }))
+strayed-is {d} {k} {t} {kind} e h =
+    record { refusal = record { kind = kind; place = t .place }; is = refl; number = λ l m. h .is (rw e l) (rw e m) ∙ e; place = refl }
+
+module _ (d code mark : ℕ) where
+  pub stray-none : code ≡ 0 → mark ≡ strayBy d code mark
+  unfolding strayBy
+  stray-none e = rw e
+
+  module _ (n0 : code ≡ 0 → ⊥) where
+    pub stray-angle-1 : code ≡ 20 → mark ≡ 1 → 9 ≡ strayBy d code mark
+    unfolding strayBy
+    stray-angle-1 e f = rw (e, f)
+
+    pub stray-angle-2 : code ≡ 20 → mark ≡ 2 → 9 ≡ strayBy d code mark
+    unfolding strayBy
+    stray-angle-2 e f = rw (e, f)
+
+    pub stray-angle : code ≡ 20 → (mark ≡ 1 → ⊥) → (mark ≡ 2 → ⊥) → 11 ≡ strayBy d code mark
+    unfolding strayBy
+    stray-angle e n1 n2 = simp (strayBy, ne-eqb code 0 n0, eq-eqb code 20 e, ne-eqb mark 1 n1, ne-eqb mark 2 n2)
+
+    module _ (n20 : code ≡ 20 → ⊥) where
+      pub stray-plain : (d ≡ 0 → ⊥) → 11 ≡ strayBy d code mark
+      unfolding strayBy
+      stray-plain nd = simp (strayBy, ne-eqb code 0 n0, ne-eqb code 20 n20, ne-eqb d 0 nd)
+
+      module _ (z : d ≡ 0) where
+        pub stray-6 : code ≡ 6 → 10 ≡ strayBy d code mark
+        unfolding strayBy
+        stray-6 e = rw (e, z)
+
+        pub stray-15 : code ≡ 15 → 10 ≡ strayBy d code mark
+        unfolding strayBy
+        stray-15 e = rw (e, z)
+
+        pub stray-17 : code ≡ 17 → 10 ≡ strayBy d code mark
+        unfolding strayBy
+        stray-17 e = rw (e, z)
+
+        pub stray-19 : code ≡ 19 → 10 ≡ strayBy d code mark
+        unfolding strayBy
+        stray-19 e = rw (e, z)
+
+        pub stray-rest : (code ≡ 6 → ⊥) → (code ≡ 15 → ⊥) → (code ≡ 17 → ⊥) → (code ≡ 19 → ⊥) → 11 ≡ strayBy d code mark
+        unfolding strayBy
+        stray-rest n6 n15 n17 n19 = simp (strayBy, ne-eqb code 0 n0, ne-eqb code 20 n20, eq-eqb d 0 z, ne-eqb code 6 n6, ne-eqb code 15 n15, ne-eqb code 17 n17, ne-eqb code 19 n19)
+
+pub ruleset stray-ways = (stray-none, stray-angle-1, stray-angle-2, stray-angle, stray-plain, stray-6, stray-15, stray-17, stray-19, stray-rest)
+
+-- containers
+module _ {b : List ℕ} {pos major width n : ℕ} {m : MadeS} {place note : ℕ} {a : ReadAnswer} where
+  pub finish-none : width ≡ 0 → Denies badIndicator place a → Finished b b pos major width n m place note a
+  finish-none e f = record { refused = λ z. f; made = λ k. absurd (k e); closed = λ k. absurd (k e) }
+
+  pub finish-done : {b′ : List ℕ} {info size : ℕ} → (width ≡ 0 → ⊥) → Informed width n info → HeadSize (major * 32 + info) size → b′ ≡ headPut b pos (headBytes (major * 32 + info) n) (m .size)
+      → a ≡ Made (record { next = m .next; size = size + m .size; count = 1; note = note }) → Finished b b′ pos major width n m place note a
+  finish-done {b′} {info} {size} k i h e f =
+      let q : size ≡ length (headBytes (major * 32 + infoBy width n) n) = h .is n ∙ ap (λ (x : ℕ). length (headBytes (major * 32 + x) n)) (i .is) in
+      record {
+        refused = λ z. absurd (k z);
+        made = λ z. f ∙ ap (λ (x : ℕ). Made (record { next = m .next; size = x + m .size; count = 1; note = note })) q;
+        closed = λ z. e ∙ ap (λ (x : ℕ). headPut b pos (headBytes (major * 32 + x) n) (m .size)) (i .is);
+      }
+
+pub ruleset finish-ways = (finish-none, finish-done)
+
+pub finish-first : {major size width n info : ℕ} → Heavy major size → Informed width n info → Fits bits8 (major * 32 + info)
+finish-first h i = record { fits = omega (arith, h .most, i .most) }
+
+pub heavy-mul : {major size : ℕ} → Heavy major size → Fits bits8 (major * 32)
+heavy-mul h = record { fits = omega (arith, h .most) }
+
+pub finish-size : {major size i r : ℕ} → Heavy major size → HeadSize i r → Fits bits64 (r + size)
+finish-size h s = record { fits = omega (arith, h .fits, s .most) }
+
+module _ {n size : ℕ} {m : MadeS} {place : ℕ} {a : ReadAnswer} (r : Bool) (e : r ≡ mayTagNoted n (m .note)) where
+  pub tagged-yes : {k : ℕ} → r ≡ true → k ≡ min (size + m .size) (2 ^ 64 - 1) → a ≡ Made (record { next = m .next; size = k; count = 1; note = 0 }) → TagMade n size m place a
+  tagged-yes {k} t q f =
+      record {
+        refused = λ z. let c : _≡_ {A = Bool} true false = sym t ∙ e ∙ z in absurd (mathlib.Core.Bool.true≢false c);
+        made = λ z. f ∙ ap (λ (x : ℕ). Made (record { next = m .next; size = x; count = 1; note = 0 })) q;
+      }
+
+  pub tagged-no : r ≡ false → Denies badTypedArray place a → TagMade n size m place a
+  tagged-no t f = record { refused = λ z. f; made = λ z. let c : _≡_ {A = Bool} true false = sym z ∙ sym e ∙ t in absurd (mathlib.Core.Bool.true≢false c) }
+
+pub ruleset tagged-ways = (tagged-yes, tagged-no)
+
+pub joined-made : {m : MadeS} {r : ReadAnswer} (size k : ℕ) (a : ReadAnswer) → a ≡ Made m → k ≡ min (size + m .size) (2 ^ 64 - 1) → r ≡ Made (record { next = m .next; size = k; count = 1; note = 0 }) → r ≡ joinedAs size a
+unfolding joinedAs
+joined-made size k a e q f = rw (e, joinedAs) (f ∙ cc)
+
+pub joined-lost : {e : Refusal} (size : ℕ) (a : ReadAnswer) → a ≡ Refused e → Refused e ≡ joinedAs size a
+unfolding joinedAs
+joined-lost size a e = rw (e, joinedAs)
+
+pub ruleset joined-ways = (joined-made, joined-lost)

@@ -1,0 +1,12 @@
+-- `reader::answer::refuse` meets its contract.
+-- Assumes nothing.
+use Rattle.encoding.proofs.answer.refuse.Statement.{statement}
+use Rattle.encoding.proofs.answer.refuse.Tie as tie
+use borrow.Author.Needs.{needs}
+use Rattle.encoding.proofs.ReadSmall.{denies-is}
+
+pub refuse-spec : {M : Type 1} → statement M
+refuse-spec =
+    tie.close (tie.spec
+    (λ c. search denies-is)  -- returns
+    )

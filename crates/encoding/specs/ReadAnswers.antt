@@ -1,0 +1,349 @@
+-- What the readers of the code answer. s is a text; the definitions read it with its end mark.
+use Prim.Native.Nat.{ℕ, zero, suc, _+_, _-_, _*_, _%_, _≤_, _<_, _^_, min}
+use mathlib.Core.Path.{_≡_}
+use mathlib.Core.Bool.{Bool, true, false}
+use mathlib.Core.List.{List, [], _∷_, _++_}
+use lib.Dec.{eqb}
+use lib.ListN.{length}
+use Rattle.cbor.specs.Refusals.{Result, ok, refuse, bind, badIndicator, tooDeep, notAllowed, mixedChunks, badTypedArray}
+use Rattle.cbor.specs.Widths.{Width, w0, w1, w2, w4, w8, limit, shortest, information}
+use Rattle.cbor.specs.Items.{Kind, byteString, textString, Size, definite, indefinite, Chunk, Item, int, string, chunked, array, map, tag, simple, Pairs, count, count₂}
+use Rattle.cbor.specs.Encode.{encodeString, encodeChunks, encode, encodeAll, encodeAll₂}
+use Rattle.cbor.specs.TypedArrays.{chunksLength, mayTag}
+use Rattle.cbor.specs.Decode.{Entry}
+use Rattle.typed_array.specs.TypedArrayAnswers.{mayTagBy}
+use Rattle.memory.specs.Buffer.{over, headPut}
+use Rattle.refusal.specs.RefusalKinds.{kindNumber}
+use Rattle.head.specs.HeadAnswers.{headBytes}
+use Rattle.refusal.specs.declared.Refusal.{Refusal}
+use Rattle.notation.specs.Indicators.{Indicator, absent, indefinitely, unknown, wide}
+use Rattle.notation.specs.Tokens.{Opener, leaf, literal, chunking, opens, Shape, square, curly, round, angle, whole, Token, begins, closes, aComma, aColon}
+use Rattle.notation.specs.Cutting.{next, place}
+use Rattle.notation.specs.Form.{either, only, one, chunks, Closed, Chunks, stray, inside, isWanted, literalItem, obey, reads}
+use Rattle.notation.specs.Reading.{marked}
+use Rattle.scanning.specs.Stands.{Stands}
+use Rattle.token.specs.TokenAnswers.{indicatorNumber, kindCode, sizeNumber, shapeCode, codeOf, Spelled}
+use Rattle.token.specs.declared.Token.{Token as Cut}
+use Rattle.encoding.specs.declared.answer.MadeItem.{MadeItem as MadeS}
+use Rattle.encoding.specs.declared.answer.ReadAnswer.{ReadAnswer}
+use Rattle.encoding.specs.declared.answer.ReadAnswer.the-variants.{Made, Refused}
+
+-- WHAT THE CODE KNOWS of a thing that was read: its bytes; how many things it is, or how long the content of a chunk; and a note
+pub record View : Type 0 where
+  pub bytes : List ℕ
+  pub count : ℕ
+  pub note : ℕ
+
+-- the note of an item, which the check of typed arrays asks for: 0, or of a byte string one more than its length
+unfoldable pub noteOf : Item → ℕ
+noteOf (int g w n) = 0
+noteOf (string byteString w b) = suc (length b)
+noteOf (string textString w b) = 0
+noteOf (chunked byteString cs) = suc (chunksLength cs)
+noteOf (chunked textString cs) = 0
+noteOf (array z xs) = 0
+noteOf (map z ps) = 0
+noteOf (tag w n x) = 0
+noteOf (simple n) = 0
+
+unfoldable pub ofItem : Item → View
+ofItem x = record { bytes = encode x; count = 1; note = noteOf x }
+
+-- of items it is the indicator that closed them
+unfoldable pub ofClosed : Closed → View
+ofClosed c = record { bytes = encodeAll (c .all); count = count (c .all); note = indicatorNumber (c .indicator) }
+
+unfoldable pub ofEntry : Entry → View
+ofEntry e = record { bytes = encode (e .key) ++ encode (e .value); count = 1; note = 0 }
+
+unfoldable pub ofPairs : Pairs → View
+ofPairs ps = record { bytes = encodeAll₂ ps; count = count₂ ps; note = 0 }
+
+unfoldable pub ofChunk : Kind → Chunk → View
+ofChunk k c = record { bytes = encodeString k (c .width) (c .content); count = length (c .content); note = 0 }
+
+-- of chunks it is their kind
+unfoldable pub ofChunks : Kind → Chunks → View
+ofChunks k cs = record { bytes = encodeChunks k (cs .all); count = chunksLength (cs .all); note = kindCode (cs .kind) }
+
+-- of an item behind the head of a tag
+unfoldable pub ofTagged : ℕ → ℕ → Item → View
+ofTagged initial n x = record { bytes = headBytes initial n ++ encode x; count = 1; note = 0 }
+
+-- READERS that the definitions do not name
+
+-- an item, and behind it the token of a code
+unfoldable pub followBy : ℕ → ℕ → Item → Token → ℕ → List ℕ → Result Item
+followBy code d x t p r = elim (eqb (codeOf t) code) [ true ↦ ok x r | false ↦ refuse (stray d t) p ]
+
+unfoldable pub followed : ℕ → ℕ → List ℕ → Result Item
+followed code d s = bind (reads (one d) s) (λ x r. bind (next r) (λ t r′. followBy code d x t (place r) r′))
+
+-- a key, a colon and a value
+unfoldable pub entryRead : ℕ → List ℕ → Result Entry
+entryRead d s = bind (followed 12 d s) (λ k r. bind (reads (one d) r) (λ x r′. ok (record { key = k; value = x }) r′))
+
+-- a chunk of a kind
+unfoldable pub chunkOf : Kind → Kind → Size → List ℕ → ℕ → List ℕ → Result Chunk
+chunkOf k k′ (definite w) b p r = elim (isWanted (only k) k′) [ true ↦ ok (record { width = w; content = b }) r | false ↦ refuse mixedChunks p ]
+chunkOf k k′ indefinite b p r = refuse badIndicator p
+
+unfoldable pub chunkReadBy : Kind → ℕ → Token → ℕ → List ℕ → Result Chunk
+chunkReadBy k d (begins (leaf x)) p r = refuse (stray d (begins (leaf x))) p
+chunkReadBy k d (begins (literal k′ z b)) p r = chunkOf k k′ z b p r
+chunkReadBy k d (begins chunking) p r = refuse (stray d (begins chunking)) p
+chunkReadBy k d (begins (opens o)) p r = refuse (stray d (begins (opens o))) p
+chunkReadBy k d (closes h i) p r = refuse (stray d (closes h i)) p
+chunkReadBy k d aComma p r = refuse (stray d aComma) p
+chunkReadBy k d aColon p r = refuse (stray d aColon) p
+
+unfoldable pub chunkRead : Kind → ℕ → List ℕ → Result Chunk
+chunkRead k d s = bind (next s) (λ t r. chunkReadBy k d t (place s) r)
+
+-- a string in chunks
+unfoldable pub chunkedRead : ℕ → List ℕ → Result Item
+chunkedRead d s = bind (reads (chunks either d) s) (λ c r. ok (chunked (c .kind) (c .all)) r)
+
+-- what stands behind an opening token at a place p, and the item of a tag with the check of typed arrays
+unfoldable pub behindOpener : ℕ → Opener → ℕ → List ℕ → Result Item
+behindOpener d o p s = obey reads (inside d o) p p s
+
+unfoldable pub taggedRead : ℕ → ℕ → ℕ → List ℕ → Result Item
+taggedRead d n p s = bind (followed 14 d s) (λ x r. elim (mayTag n x) [ true ↦ ok x r | false ↦ refuse badTypedArray p ])
+
+-- NUMBERS OF THE CODE
+
+unfoldable pub indicatorFor : ℕ → Indicator
+indicatorFor k =
+    elim (eqb k 0) [
+      | true ↦ absent
+      | false ↦ elim (eqb k 1) [
+        | true ↦ indefinitely
+        | false ↦ elim (eqb k 2) [
+          | true ↦ unknown
+          | false ↦ elim (eqb k 3) [
+            | true ↦ wide w0
+            | false ↦ elim (eqb k 4) [
+              | true ↦ wide w1
+              | false ↦ elim (eqb k 5) [
+                | true ↦ wide w2
+                | false ↦ elim (eqb k 6) [ true ↦ wide w4 | false ↦ wide w8 ]
+              ]
+            ]
+          ]
+        ]
+      ]
+    ]
+
+-- a shape by the code of its closing token
+unfoldable pub shapeFor : ℕ → Shape
+shapeFor k = elim (eqb k 14) [ true ↦ round | false ↦ elim (eqb k 16) [ true ↦ square | false ↦ elim (eqb k 18) [ true ↦ curly | false ↦ elim (eqb k 20) [ true ↦ angle | false ↦ whole ] ] ] ]
+
+-- a kind of string by the code of its literals
+unfoldable pub kindFor : ℕ → Kind
+kindFor k = elim (eqb k 4) [ true ↦ textString | false ↦ byteString ]
+
+-- the additional information for a width, a size or no indicator, by its number, and the argument n
+unfoldable pub infoBy : ℕ → ℕ → ℕ
+infoBy k n =
+    elim (eqb k 0) [
+      | true ↦ information (shortest n) n
+      | false ↦ elim (eqb k 1) [
+        | true ↦ 31
+        | false ↦ elim (eqb k 3) [ true ↦ n % 32 | false ↦ elim (eqb k 4) [ true ↦ 24 | false ↦ elim (eqb k 5) [ true ↦ 25 | false ↦ elim (eqb k 6) [ true ↦ 26 | false ↦ 27 ] ] ] ]
+      ]
+    ]
+
+pub record Informed (k n r : ℕ) : Type 0 where
+  pub is : r ≡ infoBy k n
+  pub most : r ≤ 31
+
+-- the initial byte of a token that is a leaf, a literal or a tag
+unfoldable pub majorBy : ℕ → ℕ
+majorBy c = elim (eqb c 1) [ true ↦ 0 | false ↦ elim (eqb c 2) [ true ↦ 1 | false ↦ elim (eqb c 3) [ true ↦ 7 | false ↦ elim (eqb c 4) [ true ↦ 3 | false ↦ elim (eqb c 5) [ true ↦ 2 | false ↦ 6 ] ] ] ] ]
+
+unfoldable pub initialBy : Cut → ℕ
+initialBy t = majorBy (t .code) * 32 + infoBy (t .indicator) (t .number)
+
+pub record MajorBy (c r : ℕ) : Type 0 where
+  pub is : r ≡ majorBy c
+  pub most : r ≤ 7
+
+-- how many bytes a head has
+pub record HeadSize (i r : ℕ) : Type 0 where
+  pub is : (n : ℕ) → r ≡ length (headBytes i n)
+  pub most : r ≤ 9
+
+-- the number of a token that may not stand where it does; of what is no token its own
+unfoldable pub strayBy : ℕ → ℕ → ℕ → ℕ
+strayBy d code mark =
+    elim (eqb code 0) [
+      | true ↦ mark
+      | false ↦ elim (eqb code 20) [
+        | true ↦ elim (eqb mark 1) [ true ↦ badIndicator | false ↦ elim (eqb mark 2) [ true ↦ badIndicator | false ↦ notAllowed ] ]
+        | false ↦ elim (eqb d 0) [
+          | true ↦ elim (eqb code 6) [ true ↦ tooDeep | false ↦ elim (eqb code 15) [ true ↦ tooDeep | false ↦ elim (eqb code 17) [ true ↦ tooDeep | false ↦ elim (eqb code 19) [ true ↦ tooDeep | false ↦ notAllowed ] ] ] ]
+          | false ↦ notAllowed
+        ]
+      ]
+    ]
+
+-- whether a tag may stand on an item of a note
+unfoldable pub mayTagNoted : ℕ → ℕ → Bool
+mayTagNoted n zero = mayTagBy n false 0
+mayTagNoted n (suc l) = mayTagBy n true l
+
+-- the note of a string, by the code of its literals and its length
+unfoldable pub noteBy : ℕ → ℕ → ℕ
+noteBy k n = elim (eqb k 4) [ true ↦ 0 | false ↦ suc n ]
+
+-- WRITING
+
+-- from b to b′: ws was written from p on, if it fits; if not, nothing is said but that the buffer is as long
+pub record Wrote (b b′ : List ℕ) (p : ℕ) (ws : List ℕ) : Type 0 where
+  pub same : length b′ ≡ length b
+  pub is : p + length ws ≤ length b → b′ ≡ over b p ws
+
+-- what a literal holds was written
+pub record Filled (s : List ℕ) (t : Cut) (b b′ : List ℕ) (p : ℕ) : Type 0 where
+  pub is : (c : List ℕ) → Spelled s (t .form) (t .start) (t .stop) c → Wrote b b′ p c
+  pub same : length b′ ≡ length b
+
+-- WHERE READERS MAY BE CALLED: within a text, with a place in the buffer from which no sum wraps
+pub record Room (s : List ℕ) (at pos : ℕ) : Type 0 where
+  pub inside : at ≤ length (marked s)
+  pub room : pos + 9 * (length (marked s) - at) < 2 ^ 32
+
+-- behind an opening token at a place, with room for a head at pos
+pub record Opened (s : List ℕ) (at pos place : ℕ) : Type 0 where
+  pub inside : at ≤ length (marked s)
+  pub room : pos + 9 + 9 * (length (marked s) - at) < 2 ^ 32
+  pub before : place ≤ length (marked s)
+
+-- the same behind `[` or `{` with an indicator, by its number
+pub record Bracketed (s : List ℕ) (at pos place mark : ℕ) : Type 0 where
+  pub opened : Opened s at pos place
+  pub known : indicatorNumber (indicatorFor mark) ≡ mark
+
+pub record Loop (s : List ℕ) (at pos closer : ℕ) : Type 0 where
+  pub room : Room s at pos
+  pub closes : shapeCode (shapeFor closer) ≡ closer
+
+-- before an item and a token that follows it
+pub record Ahead (s : List ℕ) (at pos code : ℕ) : Type 0 where
+  pub room : Room s at pos
+  pub some : 11 ≤ code
+
+-- before chunks of a kind
+pub record Strings (s : List ℕ) (at pos kind : ℕ) : Type 0 where
+  pub room : Room s at pos
+  pub kinds : kindCode (kindFor kind) ≡ kind
+
+pub record Light (n : ℕ) : Type 0 where
+  pub fits : n < 2 ^ 40
+
+pub record Heavy (major size : ℕ) : Type 0 where
+  pub most : major ≤ 7
+  pub fits : size < 2 ^ 40
+
+-- ANSWERS
+
+-- a reader's answer m, at pos: a thing x was read, and r is left. Its bytes are at most nine for each byte of the text, of which there
+-- were `most`, and they are in the buffer from pos on, if they fit
+pub record MovedOn (s b b′ : List ℕ) (most pos : ℕ) (m : MadeS) (x : View) (r : List ℕ) : Type 0 where
+  pub stands : Stands (marked s) (m .next) r
+  pub sized : m .size ≡ length (x .bytes)
+  pub counted : m .count ≡ x .count
+  pub noted : m .note ≡ x .note
+  pub many : x .count ≤ m .size
+  pub short : m .size + 9 * length r ≤ 9 * most
+  pub wrote : Wrote b b′ pos (x .bytes)
+
+pub record Became {A : Type 0} (v : A → View) (s b b′ : List ℕ) (most pos : ℕ) (a : ReadAnswer) (x : A) (r : List ℕ) : Type 0 where
+  pub made : MadeS
+  pub is : a ≡ Made made
+  pub moved : MovedOn s b b′ most pos made (v x) r
+
+-- a refusal by the number k where q is left
+pub record Denied (s : List ℕ) (a : ReadAnswer) (k q : ℕ) : Type 0 where
+  pub refusal : Refusal
+  pub is : a ≡ Refused refusal
+  pub number : kindNumber (refusal .kind) ≡ k
+  pub place : refusal .place ≡ length (marked s) - q
+
+unfoldable pub After : {A : Type 0} → (A → View) → List ℕ → List ℕ → List ℕ → ℕ → ℕ → ReadAnswer → Result A → Type 0
+After v s b b′ most pos a (ok x r) = Became v s b b′ most pos a x r
+After v s b b′ most pos a (refuse k q) = Denied s a k q
+
+-- what a reader at pos tells of the result that the definitions have
+pub record ReadTold {A : Type 0} (v : A → View) (s b b′ : List ℕ) (most pos : ℕ) (a : ReadAnswer) (res : Result A) : Type 0 where
+  pub after : After v s b b′ most pos a res
+
+-- the same of chunks, whose note is their kind
+pub record ChunksTold (kind : ℕ) (s b b′ : List ℕ) (most pos : ℕ) (a : ReadAnswer) (res : Result Chunks) : Type 0 where
+  pub told : ReadTold (ofChunks (kindFor kind)) s b b′ most pos a res
+  pub kept : (m : MadeS) → a ≡ Made m → m .note ≡ kind
+
+-- a refusal at a token that may not stand where it does
+pub record Strayed (d : ℕ) (t : Cut) (a : ReadAnswer) : Type 0 where
+  pub refusal : Refusal
+  pub is : a ≡ Refused refusal
+  pub number : 1 ≤ strayBy d (t .code) (t .indicator) → strayBy d (t .code) (t .indicator) ≤ 17 → kindNumber (refusal .kind) ≡ strayBy d (t .code) (t .indicator)
+  pub place : refusal .place ≡ t .place
+
+-- a refusal by a number
+pub record Denies (k at : ℕ) (a : ReadAnswer) : Type 0 where
+  pub refusal : Refusal
+  pub is : a ≡ Refused refusal
+  pub number : kindNumber (refusal .kind) ≡ k
+  pub place : refusal .place ≡ at
+
+-- a thing was written at pos that v is the view of
+pub record Gave (b b′ : List ℕ) (pos next : ℕ) (a : ReadAnswer) (v : View) : Type 0 where
+  pub is : a ≡ Made (record { next = next; size = length (v .bytes); count = v .count; note = v .note })
+  pub wrote : Wrote b b′ pos (v .bytes)
+
+-- a leaf: its head
+pub record Leafed (t : Cut) (b b′ : List ℕ) (pos : ℕ) (a : ReadAnswer) : Type 0 where
+  pub is : a ≡ Made (record { next = t .next; size = length (headBytes (initialBy t) (t .number)); count = 1; note = 0 })
+  pub wrote : Wrote b b′ pos (headBytes (initialBy t) (t .number))
+
+-- a string's head and content
+pub record Stringed (s : List ℕ) (t : Cut) (b b′ : List ℕ) (pos size : ℕ) : Type 0 where
+  pub size-is : size ≡ length (headBytes (initialBy t) (t .number)) + t .number
+  pub wrote : (c : List ℕ) → t .number ≡ length c → Spelled s (t .form) (t .start) (t .stop) c → Wrote b b′ pos (headBytes (initialBy t) (t .number) ++ c)
+  pub same : length b′ ≡ length b
+
+-- a literal: t is one of the kind k, of a size z, which holds c
+pub record LiteralIs (s : List ℕ) (t : Cut) (k : Kind) (z : Size) (c : List ℕ) : Type 0 where
+  pub code : t .code ≡ kindCode k
+  pub size : t .indicator ≡ sizeNumber z
+  pub number : t .number ≡ length c
+  pub spelled : Spelled s (t .form) (t .start) (t .stop) c
+  pub fit : (w : Width) → z ≡ definite w → length c ≤ limit w
+
+pub record LiteralTold (s : List ℕ) (t : Cut) (b b′ : List ℕ) (pos : ℕ) (a : ReadAnswer) : Type 0 where
+  pub is : (k : Kind) (z : Size) (c : List ℕ) → LiteralIs s t k z c → Gave b b′ pos (t .next) a (ofItem (literalItem k z c))
+
+-- a container: a head of a width, by its number, was put before what m has, or is refused at a place
+pub record Finished (b b′ : List ℕ) (pos major width n : ℕ) (m : MadeS) (place note : ℕ) (a : ReadAnswer) : Type 0 where
+  pub refused : width ≡ 0 → Denies badIndicator place a
+  pub made : (width ≡ 0 → ⊥) → a ≡ Made (record { next = m .next; size = length (headBytes (major * 32 + infoBy width n) n) + m .size; count = 1; note = note })
+  pub closed : (width ≡ 0 → ⊥) → b′ ≡ headPut b pos (headBytes (major * 32 + infoBy width n) n) (m .size)
+
+-- a thing of indefinite length: the byte `first` was put before what m has, and a break behind it
+pub record Ended (b b′ : List ℕ) (pos first : ℕ) (m : MadeS) (note : ℕ) (a : ReadAnswer) : Type 0 where
+  pub mid : List ℕ
+  pub front : Wrote b mid pos (first ∷ [])
+  pub back : Wrote mid b′ (pos + m .size + 1) (255 ∷ [])
+  pub is : a ≡ Made (record { next = m .next; size = m .size + 2; count = 1; note = note })
+
+-- what becomes of an item m behind a tag's head of some bytes
+pub record TagMade (n size : ℕ) (m : MadeS) (place : ℕ) (a : ReadAnswer) : Type 0 where
+  pub refused : mayTagNoted n (m .note) ≡ false → Denies badTypedArray place a
+  pub made : mayTagNoted n (m .note) ≡ true → a ≡ Made (record { next = m .next; size = min (size + m .size) (2 ^ 64 - 1); count = 1; note = 0 })
+
+-- the answer for a value behind a key of some bytes
+unfoldable pub joinedAs : ℕ → ReadAnswer → ReadAnswer
+joinedAs size (Made m) = Made (record { next = m .next; size = min (size + m .size) (2 ^ 64 - 1); count = 1; note = 0 })
+joinedAs size (Refused e) = Refused e

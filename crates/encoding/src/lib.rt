@@ -1,0 +1,4 @@
+// encoding
+pub mod answer;
+pub mod close;
+pub mod heads;

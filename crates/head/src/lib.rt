@@ -1,0 +1,198 @@
+// Heads (RFC 8949, section 3): an initial byte and the bytes of the argument behind it.
+use refusal::Refusal;
+use refusal::RefusalKind;
+ghost use mathlib.Core.Path.{_≡_};
+ghost use Prim.Native.Nat.{_/_, _%_};
+ghost use lib.ListN.{take, drop};
+ghost use Rattle.cbor.specs.Widths.{shortest, information, bigEndian, valueFrom};
+ghost use Rattle.memory.specs.Buffer.{overIfFits};
+ghost use Rattle.refusal.specs.RefusalKinds.{kindNumber};
+ghost use Rattle.head.specs.HeadAnswers.{headFound, headRefused, headTold, headAt, argumentSize, headBytes, Formed, Widened, Inside, argumentBy, leastArgument};
+
+// A head that was read. Its additional information is the argument itself up to 23, 24 to 27 where the argument is in the
+// bytes behind it, and 31 where the length is indefinite, or at a break; the argument is 0 there. It ends before `end`.
+pub struct HeadAt {
+    pub major: u8,
+    pub info: u8,
+    pub argument: u64,
+    pub end: usize,
+}
+
+pub enum HeadRead {
+    Head(HeadAt),
+    Refused(Refusal),
+}
+
+fn refuse(kind: RefusalKind, place: usize) -> HeadRead
+    ensures { λ r. ⌜ headTold r ≡ headRefused (kindNumber kind) place ⌝ }
+{
+    HeadRead::Refused(Refusal { kind, place })
+}
+
+fn found(initial: u8, argument: u64, end: usize) -> HeadRead
+    ensures { λ r. ⌜ headTold r ≡ headFound (initial / 32) (initial % 32) argument end ⌝ }
+{
+    HeadRead::Head(HeadAt {
+        major: initial / 32,
+        info: initial % 32,
+        argument,
+        end,
+    })
+}
+
+// What an initial byte says of what stands behind it: 0 an argument, 31 an indefinite length or a break. Else it is refused
+// by a number: 6 a float, 16 what is not well-formed.
+fn form(initial: u8) -> u8
+    ensures { λ r. ⌜ Formed initial r ⌝ }
+{
+    let major = initial / 32;
+    let info = initial % 32;
+    if info <= 24 {
+        return 0;
+    }
+    if info <= 27 {
+        if major == 7 {
+            return 6;
+        }
+        return 0;
+    }
+    if info <= 30 {
+        return 16;
+    }
+    if major <= 1 {
+        return 16;
+    }
+    if major == 6 { 16 } else { 31 }
+}
+
+// How many bytes behind the initial byte hold the argument.
+pub fn argument_size(info: u8) -> usize
+    ensures { λ r. ⌜ r ≡ argumentSize info ⌝ }
+{
+    match info {
+        24 => 1,
+        25 => 2,
+        26 => 4,
+        27 => 8,
+        _ => 0,
+    }
+}
+
+fn wide(b: u8) -> u64
+    ensures { λ r. ⌜ Widened b r ⌝ }
+{
+    b as u64
+}
+
+// The number that bytes make, `size` of them from a place on, high byte first.
+pub fn read_number(bytes: &[u8], from: usize, size: usize) -> u64
+    requires { ⌜ Inside (now bytes) from size ⌝ }
+    ensures { λ r. ⌜ r ≡ valueFrom 0 (take size (drop from (now (bytes .entry)))) ⌝ }
+{
+    let mut v: u64 = 0;
+    let mut i: usize = 0;
+    while i < size {
+        v = v * 256 + wide(bytes[from + i]);
+        i += 1;
+    }
+    v
+}
+
+// The argument: the additional information itself, or the number in the bytes behind it.
+fn argument_at(bytes: &[u8], from: usize, info: u8, size: usize) -> u64
+    requires { ⌜ Inside (now bytes) from size ⌝ }
+    ensures { λ r. ⌜ r ≡ argumentBy size info (take size (drop from (now (bytes .entry)))) ⌝ }
+{
+    if size == 0 {
+        return wide(info);
+    }
+    read_number(bytes, from, size)
+}
+
+// The least argument that an initial byte may have: f8 is followed by 20 hex or more.
+fn least_argument(initial: u8) -> u64
+    ensures { λ r. ⌜ r ≡ leastArgument initial ⌝ }
+{
+    if initial == 0xf8 { 32 } else { 0 }
+}
+
+// The head at a place.
+pub fn read_head(bytes: &[u8], at: usize) -> HeadRead
+    ensures { λ r. ⌜ headTold r ≡ headAt (now (bytes .entry)) at ⌝ }
+{
+    if bytes.len() <= at {
+        return refuse(RefusalKind::EndsInside, bytes.len());
+    }
+    let initial = bytes[at];
+    let f = form(initial);
+    if f == 6 {
+        return refuse(RefusalKind::Float, at);
+    }
+    if f == 16 {
+        return refuse(RefusalKind::NotWellFormed, at);
+    }
+    if f == 31 {
+        return found(initial, 0, at + 1);
+    }
+    let info = initial % 32;
+    let size = argument_size(info);
+    if bytes.len() - at <= size {
+        return refuse(RefusalKind::EndsInside, at);
+    }
+    let argument = argument_at(bytes, at + 1, info, size);
+    if argument < least_argument(initial) {
+        return refuse(RefusalKind::NotWellFormed, at);
+    }
+    found(initial, argument, at + 1 + size)
+}
+
+// The additional information of the shortest head for an argument.
+pub fn shortest_info(n: u64) -> u8
+    ensures { λ r. ⌜ r ≡ information (shortest n) n ⌝ }
+{
+    if n <= 23 {
+        n as u8
+    } else if n <= 0xff {
+        24
+    } else if n <= 0xffff {
+        25
+    } else if n <= 0xffff_ffff {
+        26
+    } else {
+        27
+    }
+}
+
+// Writes a number in `size` bytes from a place on, high byte first, if they fit.
+pub fn write_number(out: &mut [u8], from: usize, size: usize, n: u64)
+    ensures { λ _. ⌜ now (out .exit) ≡ overIfFits (now (out .entry)) from (bigEndian size n) ⌝ }
+{
+    if out.len() < size {
+        return;
+    }
+    if out.len() - size < from {
+        return;
+    }
+    let mut m = n;
+    let mut k = size;
+    while 0 < k {
+        k -= 1;
+        out[from + k] = (m % 256) as u8;
+        m = m / 256;
+    }
+}
+
+// Writes an initial byte and the bytes of the argument that its additional information asks for, if they all fit.
+pub fn write_head(out: &mut [u8], at: usize, initial: u8, argument: u64)
+    ensures { λ _. ⌜ now (out .exit) ≡ overIfFits (now (out .entry)) at (headBytes initial argument) ⌝ }
+{
+    let size = argument_size(initial % 32);
+    if out.len() <= at {
+        return;
+    }
+    if out.len() - at <= size {
+        return;
+    }
+    out[at] = initial;
+    write_number(out, at + 1, size, argument);
+}

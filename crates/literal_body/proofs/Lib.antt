@@ -1,0 +1,2 @@
+pub mod LiteralCode
+pub mod LiteralViews

@@ -1,0 +1,393 @@
+-- String literals: single bytes, writes of a few bytes, and the raw text of an encoded literal.
+-- Assumes nothing.
+use mathlib.Core.Path.{_≡_, refl, sym, ap, _∙_, subst⁻¹}
+use mathlib.Core.List.{List, [], _∷_, _++_, append-assoc, append-nil}
+use mathlib.Core.Bool.{Bool, true, false, _||_}
+use Prim.Native.Nat.{ℕ, zero, suc, _+_, _-_, _≤_, _<_, min}
+use native.Mathlib.Numerals.{add-one}
+use native.Mathlib.Nat.{add-zero}
+use native.Mathlib.Omega.{arith}
+use lib.Dec.{T, leb, eqb, eqb→eq}
+use lib.ListN.{length, take, drop, set, getD, replicate, length-append, length-set, drop-of-length-le}
+use lib.Seq.{drop-cons, drop-at, take-at}
+use borrow.Author.Tests.{le-leb, lt-leb, eq-eqb, ne-eqb, eqb-true, leb-true, leb-false}
+use Rattle.cbor.specs.Refusals.{Result, ok, refuse, bind, noToken}
+use Rattle.cbor.specs.Utf8.{isIn}
+use Rattle.memory.specs.Buffer.{over}
+use Rattle.memory.proofs.Buffer.{over-nil, over-one, over-more}
+use Rattle.cbor.proofs.Table.{every, between, byte}
+use Rattle.notation.specs.Classes.{blank, slash, hash, classNumber, classRows, classIn, classOf, is}
+use Rattle.notation.specs.Numbers.{digitValue}
+use Rattle.notation.specs.Scanning.{fault}
+use Rattle.notation.specs.Literals.{isBody, body, Content, standsFor, bad, after}
+use Rattle.notation.specs.Reading.{marked}
+use Rattle.literal_body.specs.LiteralAnswers.{scannedBy, Raw, decodedBy, Decodes, Put, bodyByte, BodyByte, few}
+use Rattle.literal_body.specs.declared.LiteralScan.{LiteralScan}
+
+-- BYTES
+
+-- a test of two bools
+pub same : Bool → Bool → Bool
+same true true = true
+same true false = false
+same false true = false
+same false false = true
+
+pub same-is : (a b : Bool) → T (same a b) → a ≡ b
+unfolding same
+same-is true true t = refl
+same-is true false t = absurd t
+same-is false true t = absurd t
+same-is false false t = refl
+
+-- the classes that literals ask for, by the bytes that have them
+pub isBlank : ℕ → Bool
+isBlank b = eqb b 0x09 || (eqb b 0x0a || (eqb b 0x0d || eqb b 0x20))
+
+module _ (b : ℕ) (h : b < 256) where
+  pub blank-is : is blank b ≡ isBlank b
+  unfolding is classNumber classOf classIn classRows isIn isBlank same
+  blank-is = same-is (is blank b) (isBlank b) (byte (λ k. same (is blank k) (isBlank k)) tt b h)
+
+  pub slash-is : is slash b ≡ eqb b 0x2f
+  unfolding is classNumber classOf classIn classRows isIn same
+  slash-is = same-is (is slash b) (eqb b 0x2f) (byte (λ k. same (is slash k) (eqb k 0x2f)) tt b h)
+
+  pub hash-is : is hash b ≡ eqb b 0x23
+  unfolding is classNumber classOf classIn classRows isIn same
+  hash-is = same-is (is hash b) (eqb b 0x23) (byte (λ k. same (is hash k) (eqb k 0x23)) tt b h)
+
+module _ {b : ℕ} where
+  pub blank-tab : b ≡ 0x09 → true ≡ is blank b
+  unfolding is classNumber classOf classIn classRows isIn
+  blank-tab e = rw e
+
+  pub blank-line : b ≡ 0x0a → true ≡ is blank b
+  unfolding is classNumber classOf classIn classRows isIn
+  blank-line e = rw e
+
+  pub blank-return : b ≡ 0x0d → true ≡ is blank b
+  unfolding is classNumber classOf classIn classRows isIn
+  blank-return e = rw e
+
+  pub blank-space : b ≡ 0x20 → true ≡ is blank b
+  unfolding is classNumber classOf classIn classRows isIn
+  blank-space e = rw e
+
+  pub blank-none : b < 256 → (b ≡ 0x09 → ⊥) → (b ≡ 0x0a → ⊥) → (b ≡ 0x0d → ⊥) → (b ≡ 0x20 → ⊥) → false ≡ is blank b
+  unfolding isBlank
+  blank-none h n₁ n₂ n₃ n₄ = sym (blank-is b h ∙ simp (isBlank, ne-eqb b 0x09 n₁, ne-eqb b 0x0a n₂, ne-eqb b 0x0d n₃, ne-eqb b 0x20 n₄))
+
+pub ruleset blank-ways = (blank-tab, blank-line, blank-return, blank-space, blank-none)
+
+-- the value of a digit, between two bounds: none, or counted from a base
+module _ {b : ℕ} (lo hi : ℕ) (p : lo ≤ b) (q : b < hi) where
+  no-digit : T (every (λ k x. eqb 99 (digitValue k)) lo (replicate (hi - lo) 0)) → 99 ≡ digitValue b
+  no-digit t = eqb→eq 99 (digitValue b) (between (λ k. eqb 99 (digitValue k)) lo hi t b p q)
+
+  a-digit : (z : ℕ) → T (every (λ k x. eqb (k - z) (digitValue k)) lo (replicate (hi - lo) 0)) → b - z ≡ digitValue b
+  a-digit z t = eqb→eq (b - z) (digitValue b) (between (λ k. eqb (k - z) (digitValue k)) lo hi t b p q)
+
+module _ {b : ℕ} where
+  pub digit-below : b < 0x30 → 99 ≡ digitValue b
+  unfolding digitValue isIn
+  digit-below h = no-digit 0 0x30 (omega arith) h tt
+
+  pub digit-decimal : 0x30 ≤ b → b < 0x3a → b - 0x30 ≡ digitValue b
+  unfolding digitValue isIn
+  digit-decimal l h = a-digit 0x30 0x3a l h 0x30 tt
+
+  pub digit-between : 0x3a ≤ b → b < 0x41 → 99 ≡ digitValue b
+  unfolding digitValue isIn
+  digit-between l h = no-digit 0x3a 0x41 l h tt
+
+  pub digit-upper : 0x41 ≤ b → b < 0x47 → b - 0x37 ≡ digitValue b
+  unfolding digitValue isIn
+  digit-upper l h = a-digit 0x41 0x47 l h 0x37 tt
+
+  pub digit-beyond : 0x47 ≤ b → b < 0x61 → 99 ≡ digitValue b
+  unfolding digitValue isIn
+  digit-beyond l h = no-digit 0x47 0x61 l h tt
+
+  pub digit-lower : 0x61 ≤ b → b < 0x67 → b - 0x57 ≡ digitValue b
+  unfolding digitValue isIn
+  digit-lower l h = a-digit 0x61 0x67 l h 0x57 tt
+
+  pub digit-above : 0x67 ≤ b → b < 256 → 99 ≡ digitValue b
+  unfolding digitValue isIn
+  digit-above l h = no-digit 0x67 256 l h tt
+
+pub ruleset digit-ways = (digit-below, digit-decimal, digit-between, digit-upper, digit-beyond, digit-lower, digit-above)
+
+-- PLACES IN A TEXT
+
+pub front : (s : List ℕ) (at : ℕ) → at < length s → drop at s ≡ getD s at 0 ∷ drop (at + 1) s
+front s at h = rw (add-one, drop-cons s at 0)
+
+drop-append : (s t : List ℕ) (i : ℕ) → i ≤ length s → drop i (s ++ t) ≡ drop i s ++ t
+drop-append s t zero h = refl
+drop-append [] t (suc i) h = absurd (omega arith)
+drop-append (b ∷ s) t (suc i) h = drop-append s t i (omega arith)
+
+-- a byte of the text, and the end mark behind it
+pub front-marked : (s : List ℕ) (i : ℕ) → i < length s → drop i (marked s) ≡ getD s i 0 ∷ drop (i + 1) (marked s)
+unfolding marked
+front-marked s i h =
+    let a : i ≤ length s = omega arith in
+    let b : i + 1 ≤ length s = omega arith in
+    drop-append s (256 ∷ []) i a ∙ ap (λ (x : List ℕ). x ++ 256 ∷ []) (front s i h) ∙ ap (λ (x : List ℕ). getD s i 0 ∷ x) (sym (drop-append s (256 ∷ []) (i + 1) b))
+
+pub true-false : _≡_ {A = Bool} true false → ⊥
+true-false z = let w : _≡_ {A = ℕ} 0 1 = cc in absurd (omega arith)
+
+-- what holds of the end mark alone and of nothing holds behind the text
+pub past : (P : List ℕ → Type 0) (s : List ℕ) (i : ℕ) → length s ≤ i → P (256 ∷ []) → P [] → P (drop i (marked s))
+unfolding marked
+past P s i h p q = go (eqb i (length s)) refl
+  where
+    go : (t : Bool) → eqb i (length s) ≡ t → P (drop i (s ++ 256 ∷ []))
+    go true e =
+        let e′ : length s ≡ i = sym (eqb-true i (length s) e) in
+        subst⁻¹ P (drop-at s (256 ∷ []) i e′) p
+    go false e =
+        let n : i ≡ length s → ⊥ = λ y. let z : _≡_ {A = Bool} true false = sym (eq-eqb i (length s) y) ∙ e in true-false z in
+        let l : length (s ++ 256 ∷ []) ≤ i = omega (arith, length-append s (256 ∷ [])) in
+        subst⁻¹ P (drop-of-length-le (s ++ 256 ∷ []) l) q
+
+-- a part of a text, from i to an end
+pub front-part : (s : List ℕ) (i end : ℕ) → i < min end (length s) → take (end - i) (drop i s) ≡ getD s i 0 ∷ take (end - (i + 1)) (drop (i + 1) s)
+front-part s i end h =
+    let l : i < length s = omega arith in
+    let e : end - i ≡ suc (end - (i + 1)) = omega arith in
+    rw (e, front s i l)
+
+pub take-none : (n : ℕ) → take {A = ℕ} n [] ≡ []
+take-none zero = refl
+take-none (suc n) = refl
+
+pub part-end : (s : List ℕ) (i end : ℕ) → min end (length s) ≤ i → take (end - i) (drop i s) ≡ []
+part-end s i end h = go (leb end i) refl
+  where
+    go : (t : Bool) → leb end i ≡ t → take (end - i) (drop i s) ≡ []
+    go true e = let h′ = leb-true end i e in let z : end - i ≡ 0 = omega arith in rw z
+    go false e =
+        let h′ = leb-false end i e in
+        let l : length s ≤ i = omega arith in
+        rw (drop-of-length-le s l) (take-none (end - i))
+
+-- WRITES
+
+pub put-none : (b : List ℕ) (p : ℕ) → Put b b p p []
+put-none b p = record { same = refl; is = λ h. sym (over-nil b p); next = λ h. sym (add-zero p) }
+
+pub put-past : (b : List ℕ) (p v : ℕ) → length b ≤ p → Put b b p p (v ∷ [])
+put-past b p v h = record { same = refl; is = λ l. absurd (omega arith); next = λ l. absurd (omega arith) }
+
+pub put-one : (b : List ℕ) (p v : ℕ) → p < length b → Put b (set b p v) p (p + 1) (v ∷ [])
+put-one b p v h = record { same = length-set b p v; is = λ l. over-one b p v h; next = λ l. refl }
+
+-- two writes in a row
+pub put-more : {b b₁ b₂ : List ℕ} {p p₁ p₂ : ℕ} {ws vs : List ℕ} → Put b b₁ p p₁ ws → Put b₁ b₂ p₁ p₂ vs → Put b b₂ p p₂ (ws ++ vs)
+put-more {b} {b₁} {b₂} {p} {p₁} {p₂} {ws} {vs} x y =
+    let n = length-append ws vs in
+    record {
+      same = y .same ∙ x .same;
+      is = λ h.
+          let l : p + length ws ≤ length b = omega arith in
+          let i : p ≤ length b = omega arith in
+          let e = x .next l in
+          let f : p₁ + length vs ≤ length b₁ = omega (arith, x .same) in
+          y .is f ∙ (λ j. over (x .is l j) (e j) vs) ∙ over-more b p ws i vs;
+      next = λ h.
+          let l : p + length ws ≤ length b = omega arith in
+          let e = x .next l in
+          let f : p₁ + length vs ≤ length b₁ = omega (arith, x .same) in
+          y .next f ∙ omega arith;
+    }
+
+pub put-two : {b b₁ b₂ : List ℕ} {p p₁ p₂ v w : ℕ} → Put b b₁ p p₁ (v ∷ []) → Put b₁ b₂ p₁ p₂ (w ∷ []) → Put b b₂ p p₂ (v ∷ w ∷ [])
+put-two x y = put-more x y
+
+pub few-none : (b : List ℕ) (p n v : ℕ) → n ≡ 0 → Put b b p p (few n v)
+unfolding few
+few-none b p n v e = rw e (put-none b p)
+
+pub few-one : {b b′ : List ℕ} {p r v : ℕ} (n : ℕ) → (n ≡ 0 → ⊥) → Put b b′ p r (v ∷ []) → Put b b′ p r (few n v)
+unfolding few
+few-one zero h x = absurd (h refl)
+few-one (suc n) h x = x
+
+pub ruleset few-ways = (few-none, few-one)
+
+-- THE RAW TEXT
+
+module _ (b : ℕ) where
+  pub body-quote : b ≡ 0x27 → BodyByte b 1
+  unfolding bodyByte
+  body-quote e = record { is = rw e }
+
+  pub body-backslash : (b ≡ 0x27 → ⊥) → b ≡ 0x5c → BodyByte b 2
+  unfolding bodyByte
+  body-backslash n e = record { is = rw e }
+
+  module _ (n : b ≡ 0x27 → ⊥) (n₂ : b ≡ 0x5c → ⊥) where
+    body-is : (t : Bool) → isBody b ≡ t → bodyByte b ≡ elim t [ true ↦ 0 | false ↦ 2 ]
+    unfolding bodyByte
+    body-is t e = simp (bodyByte, ne-eqb b 0x27 n, ne-eqb b 0x5c n₂, e)
+
+    pub body-plain : b < 256 → 0x20 ≤ b → BodyByte b 0
+    unfolding isBody
+    body-plain u h =
+        let l : b ≤ 0xff = omega arith in
+        let e : isBody b ≡ true = rw (le-leb 0x20 b h, le-leb b 0xff l) (or-true (is blank b)) in
+        record { is = sym (body-is true e) }
+      where
+        or-true : (t : Bool) → t || true ≡ true
+        or-true true = refl
+        or-true false = refl
+
+    module _ (h : b < 0x20) {t : Bool} (x : t ≡ is blank b) where
+      body-low : isBody b ≡ t
+      unfolding isBody
+      body-low = rw (lt-leb 0x20 b h, ← x) (or-false t)
+        where
+          or-false : (t : Bool) → t || false ≡ t
+          or-false true = refl
+          or-false false = refl
+
+      pub body-blank : t ≡ true → BodyByte b 0
+      body-blank e = record { is = sym (body-is true (body-low ∙ e)) }
+
+      pub body-other : t ≡ false → BodyByte b 2
+      body-other e = record { is = sym (body-is false (body-low ∙ e)) }
+
+pub ruleset body-ways = (body-quote, body-backslash, body-plain, body-blank, body-other)
+
+-- what is read goes before what follows
+abbrev pub pre : List ℕ → Result (List ℕ) → Result (List ℕ)
+pre w res = bind res (λ c r. ok (w ++ c) r)
+
+pub pre-nil : (res : Result (List ℕ)) → pre [] res ≡ res
+unfolding bind
+pre-nil (ok c r) = refl
+pre-nil (refuse n q) = refl
+
+pub pre-pre : (u w : List ℕ) (res : Result (List ℕ)) → pre u (pre w res) ≡ pre (u ++ w) res
+unfolding bind
+pre-pre u w (ok c r) = ap (λ (x : List ℕ). ok x r) (sym (append-assoc u w c))
+pre-pre u w (refuse n q) = refl
+
+bodyNext : ℕ → ℕ → List ℕ → Result (List ℕ)
+bodyNext zero b s = pre (b ∷ []) (body s)
+bodyNext (suc zero) b s = ok [] s
+bodyNext (suc (suc k)) b s = fault noToken
+
+body-next : (b k : ℕ) (s : List ℕ) → k ≡ bodyByte b → body (b ∷ s) ≡ bodyNext k b s
+unfolding body bodyByte bodyNext
+body-next b k s e = go (eqb b 0x27) (eqb b 0x5c) (isBody b) ∙ ap (λ (x : ℕ). bodyNext x b s) (sym e)
+  where
+    go : (t u v : Bool) → _≡_ {A = Result (List ℕ)}
+        (elim t [ true ↦ ok [] s | false ↦ elim u [ true ↦ fault noToken | false ↦ elim v [ true ↦ bind (body s) (λ c r. ok (b ∷ c) r) | false ↦ fault noToken ] ] ])
+        (bodyNext (elim t [ true ↦ 1 | false ↦ elim u [ true ↦ 2 | false ↦ elim v [ true ↦ 0 | false ↦ 2 ] ] ]) b s)
+    go true u v = refl
+    go false true v = refl
+    go false false true = refl
+    go false false false = refl
+
+body-zero : (b k : ℕ) → k ≡ bodyByte b → (k ≡ 1 → ⊥) → (k ≡ 2 → ⊥) → k ≡ 0
+unfolding bodyByte
+body-zero b k e n₁ n₂ = go (eqb b 0x27) (eqb b 0x5c) (isBody b) e
+  where
+    go : (t u v : Bool) → k ≡ elim t [ true ↦ 1 | false ↦ elim u [ true ↦ 2 | false ↦ elim v [ true ↦ 0 | false ↦ 2 ] ] ] → k ≡ 0
+    go true u v q = absurd (n₁ q)
+    go false true v q = absurd (n₂ q)
+    go false false true q = q
+    go false false false q = absurd (n₂ q)
+
+pub ok-content : {c d r t : List ℕ} → _≡_ {A = Result (List ℕ)} (ok c r) (ok d t) → c ≡ d
+ok-content e = cc
+
+-- the loop: the raw text up to i is read
+pub record Body (s : List ℕ) (at i : ℕ) : Type 0 where
+  pub done : List ℕ
+  pub from : at ≤ i
+  pub sized : length done ≡ i - at
+  pub split : drop at s ≡ done ++ drop i s
+  pub left : body (drop at (marked s)) ≡ pre done (body (drop i (marked s)))
+
+pub body-start : {s : List ℕ} {at : ℕ} → Body s at at
+body-start {s} {at} =
+    record { done = []; from = omega arith; sized = omega arith; split = refl; left = sym (pre-nil (body (drop at (marked s)))) }
+
+pub raw-no : {s : List ℕ} {at : ℕ} {res : Result (List ℕ)} (n z : ℕ) → res ≡ fault n → Raw s at (record { good = false; next = z; size = 0 }) res
+unfolding scannedBy
+raw-no {s} {at} {res} n z e =
+    record {
+      scans = rw e (record { by = refl });
+      is = λ c rest q. let w : _≡_ {A = ℕ} 0 1 = cc in absurd (omega arith);
+      next = λ q. absurd (true-false (sym q));
+    }
+
+module _ {s : List ℕ} {at i : ℕ} (inv : Body s at i) where
+  module _ {k : ℕ} (h : i < length s) (x : BodyByte (getD s i 0) k) where
+    here : body (drop at (marked s)) ≡ pre (inv .done) (bodyNext k (getD s i 0) (drop (i + 1) (marked s)))
+    here =
+        inv .left
+        ∙ ap (λ (u : List ℕ). pre (inv .done) (body u)) (front-marked s i h)
+        ∙ ap (pre (inv .done)) (body-next (getD s i 0) k (drop (i + 1) (marked s)) (x .is))
+
+    pub body-close : k ≡ 1 → Raw s at (record { good = true; next = i + 1; size = i - at }) (body (drop at (marked s)))
+    unfolding scannedBy bodyNext bind
+    body-close e =
+        let r : body (drop at (marked s)) ≡ ok (inv .done ++ []) (drop (i + 1) (marked s)) = rw e at here in
+        let r′ : body (drop at (marked s)) ≡ ok (inv .done) (drop (i + 1) (marked s)) = r ∙ ap (λ (u : List ℕ). ok u (drop (i + 1) (marked s))) (append-nil (inv .done)) in
+        record {
+          scans = rw r′ (record { by = record { good = refl; size = sym (inv .sized); left = refl; inside = omega arith; ahead = omega (arith, inv .from); short = omega (arith, inv .from) } });
+          is = λ c rest q.
+              let f : c ≡ inv .done = ok-content (sym q ∙ r′) in
+              f ∙ sym (ap (take (i - at)) (inv .split) ∙ take-at (inv .done) (drop i s) (i - at) (inv .sized));
+          next = λ q. omega (arith, inv .from);
+        }
+
+    pub body-wrong : k ≡ 2 → Raw s at (record { good = false; next = at; size = 0 }) (body (drop at (marked s)))
+    unfolding bodyNext bind
+    body-wrong e = raw-no noToken at (rw e at here)
+
+    pub body-on : (k ≡ 1 → ⊥) → (k ≡ 2 → ⊥) → Body s at (i + 1)
+    unfolding bodyNext
+    body-on n₁ n₂ =
+        let z : k ≡ 0 = body-zero (getD s i 0) k (x .is) n₁ n₂ in
+        let b = getD s i 0 in
+        record {
+          done = inv .done ++ (b ∷ []);
+          from = omega (arith, inv .from);
+          sized = length-append (inv .done) (b ∷ []) ∙ omega (arith, inv .sized, inv .from);
+          split = inv .split ∙ ap (λ (u : List ℕ). inv .done ++ u) (front s i h) ∙ sym (append-assoc (inv .done) (b ∷ []) (drop (i + 1) s));
+          left = (rw z at here) ∙ pre-pre (inv .done) (b ∷ []) (body (drop (i + 1) (marked s)));
+        }
+
+  pub body-end : length s ≤ i → Raw s at (record { good = false; next = at; size = 0 }) (body (drop at (marked s)))
+  unfolding body isBody is classNumber classOf classIn classRows isIn bind
+  body-end h =
+      let e : body (drop i (marked s)) ≡ fault noToken = past (λ u. body u ≡ fault noToken) s i h refl refl in
+      raw-no noToken at (inv .left ∙ ap (pre (inv .done)) e)
+
+pub ruleset raw-ways = (body-close, body-wrong, body-end)
+
+-- CONTENT
+
+pub after-nil : (c : Content) → after [] c ≡ c
+unfolding after
+after-nil (standsFor c) = refl
+after-nil bad = refl
+
+pub after-after : (u w : List ℕ) (c : Content) → after u (after w c) ≡ after (u ++ w) c
+unfolding after
+after-after u w (standsFor c) = ap standsFor (sym (append-assoc u w c))
+after-after u w bad = refl
+
+pub content-is : {c d : List ℕ} → standsFor c ≡ standsFor d → c ≡ d
+content-is e = cc
+
+pub decodes : {r : LiteralScan} {res : Content} (res′ : Content) → res ≡ res′ → decodedBy r res′ → Decodes r res
+decodes res′ e d = rw e (record { by = d })

@@ -1,0 +1,13 @@
+-- `edn::look::checked_all` meets its contract.
+-- Assumes nothing.
+use borrow.Author.Needs.{needs}
+use Rattle.looking.proofs.checked_all.Statement.{statement}
+use Rattle.looking.proofs.checked_all.Tie as tie
+use Rattle.looking.proofs.Parts.{bytes-of}
+
+pub checked-all-spec : {M : Type 1} → statement M
+checked-all-spec =
+    tie.close (tie.spec
+    (λ c κs. search needs)  -- walk-all-requires
+    (λ c. record { is = search needs; bytes = bytes-of _ (c .before .shared-slice-known .given) })  -- returns
+    )

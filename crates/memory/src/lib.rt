@@ -1,0 +1,1 @@
+// What is written into lent memory, and sums in code: definitions and their laws, no code.

@@ -1,0 +1,3 @@
+pub mod AmountCode
+pub mod IndicatorCode
+pub mod NumberCode

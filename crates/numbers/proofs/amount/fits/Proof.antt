@@ -1,0 +1,14 @@
+-- `tokens::amount::fits` meets its contract.
+-- Assumes nothing.
+use borrow.Author.Needs.{needs}
+use Rattle.numbers.proofs.amount.fits.Statement.{statement}
+use Rattle.numbers.proofs.amount.fits.Tie as tie
+use Rattle.numbers.proofs.AmountCode.{limit-sub, limit-is}
+
+pub fits-spec : {M : Type 1} → statement M
+fits-spec =
+    tie.close (tie.spec
+    (λ c. search limit-sub)  -- sub-result
+    (λ c. search needs)  -- div-result
+    (λ c. search limit-is)  -- returns
+    )

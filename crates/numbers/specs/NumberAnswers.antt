@@ -1,0 +1,107 @@
+-- What the code that reads numbers and indicators answers. s is a text.
+use Prim.Native.Nat.{ℕ, zero, suc, _+_, _*_, _≤_, _<_, min}
+use mathlib.Core.Path.{_≡_}
+use mathlib.Core.Bool.{Bool, true, false}
+use mathlib.Core.List.{List, [], _∷_}
+use lib.Dec.{leb, eqb}
+use lib.ListN.{length, drop}
+use Rattle.cbor.specs.Refusals.{ok}
+use Rattle.cbor.specs.Widths.{Width, w0, w1, w2, w4, w8, limit, shortest}
+use Rattle.cbor.specs.Flags.{signOf}
+use Rattle.cbor.specs.Items.{Sign}
+use Rattle.notation.specs.Indicators.{Indicator, indicator, Chosen, chosen, misfit, choose}
+use Rattle.notation.specs.Numbers.{digitValue, isDigit, numberFrom, makesFloat, isFloating, judged, integer, decimal, based, afterZero}
+use Rattle.notation.specs.Tokens.{Token}
+use Rattle.notation.specs.Reading.{marked}
+use Rattle.scanning.specs.Stands.{span}
+use Rattle.scanning.specs.ScanAnswers.{Ran}
+use Rattle.token.specs.TokenAnswers.{widthNumber, indicatorNumber, codeOf, markOf, numberOf, Written, Says}
+use Rattle.numbers.specs.declared.amount.Amount.{Amount}
+use Rattle.numbers.specs.declared.amount.Digits.{Digits}
+use Rattle.numbers.specs.declared.indicator.Mark.{Mark}
+use Rattle.token.specs.declared.Token.{Token as Cut}
+
+-- AMOUNTS: a number up to one above 2^64, which stands for all that are larger
+unfoldable pub heavy : Bool → ℕ
+heavy true = 0x1_0000_0000_0000_0000
+heavy false = 0
+
+pub record Counts (a : Amount) (n : ℕ) : Type 0 where
+  pub is : a .value + heavy (a .over) ≡ min n 0x1_0000_0000_0000_0001
+  pub small : a .value ≤ 0xffff_ffff_ffff_ffff
+
+pub record Base (radix d : ℕ) : Type 0 where
+  pub least : 2 ≤ radix
+  pub most : radix ≤ 16
+  pub digit : d < radix
+
+-- a digit more
+pub record Grown (a : Amount) (radix d : ℕ) (r : Amount) : Type 0 where
+  pub is : (n : ℕ) → Counts a n → Counts r (n * radix + d)
+
+-- whether the element behind digits makes a float of them
+unfoldable pub floatAt : ℕ → List ℕ → Bool
+floatAt radix [] = false
+floatAt radix (b ∷ r) = makesFloat radix b
+
+pub record ScansDigits (s : List ℕ) (at radix first : ℕ) : Type 0 where
+  pub inside : at ≤ length s
+  pub least : 2 ≤ radix
+  pub most : radix ≤ 16
+  pub start : first ≤ 99
+
+-- the digits from at on, behind those that make first
+pub record Counted (s : List ℕ) (at radix first : ℕ) (r : Digits) : Type 0 where
+  pub ran : Ran s (isDigit radix) at (r .next)
+  pub counts : Counts (r .amount) (numberFrom radix first (span at (r .next) (marked s)))
+  pub floats : isFloating radix (drop at (marked s)) ≡ floatAt radix (drop (r .next) (marked s))
+
+-- INDICATORS
+pub record Indicated (s : List ℕ) (at : ℕ) (m : Mark) : Type 0 where
+  pub ind : Indicator
+  pub is : indicator (drop at (marked s)) ≡ ok ind (drop (m .next) (marked s))
+  pub mark : m .mark ≡ indicatorNumber ind
+  pub inside : m .next ≤ length s
+  pub ahead : at ≤ m .next
+
+-- the largest argument of a width, by its number; the number of the width that an indicator gives an argument, 0: a misfit
+unfoldable pub limitBy : ℕ → ℕ
+limitBy m = elim (eqb m 3) [ true ↦ limit w0 | false ↦ elim (eqb m 4) [ true ↦ limit w1 | false ↦ elim (eqb m 5) [ true ↦ limit w2 | false ↦ elim (eqb m 6) [ true ↦ limit w4 | false ↦ limit w8 ] ] ] ]
+
+unfoldable pub chooseBy : ℕ → ℕ → ℕ
+chooseBy m n = elim (eqb m 0) [ true ↦ widthNumber (shortest n) | false ↦ elim (leb m 2) [ true ↦ 0 | false ↦ elim (leb n (limitBy m)) [ true ↦ m | false ↦ 0 ] ] ]
+
+unfoldable pub chosenNumber : Chosen → ℕ
+chosenNumber (chosen w) = widthNumber w
+chosenNumber misfit = 0
+
+-- n is v, or over the limit
+pub record Limited (v : ℕ) (over : Bool) (n : ℕ) : Type 0 where
+  pub within : over ≡ false → n ≡ v
+  pub above : over ≡ true → limit w8 < n
+  pub small : v ≤ limit w8
+
+-- the tokens that n makes with each width
+pub record Makes (c n : ℕ) (make : Width → Token) : Type 0 where
+  pub code : (w : Width) → c ≡ codeOf (make w)
+  pub mark : (w : Width) → widthNumber w ≡ markOf (make w)
+  pub number : (w : Width) → n ≡ numberOf (make w)
+  pub written : (s : List ℕ) (t : Cut) (w : Width) → Written s t (make w)
+
+pub record Judging (code mark v : ℕ) (over : Bool) (place next : ℕ) (t : Cut) : Type 0 where
+  pub is : (s : List ℕ) (n : ℕ) (i : Indicator) (make : Width → Token) → Limited v over n → mark ≡ indicatorNumber i → Makes code n make → next ≤ length s
+      → Says s place t (judged n (choose i n) make (drop next (marked s)))
+
+pub record Integral (minus : Bool) (a : Amount) (m : Mark) (place : ℕ) (t : Cut) : Type 0 where
+  pub is : (s : List ℕ) (at n : ℕ) → Counts a n → (x : Indicated s at m) → Says s place t (integer (signOf minus) n (x .ind) (drop (m .next) (marked s)))
+
+pub record Decimals (s : List ℕ) (place at : ℕ) (minus : Bool) (a : Amount) (t : Cut) : Type 0 where
+  pub is : (n : ℕ) → Counts a n → Says s place t (decimal (signOf minus) n (drop at (marked s)))
+
+-- the radix behind a zero, with a digit of it; 0: none
+pub record Prefixed (s : List ℕ) (at radix : ℕ) : Type 0 where
+  pub none : radix ≡ 0 → (g : Sign) → afterZero g (drop at (marked s)) ≡ decimal g 0 (drop at (marked s))
+  pub some : (radix ≡ 0 → ⊥) → (g : Sign) → afterZero g (drop at (marked s)) ≡ based g radix (digitValue (lib.ListN.getD s (at + 1) 0)) (drop (at + 2) (marked s))
+  pub inside : (radix ≡ 0 → ⊥) → at + 2 ≤ length s
+  pub least : (radix ≡ 0 → ⊥) → 2 ≤ radix
+  pub most : radix ≤ 16

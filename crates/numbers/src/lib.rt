@@ -1,0 +1,4 @@
+// numbers
+pub mod amount;
+pub mod indicator;
+pub mod number;

@@ -1,0 +1,4 @@
+pub mod Operations
+pub mod Demands
+pub mod Examples
+pub mod Programs

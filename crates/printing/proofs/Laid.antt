@@ -1,0 +1,75 @@
+-- Results laid into a buffer, and printing.
+-- Assumes nothing.
+use Prim.Native.Nat.{ℕ, _-_, _≤_, _<_, min}
+use native.Mathlib.Omega.{arith}
+use mathlib.Core.Path.{_≡_, refl, sym, ap, _∙_}
+use mathlib.Core.Bool.{Bool, true, false}
+use mathlib.Core.List.{List, []}
+use lib.Dec.{leb}
+use lib.ListN.{length}
+use borrow.Author.Tests.{le-leb, lt-leb, leb-true, leb-false}
+use Rattle.cbor.specs.Refusals.{Result, ok, refuse, verdictOf}
+use Rattle.cbor.specs.Items.{Items}
+use Rattle.cbor.specs.Decode.{decode}
+use Rattle.memory.specs.Buffer.{over}
+use Rattle.refusal.specs.RefusalKinds.{kindNumber}
+use Rattle.walk.specs.WalkAnswers.{passTold, mapResult, toldOf, walkAllOf, contentsAll}
+use Rattle.refusal.specs.declared.Refusal.{Refusal}
+use Rattle.refusal.specs.declared.RefusalKind.the-variants.{NoRoom}
+use Rattle.walk.specs.declared.Passage.{Passage}
+use Rattle.walk.specs.declared.Passed.{Passed}
+use Rattle.walk.specs.declared.Passed.the-variants.{Span as SpanV, Refused as RefusedV}
+use Rattle.notation.specs.Printing.{printText}
+use Rattle.printer.specs.PrintAnswers.{PrintedAll, TextSize}
+use Rattle.operations.specs.Operations.{written, itemsOf, textOf, andThen, print}
+use Rattle.cbor.specs.Valid.{Bytes}
+use Rattle.cbor.proofs.EncodeDecode.{encode-of-decode}
+use Rattle.looking.specs.Answers.{Checks}
+use Rattle.answer.specs.Outcomes.{outcomeOf, laid, Refuses}
+use Rattle.printing.specs.PrintOutcomes.{Lays}
+use Rattle.answer.specs.declared.Answer.{Answer}
+use Rattle.answer.specs.declared.Answer.the-variants.{Written, Refused}
+use Rattle.answer.proofs.Room.{laid-room, laid-yes, laid-no}
+
+-- PRINTING
+module _ {s : List ℕ} (b : List ℕ) {n : ℕ} (t : TextSize s n) {v : Bool} (f : v ≡ leb n (min (length b) 65535)) where
+  pub lay-done : {b′ : List ℕ} {k : ℕ} → v ≡ true → PrintedAll s b b′ k → Lays s b b′ (Written n)
+  lay-done {b′} h p = record {
+    is = λ xs d.
+        let z : n ≡ length (printText xs) = t .size xs d in
+        let m = laid-room b f h in
+        let w : b′ ≡ over b 0 (printText xs) = p .is xs d (omega arith) in
+        rw w (laid-yes b f (printText xs) z h);
+  }
+
+  pub lay-refused : {r : Answer} → v ≡ false → Refuses NoRoom 0 r → Lays s b b r
+  lay-refused h x = record { is = λ xs d. laid-no b f (printText xs) (t .size xs d) h x }
+
+pub ruleset lay-ways = (lay-done, lay-refused)
+
+print-no : (s b : List ℕ) (e : Refusal) (res : Result Items) → decode s ≡ res → passTold (RefusedV e) ≡ toldOf (length s) (mapResult contentsAll res) → outcomeOf (Refused e) b ≡ print s b
+unfolding passTold toldOf mapResult itemsOf verdictOf textOf andThen print written outcomeOf
+print-no s b e (ok xs r) d h = let z : _≡_ {A = ℕ} 0 1 = cc in absurd (omega arith)
+print-no s b e (refuse k l) d h =
+    let i : kindNumber (e .kind) ≡ k = cc in
+    let j : e .place ≡ length s - l = cc in
+    rw (d, i, j, print)
+
+print-yes : (s b b′ : List ℕ) (r : Answer) (m : Passage) (res : Result Items) → Bytes s → decode s ≡ res → passTold (SpanV m) ≡ toldOf (length s) (mapResult contentsAll res) → Lays s b b′ r → outcomeOf r b′ ≡ print s b
+unfolding passTold toldOf mapResult itemsOf verdictOf textOf andThen print laid
+print-yes s b b′ r m (ok xs q) u d h l =
+    let e = encode-of-decode s xs q u d in
+    let w = l .is xs (d ∙ ap (ok xs) (e .done)) in
+    rw (d, print) w
+print-yes s b b′ r m (refuse k q) u d h l = let z : _≡_ {A = ℕ} 0 1 = cc in absurd (omega arith)
+
+module _ {s : List ℕ} (b : List ℕ) {a : Passed} (ch : Checks s a) where
+  pub print-refused : {e : Refusal} → a ≡ RefusedV e → outcomeOf (Refused e) b ≡ print s b
+  unfolding walkAllOf
+  print-refused {e} h = print-no s b e (decode s) refl (rw h at (ch .is))
+
+  pub print-done : {m : Passage} {b′ : List ℕ} {r : Answer} → a ≡ SpanV m → Lays s b b′ r → outcomeOf r b′ ≡ print s b
+  unfolding walkAllOf
+  print-done {m} h l = print-yes s b _ _ m (decode s) (ch .bytes) refl (rw h at (ch .is)) l
+
+pub ruleset print-ways = (print-refused, print-done)

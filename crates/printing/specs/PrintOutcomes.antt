@@ -1,0 +1,14 @@
+-- What the code of printing answers.
+use mathlib.Core.Path.{_≡_}
+use mathlib.Core.List.{List, []}
+use Prim.Native.Nat.{ℕ}
+use Rattle.cbor.specs.Refusals.{ok}
+use Rattle.cbor.specs.Items.{Items}
+use Rattle.cbor.specs.Decode.{decode}
+use Rattle.notation.specs.Printing.{printText}
+use Rattle.answer.specs.Outcomes.{outcomeOf, laid}
+use Rattle.answer.specs.declared.Answer.{Answer}
+
+-- PRINTING: the text of bytes that decode to xs
+pub record Lays (s b b′ : List ℕ) (r : Answer) : Type 0 where
+  pub is : (xs : Items) → decode s ≡ ok xs [] → outcomeOf r b′ ≡ laid b (printText xs)

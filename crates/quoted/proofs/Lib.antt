@@ -1,0 +1,2 @@
+pub mod QuotedCode
+pub mod QuotedLoops

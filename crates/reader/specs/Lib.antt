@@ -1,2 +1,0 @@
-pub mod ReadAnswers
-pub mod OneAnswers

@@ -1,0 +1,103 @@
+-- Reading: what is asked of all of a text, and the bytes that were made of it.
+-- Assumes nothing.
+use Prim.Native.Nat.{ℕ, suc, _+_, _-_, _≤_, _<_, min}
+use native.Mathlib.Omega.{arith}
+use mathlib.Core.Path.{_≡_, refl, sym, ap, _∙_}
+use mathlib.Core.Bool.{Bool, true, false}
+use mathlib.Core.List.{List, [], _∷_, _++_}
+use lib.Dec.{leb, eqb}
+use lib.ListN.{length, take, drop, length-append, length-take}
+use borrow.Author.Tests.{le-leb, lt-leb, leb-true, leb-false, eq-eqb, ne-eqb}
+use Rattle.cbor.specs.Refusals.{Result, ok, refuse, bind, accepted, refused, verdictOf}
+use Rattle.cbor.specs.Encode.{encodeAll}
+use Rattle.cbor.specs.Decode.{mostBytes}
+use Rattle.memory.specs.Buffer.{over, overIfFits as writtenAt, copied}
+use Rattle.refusal.specs.RefusalKinds.{kindNumber}
+use Rattle.refusal.specs.declared.Refusal.{Refusal}
+use Rattle.refusal.specs.declared.RefusalKind.the-variants.{NoRoom}
+use Rattle.memory.proofs.Buffer.{written-fits, copied-yes}
+use Rattle.notation.specs.Form.{Closed}
+use Rattle.notation.specs.Reading.{marked, sequence, readText}
+use Rattle.encoding.specs.ReadAnswers.{ReadTold, After, ofClosed}
+use Rattle.encoding.specs.declared.answer.MadeItem.{MadeItem as MadeS}
+use Rattle.encoding.specs.declared.answer.ReadAnswer.{ReadAnswer}
+use Rattle.encoding.specs.declared.answer.ReadAnswer.the-variants.{Made as ReadMade, Refused as ReadRefused}
+use Rattle.operations.specs.Operations.{andThen, room, written, bytesOf, read}
+use Rattle.answer.specs.Outcomes.{outcomeOf, laid, Refuses}
+use Rattle.reading.specs.ReadOutcomes.{Delivered, itemsRead, Ready, Encodes}
+use Rattle.text_check.specs.TextAnswers.{textTold, passing}
+use Rattle.answer.specs.declared.Answer.{Answer}
+use Rattle.answer.specs.declared.Answer.the-variants.{Written, Refused}
+use Rattle.text_check.specs.declared.Text.{Text}
+use Rattle.text_check.specs.declared.Text.the-variants.{Good, Refused as TextRefused}
+use Rattle.answer.proofs.Room.{laid-room, laid-yes, laid-no}
+use Rattle.operations.proofs.Verdicts.{front-all}
+use Rattle.text_check.proofs.Texts.{passes, fails, passed-short}
+
+marked-length : (s : List ℕ) → length (marked s) ≡ suc (length s)
+unfolding marked
+marked-length s = omega (arith, length-append s (256 ∷ []))
+
+-- WHAT WAS MADE, DELIVERED
+module _ {m : List ℕ} {n : ℕ} (b : List ℕ) {v : Bool} (f : v ≡ leb n (min (length b) 65535)) where
+  pub deliver-done : {b′ : List ℕ} → v ≡ true → b′ ≡ copied b 0 m n → Delivered m n b b′ (Written n)
+  deliver-done t e = record {
+    is = λ w x.
+        let l : n ≤ min (length b) 65535 = laid-room b f t in
+        let h : take n m ≡ w = x .held (omega arith) in
+        let k : min n (length m) ≡ n = sym (length-take n m) ∙ (ap length h ∙ sym (x .sized)) in
+        let c : copied b 0 m n ≡ over b 0 w = copied-yes b 0 m n (omega arith) ∙ (ap (writtenAt b 0) h ∙ written-fits b 0 w (omega (arith, x .sized))) in
+        rw (e, c) (laid-yes b f w (x .sized) t);
+  }
+
+  pub deliver-refused : {r : Answer} → v ≡ false → Refuses NoRoom 0 r → Delivered m n b b r
+  deliver-refused t x = record { is = λ w y. laid-no b f w (y .sized) t x }
+
+pub ruleset deliver-ways = (deliver-done, deliver-refused)
+
+-- ENCODING
+encode-yes : (s b b′ made made′ : List ℕ) (most : ℕ) {r : Answer} {a : ReadAnswer} {k : MadeS} (res : Result Closed) → sequence s ≡ res → length made ≡ 65535 → After ofClosed s made made′ most 0 a res
+    → a ≡ ReadMade k → Delivered made′ (k .size) b b′ r → Encodes s b b′ r
+unfolding After ofClosed itemsRead bind verdictOf andThen laid
+encode-yes s b b′ made made′ most {k = k} (ok c q) e l x i d =
+    let j : x .made ≡ k = cc (x .is) in
+    let n : k .size ≡ length (encodeAll (c .all)) = rw j at (x .moved .sized) in
+    let h : k .size ≤ mostBytes → take (k .size) made′ ≡ encodeAll (c .all) = λ m. rw (x .moved .wrote .is (omega arith), n) (front-all made (encodeAll (c .all))) in
+    record { is = rw e (d .is (encodeAll (c .all)) (record { sized = n; held = h })) }
+encode-yes s b b′ made made′ most (refuse n q) e l x i d = let z : _≡_ {A = ℕ} 0 1 = cc (x .is) in absurd (omega arith)
+
+encode-no : (s b made made′ : List ℕ) (most : ℕ) {a : ReadAnswer} {e : Refusal} (res : Result Closed) → sequence s ≡ res → After ofClosed s made made′ most 0 a res → a ≡ ReadRefused e → Encodes s b b (Refused e)
+unfolding After itemsRead bind verdictOf andThen outcomeOf written
+encode-no s b made made′ most (ok c q) f x i = let z : _≡_ {A = ℕ} 0 1 = cc (x .is) in absurd (omega arith)
+encode-no s b made made′ most {e = e} (refuse n q) f x i =
+    let j : x .refusal ≡ e = cc (x .is) in
+    let l : length (marked s) ≡ suc (length s) = marked-length s in
+    let p : e .place ≡ suc (length s) - q = rw (j, l) at (x .place) in
+    record { is = rw (f, p, rw j at (x .number)) }
+
+module _ {s made made′ : List ℕ} (b : List ℕ) {most : ℕ} {a : ReadAnswer} (t : ReadTold ofClosed s made made′ most 0 a (sequence s)) where
+  pub encode-done : {k : MadeS} {b′ : List ℕ} {r : Answer} → Ready s made → a ≡ ReadMade k → Delivered made′ (k .size) b b′ r → Encodes s b b′ r
+  encode-done l i d = encode-yes s b _ made made′ most (sequence s) refl (l .room) (t .after) i d
+
+  pub encode-refused : {e : Refusal} → a ≡ ReadRefused e → Encodes s b b (Refused e)
+  encode-refused i = encode-no s b made made′ most (sequence s) refl (t .after) i
+
+pub ruleset encode-ways = (encode-done, encode-refused)
+
+-- THE OPERATION
+module _ (s b : List ℕ) {t : Text} (h : textTold t ≡ passing s) where
+  pub read-ready : {made : List ℕ} → t ≡ Good → length made ≡ 65535 → Ready s made
+  unfolding textTold
+  read-ready e l = record { short = passed-short s (sym h ∙ rw e); room = l }
+
+  pub read-done : {b′ : List ℕ} {r : Answer} → t ≡ Good → Encodes s b b′ r → outcomeOf r b′ ≡ read s b
+  unfolding textTold read bytesOf readText itemsRead
+  read-done e x = let p : passing s ≡ accepted tt = sym h ∙ rw e in x .is ∙ rw (passes s (itemsRead s) p)
+
+  pub read-refused : {e : Refusal} → t ≡ TextRefused e → outcomeOf (Refused e) b ≡ read s b
+  unfolding textTold read bytesOf readText itemsRead andThen written outcomeOf
+  read-refused {e} i =
+      let p : passing s ≡ refused (kindNumber (e .kind)) (e .place) = sym h ∙ rw i in
+      rw (fails s (itemsRead s) p)
+
+pub ruleset read-ways = (read-ready, read-done, read-refused)

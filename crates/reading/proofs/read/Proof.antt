@@ -1,0 +1,19 @@
+-- `edn::read::read` meets its contract.
+-- Assumes nothing.
+use borrow.Author.Needs.{needs}
+use Rattle.reading.proofs.read.Statement.{statement}
+use Rattle.reading.proofs.read.Tie as tie
+use Rattle.reading.proofs.Encoding.{read-ways}
+
+pub read-spec : {M : Type 1} → statement M
+read-spec =
+    tie.close (tie.spec
+    (λ c κs. search needs)  -- check-text-requires
+    (λ c. search needs)  -- enum-known-t
+    (λ c. search needs)  -- enum-told
+    (λ c. search needs)  -- slice-aggregate-encode
+    (λ c κs. search read-ways)  -- encode-requires
+    (λ c. search read-ways)  -- returns
+    (λ c. search needs)  -- same-length
+    (λ c. search read-ways)  -- returns-2
+    )

@@ -1,0 +1,48 @@
+// A text in diagnostic notation as the bytes of its items, in a lent buffer.
+use answer::Answer;
+use answer::fits;
+use answer::refuse;
+use encoding::answer::ReadAnswer;
+use refusal::RefusalKind;
+use text_check::Text;
+use text_check::check_text;
+ghost use mathlib.Core.Path.{_≡_};
+ghost use Rattle.operations.specs.Operations.{read};
+ghost use Rattle.answer.specs.Outcomes.{outcomeOf};
+ghost use Rattle.reading.specs.ReadOutcomes.{Ready, Delivered, Encodes};
+
+// The first `size` bytes of what was made, if that is all of them and they have room.
+fn deliver(made: &[u8], size: usize, out: &mut [u8]) -> Answer
+    ensures { λ r. ⌜ Delivered (now (made .entry)) size (now (out .entry)) (now (out .exit)) r ⌝ }
+{
+    if fits(size, out.len()) {
+        buffer::copy(made, size, out);
+        return Answer::Written(size);
+    }
+    refuse(RefusalKind::NoRoom, 0)
+}
+
+// The bytes are made in a buffer of our own: nothing is written to the lent one before it is known that all is right and has room.
+fn encode(text: &[u8], made: &mut [u8], out: &mut [u8]) -> Answer
+    requires { ⌜ Ready (now text) (now made) ⌝ }
+    ensures { λ r. ⌜ Encodes (now (text .entry)) (now (out .entry)) (now (out .exit)) r ⌝ }
+{
+    let a = reader::read_items(text, made);
+    match a {
+        ReadAnswer::Refused(e) => Answer::Refused(e),
+        ReadAnswer::Made(m) => deliver(made, m.size, out),
+    }
+}
+
+pub fn read(text: &[u8], out: &mut [u8]) -> Answer
+    ensures { λ r. ⌜ outcomeOf r (now (out .exit)) ≡ read (now (text .entry)) (now (out .entry)) ⌝ }
+{
+    let t = check_text(text);
+    match t {
+        Text::Refused(e) => Answer::Refused(e),
+        Text::Good => {
+            let mut made = [0; 65535];
+            encode(text, &mut made, out)
+        }
+    }
+}

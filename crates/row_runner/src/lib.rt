@@ -1,0 +1,4 @@
+// row_runner
+pub mod correct;
+pub mod lines;
+pub mod run;

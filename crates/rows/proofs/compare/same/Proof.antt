@@ -1,0 +1,27 @@
+-- `vectors::compare::same` meets its contract.
+-- Assumes nothing.
+use Rattle.rows.proofs.compare.same.Statement.{statement}
+use Rattle.rows.proofs.compare.same.Tie as tie
+use borrow.Author.Needs.{needs}
+use Prim.Native.Nat.{_-_, _≤_}
+use lib.ListN.{length}
+
+abbrev Inv-loop : tie.InvT-loop
+Inv-loop a b i₀ i = i ≤ length a
+
+abbrev μ-loop : tie.MeasureT-loop
+μ-loop a b i₀ i = length a - i
+
+pub same-spec : {M : Type 1} → statement M
+same-spec =
+    tie.close (tie.spec Inv-loop μ-loop
+    (λ c. search needs)  -- returns
+    (λ c. search needs)  -- loop-holds
+    (λ c. search needs)  -- shared-slice-read-if2
+    (λ c. search needs)  -- shared-slice-read-if2-2
+    (λ c. search needs)  -- returns-2
+    (λ c. search needs)  -- add-i
+    (λ c. search needs)  -- loop-less
+    (λ c. search needs)  -- loop-again
+    (λ c. search needs)  -- returns-3
+    )

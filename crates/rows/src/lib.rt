@@ -1,0 +1,4 @@
+// rows
+pub mod compare;
+pub mod cut;
+pub mod fill;

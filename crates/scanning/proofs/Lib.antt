@@ -1,0 +1,3 @@
+pub mod ClassCode
+pub mod Marked
+pub mod ScanCode

@@ -1,0 +1,3 @@
+// scanning
+pub mod class;
+pub mod scan;

@@ -1,0 +1,163 @@
+// String literals, and strings in chunks.
+use encoding::answer::MadeItem;
+use encoding::answer::ReadAnswer;
+use encoding::answer::closed;
+use encoding::answer::done;
+use encoding::answer::refuse;
+use encoding::answer::strayed;
+use encoding::close::endless;
+use encoding::heads::head_size;
+use encoding::heads::initial;
+use encoding::heads::major_by;
+use refusal::RefusalKind;
+use token::Token;
+use tokens::cut::next_token;
+ghost use mathlib.Core.Path.{_≡_};
+ghost use Prim.Native.Nat.{_+_, _-_};
+ghost use lib.ListN.{length, drop};
+ghost use Rattle.notation.specs.Form.{only, chunks, reads};
+ghost use Rattle.notation.specs.Reading.{marked};
+ghost use Rattle.encoding.specs.ReadAnswers.{chunkRead, chunkedRead, kindFor, noteBy, Filled, Opened, Strings, Light, LiteralTold, ReadTold, Stringed, ChunksTold, ofItem, ofChunk};
+
+// The note of a string, by the code of its literals.
+pub fn note_by(code: u8, n: usize) -> usize
+    requires { ⌜ Light n ⌝ }
+    ensures { λ r. ⌜ r ≡ noteBy code n ⌝ }
+{
+    if code == 4 {
+        return 0;
+    }
+    n + 1
+}
+
+// What a literal holds.
+pub fn fill(text: &[u8], t: Token, buf: &mut [u8], pos: usize)
+    ensures { λ _. ⌜ Filled (now (text .entry)) t (now (buf .entry)) (now (buf .exit)) pos ⌝ }
+{
+    let form = t.form;
+    match form {
+        0 => quoted::put_quoted(text, t.start, 0x22, buf, pos),
+        1 => quoted::put_quoted(text, t.start, 0x27, buf, pos),
+        2 => hex::put_hex(text, t.start, t.stop, buf, pos),
+        _ => base64::put_base64(text, t.start, t.stop, buf, pos),
+    }
+}
+
+// A literal's head and what it holds.
+pub fn string(text: &[u8], t: Token, buf: &mut [u8], pos: usize) -> usize
+    requires { ⌜ Light (pos + t .number) ⌝ }
+    ensures { λ r. ⌜ Stringed (now (text .entry)) t (now (buf .entry)) (now (buf .exit)) pos r ⌝ }
+{
+    let first = initial(t);
+    let size = head_size(first);
+    head::write_head(buf, pos, first, t.number);
+    fill(text, t, buf, pos + size);
+    size + t.number as usize
+}
+
+// A literal that is an item.
+pub fn literal(text: &[u8], t: Token, buf: &mut [u8], pos: usize) -> ReadAnswer
+    requires { ⌜ Light (pos + t .number) ⌝ }
+    ensures { λ r. ⌜ LiteralTold (now (text .entry)) t (now (buf .entry)) (now (buf .exit)) pos r ⌝ }
+{
+    if t.indicator == 1 {
+        let nothing = MadeItem {
+            next: t.next,
+            size: 0,
+            count: 0,
+            note: 0,
+        };
+        return endless(buf, pos, initial(t), nothing, note_by(t.code, 0));
+    }
+    let size = string(text, t, buf, pos);
+    done(t.next, size, 1, note_by(t.code, t.number as usize))
+}
+
+// A chunk of a kind, by the code of its literals.
+pub fn chunk(
+    text: &[u8],
+    at: usize,
+    kind: u8,
+    levels: usize,
+    buf: &mut [u8],
+    pos: usize,
+) -> ReadAnswer
+    requires { ⌜ Strings (now text) at pos kind ⌝ }
+    ensures { λ r. ⌜ ReadTold (ofChunk (kindFor kind)) (now (text .entry)) (now (buf .entry)) (now (buf .exit)) (length (marked (now (text .entry))) - at) pos r (chunkRead (kindFor kind) levels (drop at (marked (now (text .entry))))) ⌝ }
+{
+    let t = next_token(text, at);
+    let code = t.code;
+    if code <= 3 {
+        return strayed(levels, t);
+    }
+    if 5 < code {
+        return strayed(levels, t);
+    }
+    if t.indicator == 1 {
+        return refuse(RefusalKind::BadIndicator, t.place);
+    }
+    if code != kind {
+        return refuse(RefusalKind::MixedChunks, t.place);
+    }
+    let size = string(text, t, buf, pos);
+    done(t.next, size, t.number as usize, 0)
+}
+
+// The chunks of a string up to its parenthesis.
+pub fn chunks(
+    text: &[u8],
+    from: usize,
+    kind: u8,
+    levels: usize,
+    buf: &mut [u8],
+    pos: usize,
+) -> ReadAnswer
+    requires { ⌜ Strings (now text) from pos kind ⌝ }
+    ensures { λ r. ⌜ ChunksTold kind (now (text .entry)) (now (buf .entry)) (now (buf .exit)) (length (marked (now (text .entry))) - from) pos r (reads (chunks (only (kindFor kind)) levels) (drop from (marked (now (text .entry))))) ⌝ }
+{
+    let mut at = from;
+    let mut n: usize = 0;
+    let mut size: usize = 0;
+    loop {
+        let a = chunk(text, at, kind, levels, buf, pos + size);
+        match a {
+            ReadAnswer::Refused(e) => return ReadAnswer::Refused(e),
+            ReadAnswer::Made(m) => {
+                n += m.count;
+                size += m.size;
+                let t = next_token(text, m.next);
+                let code = t.code;
+                if code == 14 {
+                    return closed(t.next, size, n, kind);
+                }
+                if code != 11 {
+                    return strayed(levels, t);
+                }
+                at = t.next;
+            }
+        }
+    }
+}
+
+// A string in chunks behind `(_`.
+pub fn chunked(text: &[u8], at: usize, levels: usize, buf: &mut [u8], pos: usize) -> ReadAnswer
+    requires { ⌜ Opened (now text) at pos at ⌝ }
+    ensures { λ r. ⌜ ReadTold ofItem (now (text .entry)) (now (buf .entry)) (now (buf .exit)) (length (marked (now (text .entry))) - at + 1) pos r (chunkedRead levels (drop at (marked (now (text .entry))))) ⌝ }
+{
+    let t = next_token(text, at);
+    let kind = t.code;
+    if kind <= 3 {
+        return strayed(levels, t);
+    }
+    if 5 < kind {
+        return strayed(levels, t);
+    }
+    let a = chunks(text, at, kind, levels, buf, pos + 1);
+    match a {
+        ReadAnswer::Refused(e) => ReadAnswer::Refused(e),
+        ReadAnswer::Made(m) => {
+            let first = major_by(kind) * 32 + 31;
+            endless(buf, pos, first, m, note_by(kind, m.count))
+        }
+    }
+}

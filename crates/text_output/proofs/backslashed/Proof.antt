@@ -1,0 +1,15 @@
+-- `printer::put::backslashed` meets its contract.
+-- Assumes nothing.
+use borrow.Author.Needs.{needs}
+use Rattle.text_output.proofs.PrintLeaves.{two}
+use Rattle.text_output.proofs.backslashed.Statement.{statement}
+use Rattle.text_output.proofs.backslashed.Tie as tie
+
+pub backslashed-spec : {M : Type 1} → statement M
+backslashed-spec =
+    tie.close (tie.spec
+    (λ c κs. search needs)  -- put-requires
+    (λ c κs. search needs)  -- put-requires-2
+    (λ c. search needs)  -- same-length
+    (λ c. search two)  -- returns
+    )

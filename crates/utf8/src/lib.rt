@@ -1,0 +1,100 @@
+// UTF-8 (RFC 3629): the place of the first bad sequence.
+ghost use mathlib.Core.Path.{_≡_};
+ghost use mathlib.Core.List.{_∷_, []};
+ghost use Prim.Native.Nat.{_<_};
+ghost use lib.ListN.{length, drop};
+ghost use Rattle.cbor.specs.Utf8.{_to_, follow, areIn, firstBad};
+ghost use Rattle.cbor.specs.Sequences.{behindFirst, Sequence};
+
+// What a first byte says: how long its sequence is, 0 where none begins so, and the bounds of the second byte.
+struct Lead(u8, u8, u8);
+
+fn lead_of(b: u8) -> Lead
+    ensures { λ r. ⌜ follow b ≡ behindFirst (r .0) (r .1) (r .2) ⌝ }
+{
+    if b < 0x80 {
+        return Lead(1, 0x80, 0xbf);
+    }
+    if b < 0xc2 {
+        return Lead(0, 0x80, 0xbf);
+    }
+    if b < 0xe0 {
+        return Lead(2, 0x80, 0xbf);
+    }
+    if b < 0xe1 {
+        return Lead(3, 0xa0, 0xbf);
+    }
+    if b < 0xed {
+        return Lead(3, 0x80, 0xbf);
+    }
+    if b < 0xee {
+        return Lead(3, 0x80, 0x9f);
+    }
+    if b < 0xf0 {
+        return Lead(3, 0x80, 0xbf);
+    }
+    if b < 0xf1 {
+        return Lead(4, 0x90, 0xbf);
+    }
+    if b < 0xf4 {
+        return Lead(4, 0x80, 0xbf);
+    }
+    if b < 0xf5 {
+        return Lead(4, 0x80, 0x8f);
+    }
+    Lead(0, 0x80, 0xbf)
+}
+
+// Whether a byte stands at a place and is within bounds.
+fn within(bytes: &[u8], at: usize, low: u8, high: u8) -> bool
+    ensures { λ r. ⌜ r ≡ areIn ((low to high) ∷ []) (drop at (now (bytes .entry))) ⌝ }
+{
+    if bytes.len() <= at {
+        return false;
+    }
+    let b = bytes[at];
+    if b < low {
+        return false;
+    }
+    b <= high
+}
+
+// The length of the sequence at a place, 0 where it is bad.
+fn sequence(bytes: &[u8], at: usize) -> usize
+    requires { ⌜ at < length (now bytes) ⌝ }
+    ensures { λ r. ⌜ Sequence (now (bytes .entry)) at r ⌝ }
+{
+    let lead = lead_of(bytes[at]);
+    let size = lead.0 as usize;
+    let mut low = lead.1;
+    let mut high = lead.2;
+    let mut i = 1;
+    while i < size {
+        if !within(bytes, at + i, low, high) {
+            return 0;
+        }
+        low = 0x80;
+        high = 0xbf;
+        i += 1;
+    }
+    size
+}
+
+// The place of the first bad sequence, the length where there is none.
+pub fn first_bad(bytes: &[u8]) -> usize
+    ensures { λ r. ⌜ r ≡ firstBad (now (bytes .entry)) ⌝ }
+{
+    let mut at = 0;
+    while at < bytes.len() {
+        if bytes[at] < 0x80 {
+            at += 1;
+            continue;
+        }
+        let size = sequence(bytes, at);
+        if size == 0 {
+            return at;
+        }
+        at += size;
+    }
+    at
+}

@@ -1,0 +1,19 @@
+-- `tokens::word::worded` meets its contract.
+-- Assumes nothing.
+use borrow.Author.Needs.{needs}
+use Rattle.words.proofs.worded.Statement.{statement}
+use Rattle.words.proofs.worded.Tie as tie
+use Rattle.words.proofs.WordCode.{worded-ways}
+
+pub worded-spec : {M : Type 1} → statement M
+worded-spec =
+    tie.close (tie.spec
+    (λ c κs. search needs)  -- value-word-requires
+    (λ c κs. search needs)  -- simple-token-requires
+    (λ c. search worded-ways)  -- returns
+    (λ c κs. search needs)  -- refuse-requires
+    (λ c. search worded-ways)  -- returns-2
+    (λ c. search needs)  -- cast-made
+    (λ c κs. search needs)  -- made-requires
+    (λ c. search worded-ways)  -- returns-3
+    )

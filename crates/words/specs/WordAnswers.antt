@@ -1,0 +1,59 @@
+-- What the code that reads words answers. s is a text.
+use Prim.Native.Nat.{ℕ, _+_, _≤_, _<_}
+use mathlib.Core.Path.{_≡_}
+use mathlib.Core.Bool.{Bool, true, false}
+use mathlib.Core.List.{List, [], _∷_}
+use lib.ListN.{length, drop}
+use Rattle.cbor.specs.Valid.{isSimple}
+use Rattle.notation.specs.Classes.{classNumber, classOf}
+use Rattle.notation.specs.Numbers.{numberFrom}
+use Rattle.notation.specs.Words.{same, falseWord, trueWord, nullWord, undefinedWord, simpleWord, hexPrefix, base64Prefix, isFloatWord, simpleBy}
+use Rattle.notation.specs.Reading.{marked}
+use Rattle.scanning.specs.Stands.{span}
+use Rattle.token.specs.TokenAnswers.{Says}
+use Rattle.numbers.specs.NumberAnswers.{Counts}
+use Rattle.numbers.specs.declared.amount.Amount.{Amount}
+use Rattle.token.specs.declared.Token.{Token as Cut}
+
+-- a part of a text
+pub record WordPart (s : List ℕ) (from end : ℕ) : Type 0 where
+  pub ahead : from ≤ end
+  pub inside : end ≤ length s
+
+-- a part with an element behind it
+pub record Enclosed (s : List ℕ) (from end : ℕ) : Type 0 where
+  pub ahead : from ≤ end
+  pub inside : end + 1 ≤ length s
+
+-- a word by number: 20 to 23 simple values, 24 `simple`; 2 and 3 the forms of literals that a prefix gives; 6 and 4 are refusals
+unfoldable pub otherWord : List ℕ → ℕ
+otherWord w = elim (isFloatWord w) [ true ↦ 6 | false ↦ 4 ]
+
+unfoldable pub valueWord : List ℕ → ℕ
+valueWord w =
+    elim (same w falseWord) [
+      | true ↦ 20
+      | false ↦ elim (same w trueWord) [
+        | true ↦ 21
+        | false ↦ elim (same w nullWord) [ true ↦ 22 | false ↦ elim (same w undefinedWord) [ true ↦ 23 | false ↦ elim (same w simpleWord) [ true ↦ 24 | false ↦ otherWord w ] ] ]
+      ]
+    ]
+
+unfoldable pub prefixWord : List ℕ → ℕ
+prefixWord w = elim (same w hexPrefix) [ true ↦ 2 | false ↦ elim (same w base64Prefix) [ true ↦ 3 | false ↦ otherWord w ] ]
+
+-- whether an amount is a simple value
+pub record Simples (a : Amount) (r : Bool) : Type 0 where
+  pub is : (n : ℕ) → Counts a n → r ≡ isSimple n
+
+pub record SimpleIn (s : List ℕ) (place from end : ℕ) (a : Amount) (t : Cut) : Type 0 where
+  pub is : Counts a (numberFrom 10 0 (span from end (marked s))) → Says s place t (simpleBy (span from end (marked s)) (drop (end + 1) (marked s)))
+
+-- the class of the element at a place; 22: there is none
+unfoldable pub frontClass : List ℕ → ℕ
+frontClass [] = 22
+frontClass (b ∷ r) = classNumber (classOf b)
+
+pub record Stood (s : List ℕ) (at k : ℕ) : Type 0 where
+  pub is : k ≡ frontClass (drop at (marked s))
+  pub inside : k < 21 → at < length s

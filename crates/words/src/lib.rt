@@ -1,0 +1,202 @@
+// Words and simple values.
+use numbers::amount::Amount;
+use numbers::amount::count_digits;
+use numbers::number::number;
+use scanning::class::class;
+use scanning::scan::next_is;
+use token::Token;
+use token::made;
+use token::refuse;
+ghost use mathlib.Core.Path.{_≡_};
+ghost use Prim.Native.Nat.{_+_, _≤_};
+ghost use lib.ListN.{length, drop};
+ghost use Rattle.notation.specs.Words.{same, isPlainDecimal, simpleToken, worded};
+ghost use Rattle.notation.specs.Cutting.{startsWith, afterMinus};
+ghost use Rattle.notation.specs.Reading.{marked};
+ghost use Rattle.scanning.specs.Stands.{span};
+ghost use Rattle.token.specs.TokenAnswers.{Says};
+ghost use Rattle.words.specs.WordAnswers.{WordPart, Enclosed, otherWord, valueWord, prefixWord, Simples, SimpleIn, Stood};
+
+// Whether a word begins at a place.
+fn starts_with(text: &[u8], at: usize, word: &[u8]) -> bool
+    requires { ⌜ at ≤ length (now text) ⌝ }
+    ensures { λ r. ⌜ r ≡ startsWith (now (word .entry)) (drop at (marked (now (text .entry)))) ⌝ }
+{
+    let mut i: usize = 0;
+    while i < word.len() {
+        if !next_is(text, at + i, word[i]) {
+            return false;
+        }
+        i += 1;
+    }
+    true
+}
+
+// Whether a part of a text is a word.
+fn is_same(text: &[u8], from: usize, end: usize, word: &[u8]) -> bool
+    requires { ⌜ WordPart (now text) from end ⌝ }
+    ensures { λ r. ⌜ r ≡ same (span from end (marked (now (text .entry)))) (now (word .entry)) ⌝ }
+{
+    if end - from == word.len() {
+        return starts_with(text, from, word);
+    }
+    false
+}
+
+// Why a word is refused.
+fn other_word(text: &[u8], from: usize, end: usize) -> u8
+    requires { ⌜ WordPart (now text) from end ⌝ }
+    ensures { λ r. ⌜ r ≡ otherWord (span from end (marked (now (text .entry)))) ⌝ }
+{
+    if is_same(text, from, end, b"NaN") {
+        return 6;
+    }
+    if is_same(text, from, end, b"Infinity") {
+        return 6;
+    }
+    4
+}
+
+// The number of a word.
+fn value_word(text: &[u8], from: usize, end: usize) -> u8
+    requires { ⌜ WordPart (now text) from end ⌝ }
+    ensures { λ r. ⌜ r ≡ valueWord (span from end (marked (now (text .entry)))) ⌝ }
+{
+    if is_same(text, from, end, b"false") {
+        return 20;
+    }
+    if is_same(text, from, end, b"true") {
+        return 21;
+    }
+    if is_same(text, from, end, b"null") {
+        return 22;
+    }
+    if is_same(text, from, end, b"undefined") {
+        return 23;
+    }
+    if is_same(text, from, end, b"simple") {
+        return 24;
+    }
+    other_word(text, from, end)
+}
+
+// The form of literal that a prefix gives, 2 or 3.
+pub fn prefix_word(text: &[u8], from: usize, end: usize) -> u8
+    requires { ⌜ WordPart (now text) from end ⌝ }
+    ensures { λ r. ⌜ r ≡ prefixWord (span from end (marked (now (text .entry)))) ⌝ }
+{
+    if is_same(text, from, end, b"h") {
+        return 2;
+    }
+    if is_same(text, from, end, b"b64") {
+        return 3;
+    }
+    other_word(text, from, end)
+}
+
+// Whether digits are a decimal without leading zero.
+fn plain_decimal(text: &[u8], from: usize, end: usize) -> bool
+    requires { ⌜ WordPart (now text) from end ⌝ }
+    ensures { λ r. ⌜ r ≡ isPlainDecimal (span from end (marked (now (text .entry)))) ⌝ }
+{
+    let size = end - from;
+    if size == 0 {
+        return false;
+    }
+    if size == 1 {
+        return true;
+    }
+    0x31 <= text[from]
+}
+
+fn is_simple(a: Amount) -> bool
+    ensures { λ r. ⌜ Simples a r ⌝ }
+{
+    let value = a.value;
+    let over = a.over;
+    if over {
+        return false;
+    }
+    if value <= 23 {
+        return true;
+    }
+    if value < 32 {
+        return false;
+    }
+    value <= 255
+}
+
+// The digits in `simple(..)`.
+fn simple_in(text: &[u8], place: usize, from: usize, end: usize, a: Amount) -> Token
+    requires { ⌜ Enclosed (now text) from end ⌝ }
+    ensures { λ r. ⌜ SimpleIn (now (text .entry)) place from end a r ⌝ }
+{
+    if plain_decimal(text, from, end) {
+        if is_simple(a) {
+            return made(3, 0, a.value, place, end + 1);
+        }
+        return refuse(8, place);
+    }
+    refuse(4, place)
+}
+
+// Behind the word `simple`.
+fn simple_token(text: &[u8], place: usize, at: usize) -> Token
+    requires { ⌜ at ≤ length (now text) ⌝ }
+    ensures { λ r. ⌜ Says (now (text .entry)) place r (simpleToken (drop at (marked (now (text .entry))))) ⌝ }
+{
+    if next_is(text, at, 0x28) {
+        let from = at + 1;
+        let d = count_digits(text, from, 10, 0);
+        let end = d.next;
+        if next_is(text, end, 0x29) {
+            let a = d.amount;
+            return simple_in(text, place, from, end, a);
+        }
+        return refuse(4, place);
+    }
+    refuse(4, place)
+}
+
+// A word with no `'` behind it.
+pub fn worded(text: &[u8], place: usize, end: usize) -> Token
+    requires { ⌜ WordPart (now text) place end ⌝ }
+    ensures { λ r. ⌜ Says (now (text .entry)) place r (worded (span place end (marked (now (text .entry)))) (drop end (marked (now (text .entry))))) ⌝ }
+{
+    let k = value_word(text, place, end);
+    if k == 24 {
+        return simple_token(text, place, end);
+    }
+    if k < 20 {
+        return refuse(k, place);
+    }
+    made(3, 0, k as u64, place, end)
+}
+
+// The class of the byte at a place; 21: the text ends there, 22: it ended before.
+pub fn class_at(text: &[u8], at: usize) -> u8
+    ensures { λ r. ⌜ Stood (now (text .entry)) at r ⌝ }
+{
+    if at < text.len() {
+        return class(text[at]);
+    }
+    if at == text.len() {
+        return 21;
+    }
+    22
+}
+
+// Behind `-`: an integer, or `Infinity`.
+pub fn after_minus(text: &[u8], place: usize, at: usize) -> Token
+    requires { ⌜ at ≤ length (now text) ⌝ }
+    ensures { λ r. ⌜ Says (now (text .entry)) place r (afterMinus (drop at (marked (now (text .entry))))) ⌝ }
+{
+    let k = class_at(text, at);
+    if k == 2 {
+        return number(text, place, at, true);
+    }
+    if starts_with(text, at, b"Infinity") {
+        return refuse(6, place);
+    }
+    refuse(3, place)
+}
