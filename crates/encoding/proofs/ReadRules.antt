@@ -12,7 +12,7 @@ use Rattle.cbor.specs.Items.{unsigned, negative, byteString, textString, Item, 
 use Rattle.notation.specs.Indicators.{Indicator, absent}
 use Rattle.notation.specs.Tokens.{bracket, brace, tagging, embedding, Beginning, leaf, literal, chunking, opens, Shape, square, curly, round, angle, whole, Token, begins, closes, aComma, aColon}
 use Rattle.notation.specs.Cutting.{next, place}
-use Rattle.notation.specs.Form.{only, one, items, pairs, Closed, Rule, give, take, then, stray, strays, shapeNumber, closingRule, beginning, oneRule, addItem, afterItem, itemsRule, afterValue, afterKey, pairsRule, rules, obey, reads}
+use Rattle.notation.specs.Form.{atStart, behindComma, only, one, items, pairs, Closed, Rule, give, take, then, stray, strays, shapeNumber, closingRule, beginning, oneRule, addItem, afterItem, itemsRule, afterValue, afterKey, pairsRule, rules, obey, reads}
 use Rattle.token.specs.TokenAnswers.{itemCode, openCode, kindCode, beginCode, shapeCode, codeOf}
 use Rattle.encoding.specs.ReadAnswers.{followBy, followed, entryRead}
 use Rattle.cbor.specs.Decode.{Entry}
@@ -170,23 +170,23 @@ one-is d s = reads-is (one d) s
 unfoldable pub lastItem : Item → Indicator → Closed
 lastItem x i = record { all = more x none; indicator = i }
 
-item-step : (h : Shape) (d : ℕ) (x : Item) (u : Token) (p q : ℕ) (r : List ℕ) → obey reads (afterItem h d x u) p q r ≡ step (reads (items h false d)) addItem lastItem d h x u q r
+item-step : (h : Shape) (d : ℕ) (x : Item) (u : Token) (p q : ℕ) (r : List ℕ) → obey reads (afterItem h d x u) p q r ≡ step (reads (items h behindComma d)) addItem lastItem d h x u q r
 unfolding obey afterItem step strays closingRule lastItem
 item-step h d x (begins g) p q r = refl
 item-step h d x (closes h′ i) p q r = obey-if (eqb (shapeNumber h) (shapeNumber h′)) (give (lastItem x i)) (strays d (closes h′ i)) p q r
 item-step h d x aComma p q r = refl
 item-step h d x aColon p q r = refl
 
-pub items-more : (h : Shape) (d : ℕ) (s : List ℕ) → reads (items h false d) s ≡ bind (reads (one d) s) (λ x r. bind (next r) (λ u r′. step (reads (items h false d)) addItem lastItem d h x u (place r) r′))
+pub items-more : (h : Shape) (d : ℕ) (s : List ℕ) → reads (items h behindComma d) s ≡ bind (reads (one d) s) (λ x r. bind (next r) (λ u r′. step (reads (items h behindComma d)) addItem lastItem d h x u (place r) r′))
 unfolding rules itemsRule
 items-more h d s =
-    reads-is (items h false d) s ∙ after-one (itemsRule h false d) (afterItem h d) d (λ g. refl) (λ h′ i. refl) refl refl s
+    reads-is (items h behindComma d) s ∙ after-one (itemsRule h behindComma d) (afterItem h d) d (λ g. refl) (λ h′ i. refl) refl refl s
     ∙ bind-same (reads (one d) s) _ _ (λ x r e. bind-same (next r) _ _ (λ u r′ e′. item-step h d x u (place s) (place r) r′))
 
-pub items-end : (h : Shape) (d : ℕ) (s r : List ℕ) (tok : Token) → next s ≡ ok tok r → codeOf tok ≡ shapeCode h → reads (items h true d) s ≡ ok (record { all = none; indicator = indicatorOf tok }) r
+pub items-end : (h : Shape) (d : ℕ) (s r : List ℕ) (tok : Token) → next s ≡ ok tok r → codeOf tok ≡ shapeCode h → reads (items h atStart d) s ≡ ok (record { all = none; indicator = indicatorOf tok }) r
 unfolding rules itemsRule codeOf indicatorOf
 items-end h d s r (begins g) e c = absurd (begin-close g h c)
-items-end h d s r (closes h′ i) e c = reads-is (items h true d) s ∙ bind-ok _ e ∙ closing-on d h h′ i _ (place s) (place s) r c
+items-end h d s r (closes h′ i) e c = reads-is (items h atStart d) s ∙ bind-ok _ e ∙ closing-on d h h′ i _ (place s) (place s) r c
 items-end h d s r aComma e c = absurd (omega (arith, shape-low h))
 items-end h d s r aColon e c = absurd (omega (arith, shape-low h))
 
@@ -197,16 +197,16 @@ unfolding bind
 start-same h (ok tok r) f g n k = k tok r (n tok r refl)
 start-same h (refuse k q) f g n j = refl
 
-items-by : (h : Shape) (d : ℕ) (tok : Token) (p : ℕ) (r : List ℕ) → (codeOf tok ≡ shapeCode h → ⊥) → obey reads (itemsRule h true d tok) p p r ≡ obey reads (itemsRule h false d tok) p p r
+items-by : (h : Shape) (d : ℕ) (tok : Token) (p : ℕ) (r : List ℕ) → (codeOf tok ≡ shapeCode h → ⊥) → obey reads (itemsRule h atStart d tok) p p r ≡ obey reads (itemsRule h behindComma d tok) p p r
 unfolding itemsRule codeOf obey strays
 items-by h d (begins g) p r n = refl
 items-by h d (closes h′ i) p r n = closing-off d h h′ i _ p p r n
 items-by h d aComma p r n = refl
 items-by h d aColon p r n = refl
 
-pub items-start : (h : Shape) (d : ℕ) (s : List ℕ) → ((tok : Token) (r : List ℕ) → next s ≡ ok tok r → codeOf tok ≡ shapeCode h → ⊥) → reads (items h true d) s ≡ reads (items h false d) s
+pub items-start : (h : Shape) (d : ℕ) (s : List ℕ) → ((tok : Token) (r : List ℕ) → next s ≡ ok tok r → codeOf tok ≡ shapeCode h → ⊥) → reads (items h atStart d) s ≡ reads (items h behindComma d) s
 unfolding rules
-items-start h d s n = reads-is (items h true d) s ∙ start-same h (next s) _ _ n (λ tok r c. items-by h d tok (place s) r c) ∙ sym (reads-is (items h false d) s)
+items-start h d s n = reads-is (items h atStart d) s ∙ start-same h (next s) _ _ n (λ tok r c. items-by h d tok (place s) r c) ∙ sym (reads-is (items h behindComma d) s)
 
 -- PAIRS
 unfoldable pub addPair : Entry → Pairs → Pairs
@@ -224,7 +224,7 @@ pub follow-no : (code d : ℕ) (x : Item) (tok : Token) (p : ℕ) (r : List ℕ)
 unfolding followBy
 follow-no code d x tok p r n = rw (ne-eqb (codeOf tok) code n, followBy)
 
-value-step : (d : ℕ) (k x : Item) (u : Token) (p q : ℕ) (r : List ℕ) → obey reads (afterValue d k x u) p q r ≡ step (reads (pairs false d)) addPair lastPair d curly (record { key = k; value = x }) u q r
+value-step : (d : ℕ) (k x : Item) (u : Token) (p q : ℕ) (r : List ℕ) → obey reads (afterValue d k x u) p q r ≡ step (reads (pairs behindComma d)) addPair lastPair d curly (record { key = k; value = x }) u q r
 unfolding obey afterValue step strays closingRule addPair lastPair
 value-step d k x (begins g) p q r = refl
 value-step d k x (closes h′ i) p q r = obey-if (eqb (shapeNumber curly) (shapeNumber h′)) (give (more₂ k x none₂)) (strays d (closes h′ i)) p q r
@@ -233,7 +233,7 @@ value-step d k x aColon p q r = refl
 
 -- behind a key: the colon, the value, and what stands behind that
 abbrev Rest : ℕ → Item → List ℕ → Result Pairs
-Rest d k r = bind (reads (one d) r) (λ x r′. bind (next r′) (λ u r″. step (reads (pairs false d)) addPair lastPair d curly (record { key = k; value = x }) u (place r′) r″))
+Rest d k r = bind (reads (one d) r) (λ x r′. bind (next r′) (λ u r″. step (reads (pairs behindComma d)) addPair lastPair d curly (record { key = k; value = x }) u (place r′) r″))
 
 key-step : (d : ℕ) (k : Item) (u : Token) (p q : ℕ) (r : List ℕ) → obey reads (afterKey d k u) p q r ≡ bind (followBy 12 d k u q r) (λ k r. Rest d k r)
 unfolding obey afterKey strays codeOf bind opensBy
@@ -243,29 +243,29 @@ key-step d k aComma p q r = sym (bind-refuse _ (follow-no 12 d k aComma q r (λ 
 key-step d k aColon p q r =
     bind-same (reads (one d) r) _ _ (λ x r′ e. bind-same (next r′) _ _ (λ u r″ e′. value-step d k x u p (place r′) r″)) ∙ sym (bind-ok _ (follow-yes 12 d k aColon q r refl))
 
-pub pairs-more : (d : ℕ) (s : List ℕ) → reads (pairs false d) s ≡ bind (entryRead d s) (λ e r. bind (next r) (λ u r′. step (reads (pairs false d)) addPair lastPair d curly e u (place r) r′))
+pub pairs-more : (d : ℕ) (s : List ℕ) → reads (pairs behindComma d) s ≡ bind (entryRead d s) (λ e r. bind (next r) (λ u r′. step (reads (pairs behindComma d)) addPair lastPair d curly e u (place r) r′))
 unfolding rules pairsRule entryRead followed bind
 pairs-more d s =
-    reads-is (pairs false d) s ∙ after-one (pairsRule false d) (afterKey d) d (λ g. refl) (λ h′ i. refl) refl refl s
+    reads-is (pairs behindComma d) s ∙ after-one (pairsRule behindComma d) (afterKey d) d (λ g. refl) (λ h′ i. refl) refl refl s
     ∙ bind-same (reads (one d) s) _ _ (λ k r e. bind-same (next r) _ _ (λ u r′ e′. key-step d k u (place s) (place r) r′) ∙ sym (bind-assoc (next r) _ _))
     ∙ sym (bind-assoc (reads (one d) s) _ _)
     ∙ bind-same (followed 12 d s) _ _ (λ k r e. sym (bind-assoc (reads (one d) r) _ _))
     ∙ sym (bind-assoc (followed 12 d s) _ _)
 
-pub pairs-end : (d : ℕ) (s r : List ℕ) (tok : Token) → next s ≡ ok tok r → codeOf tok ≡ shapeCode curly → reads (pairs true d) s ≡ ok none₂ r
+pub pairs-end : (d : ℕ) (s r : List ℕ) (tok : Token) → next s ≡ ok tok r → codeOf tok ≡ shapeCode curly → reads (pairs atStart d) s ≡ ok none₂ r
 unfolding rules pairsRule codeOf
 pairs-end d s r (begins g) e c = absurd (begin-close g curly c)
-pairs-end d s r (closes h′ i) e c = reads-is (pairs true d) s ∙ bind-ok _ e ∙ closing-on d curly h′ i _ (place s) (place s) r c
+pairs-end d s r (closes h′ i) e c = reads-is (pairs atStart d) s ∙ bind-ok _ e ∙ closing-on d curly h′ i _ (place s) (place s) r c
 pairs-end d s r aComma e c = absurd (omega (arith, shape-low curly))
 pairs-end d s r aColon e c = absurd (omega (arith, shape-low curly))
 
-pairs-by : (d : ℕ) (tok : Token) (p : ℕ) (r : List ℕ) → (codeOf tok ≡ shapeCode curly → ⊥) → obey reads (pairsRule true d tok) p p r ≡ obey reads (pairsRule false d tok) p p r
+pairs-by : (d : ℕ) (tok : Token) (p : ℕ) (r : List ℕ) → (codeOf tok ≡ shapeCode curly → ⊥) → obey reads (pairsRule atStart d tok) p p r ≡ obey reads (pairsRule behindComma d tok) p p r
 unfolding pairsRule codeOf obey strays
 pairs-by d (begins g) p r n = refl
 pairs-by d (closes h′ i) p r n = closing-off d curly h′ i _ p p r n
 pairs-by d aComma p r n = refl
 pairs-by d aColon p r n = refl
 
-pub pairs-start : (d : ℕ) (s : List ℕ) → ((tok : Token) (r : List ℕ) → next s ≡ ok tok r → codeOf tok ≡ shapeCode curly → ⊥) → reads (pairs true d) s ≡ reads (pairs false d) s
+pub pairs-start : (d : ℕ) (s : List ℕ) → ((tok : Token) (r : List ℕ) → next s ≡ ok tok r → codeOf tok ≡ shapeCode curly → ⊥) → reads (pairs atStart d) s ≡ reads (pairs behindComma d) s
 unfolding rules
-pairs-start d s n = reads-is (pairs true d) s ∙ start-same curly (next s) _ _ n (λ tok r c. pairs-by d tok (place s) r c) ∙ sym (reads-is (pairs false d) s)
+pairs-start d s n = reads-is (pairs atStart d) s ∙ start-same curly (next s) _ _ n (λ tok r c. pairs-by d tok (place s) r c) ∙ sym (reads-is (pairs behindComma d) s)

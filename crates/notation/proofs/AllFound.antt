@@ -16,7 +16,7 @@ use Rattle.cbor.proofs.Utf8Text.{text-of}
 use Rattle.notation.specs.Scanning.{skip}
 use Rattle.notation.specs.Tokens.{leaf, whole, Token, begins}
 use Rattle.notation.specs.Cutting.{next, place}
-use Rattle.notation.specs.Form.{one, take, beginning, obey, reads}
+use Rattle.notation.specs.Form.{atStart, one, take, beginning, obey, reads}
 use Rattle.notation.specs.Reading.{marked, sequence, readText, single, readItem}
 use Rattle.notation.specs.Places.{toElement, into, toward, levelsAt, around, Span, spanOf, spanAt, textAt}
 use Rattle.notation.specs.Theorems.{IntoLeaf, ItemsFound, ItemFound}
@@ -124,7 +124,7 @@ unfolding locate sequence
 text-leads t xs rd [] = tt
 text-leads t xs rd (k ∷ p) =
     rw (← rd .all)
-    (leads-onward (ToElement mostLevels (marked t) k) (λ y. Placed t (k ∷ p)) (nth 0 k (rd .closed .all)) (descend 1 p) (items-lead k 0 whole true mostLevels (marked t) (rd .closed) (rd .rest) (rd .reading))
+    (leads-onward (ToElement mostLevels (marked t) k) (λ y. Placed t (k ∷ p)) (nth 0 k (rd .closed .all)) (descend 1 p) (items-lead k 0 whole atStart mostLevels (marked t) (rd .closed) (rd .rest) (rd .reading))
     (λ x w. leads-map (Goes mostLevels p (w .from)) (λ y. Placed t (k ∷ p)) (descend 1 p x) (λ y h. go x y w h) (path-leads p 1 mostLevels (w .from) (w .behind) x (w .was))))
   where
     go : (x y : Item) (w : ToElement mostLevels (marked t) k x) → Goes mostLevels p (w .from) y → Placed t (k ∷ p)

@@ -9,7 +9,7 @@ use Rattle.cbor.specs.Items.{Item}
 use Rattle.cbor.proofs.Results.{refuse-not-ok}
 use Rattle.notation.specs.Tokens.{Beginning, Shape, Token, begins, closes, aComma, aColon}
 use Rattle.notation.specs.Cutting.{next, place}
-use Rattle.notation.specs.Form.{one, items, pairs, Rule, give, deny, denyFirst, take, call, then, strays, beginning, oneRule, afterItem, itemsRule, afterKey, pairsRule, rules, Calls, obey, reads}
+use Rattle.notation.specs.Form.{Position, one, items, pairs, Rule, give, deny, denyFirst, take, call, then, strays, beginning, oneRule, afterItem, itemsRule, afterKey, pairsRule, rules, Calls, obey, reads}
 use Rattle.notation.proofs.ByName.{bind-ok, reads-is}
 
 pub bind-same : {A B : Type 0} (R : Result A) (f f′ : A → List ℕ → Result B) → ((x : A) (t : List ℕ) → R ≡ ok x t → f x t ≡ f′ x t) → bind R f ≡ bind R f′
@@ -48,11 +48,11 @@ first-is d g after s r e =
     ∙ ap (λ R. bind R (λ x t. obey reads (take (after x)) (place s) (place s) t)) (sym (one-begins d g s r e))
 
 -- where an item begins, items and pairs begin with it
-pub items-begin : (h : Shape) (b : Bool) (d : ℕ) (g : Beginning) (s r : List ℕ) → next s ≡ ok (begins g) r → reads (items h b d) s ≡ obey reads (element d (afterItem h d)) (place s) (place s) s
+pub items-begin : (h : Shape) (b : Position) (d : ℕ) (g : Beginning) (s r : List ℕ) → next s ≡ ok (begins g) r → reads (items h b d) s ≡ obey reads (element d (afterItem h d)) (place s) (place s) s
 unfolding rules itemsRule
 items-begin h b d g s r e = reads-is (items h b d) s ∙ bind-ok _ e ∙ first-is d g (afterItem h d) s r e
 
-pub pairs-begin : (b : Bool) (d : ℕ) (g : Beginning) (s r : List ℕ) → next s ≡ ok (begins g) r → reads (pairs b d) s ≡ obey reads (element d (afterKey d)) (place s) (place s) s
+pub pairs-begin : (b : Position) (d : ℕ) (g : Beginning) (s r : List ℕ) → next s ≡ ok (begins g) r → reads (pairs b d) s ≡ obey reads (element d (afterKey d)) (place s) (place s) s
 unfolding rules pairsRule
 pairs-begin b d g s r e = reads-is (pairs b d) s ∙ bind-ok _ e ∙ first-is d g (afterKey d) s r e
 

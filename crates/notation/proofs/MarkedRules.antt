@@ -15,7 +15,7 @@ use Rattle.notation.specs.Scanning.{skip}
 use Rattle.notation.specs.Indicators.{Indicator, absent, indefinitely, unknown, wide, Chosen, chosen, misfit, choose}
 use Rattle.notation.specs.Tokens.{Opener, bracket, brace, tagging, embedding, Beginning, leaf, literal, chunking, opens, Shape, whole, round, Token, begins, closes, aComma, aColon}
 use Rattle.notation.specs.Cutting.{next, place}
-use Rattle.notation.specs.Form.{Wanted, Name, one, items, pairs, chunks, Closed, Value, Rule, give, deny, denyFirst, take, call, then, stray, strayClosing, strays, shapeNumber, closingRule, widthRule, contains, embeds, tagRule, afterTag, inside, beginning, oneRule, afterItem, itemsRule, afterValue, afterKey, pairsRule, afterChunk, isWanted, chunkRule, chunksRule, rules, obey, reads}
+use Rattle.notation.specs.Form.{Position, atStart, behindComma, Wanted, Name, one, items, pairs, chunks, Closed, Value, Rule, give, deny, denyFirst, take, call, then, stray, strayClosing, strays, shapeNumber, closingRule, widthRule, contains, embeds, tagRule, afterTag, inside, beginning, oneRule, afterItem, itemsRule, afterValue, afterKey, pairsRule, afterChunk, isWanted, chunkRule, chunksRule, rules, obey, reads}
 use Rattle.notation.specs.Reading.{marked}
 use Rattle.notation.specs.Alone.{plus}
 use Rattle.notation.proofs.Good.{Below, good-below}
@@ -121,20 +121,20 @@ module _ (h : Shape) (inner : eqb (shapeNumber h) 4 ≡ false) where
   afterItem-safe d x aComma = (inner, λ c. tt)
   afterItem-safe d x aColon = tt
 
-  items-safe : (b : Bool) (d : ℕ) (t : Token) → Safe (itemsRule h b d t)
+  items-safe : (b : Position) (d : ℕ) (t : Token) → Safe (itemsRule h b d t)
   unfolding itemsRule strays afterItem
   items-safe b d (begins g) =
       safe-then (beginning d g) (λ x. take (afterItem h d x)) (beginning-safe d g)
       (λ x. (afterItem-safe d x, closing-ends d h (record { all = more x none; indicator = absent }) inner))
-  items-safe true d (closes h′ i) = closing-safe d h h′ i (record { all = none; indicator = i })
-  items-safe false d (closes h′ i) = tt
+  items-safe atStart d (closes h′ i) = closing-safe d h h′ i (record { all = none; indicator = i })
+  items-safe behindComma d (closes h′ i) = tt
   items-safe b d aComma = tt
   items-safe b d aColon = tt
 
-  items-end : (b : Bool) (d : ℕ) → Ends (itemsRule h b d)
+  items-end : (b : Position) (d : ℕ) → Ends (itemsRule h b d)
   unfolding itemsRule strays stray strayClosing
-  items-end true d = closing-ends d h (record { all = none; indicator = absent }) inner
-  items-end false d = refl
+  items-end atStart d = closing-ends d h (record { all = none; indicator = absent }) inner
+  items-end behindComma d = refl
 
 afterValue-safe : (d : ℕ) (k x : Item) (t : Token) → Safe (afterValue d k x t)
 unfolding afterValue strays
@@ -150,11 +150,11 @@ afterKey-safe d k (closes h i) = tt
 afterKey-safe d k aComma = tt
 afterKey-safe d k aColon = (tt, λ x. (afterValue-safe d k x, refl))
 
-pairs-safe : (b : Bool) (d : ℕ) (t : Token) → Safe (pairsRule b d t)
+pairs-safe : (b : Position) (d : ℕ) (t : Token) → Safe (pairsRule b d t)
 unfolding pairsRule afterKey strays stray strayClosing
 pairs-safe b d (begins g) = safe-then (beginning d g) (λ k. take (afterKey d k)) (beginning-safe d g) (λ k. (afterKey-safe d k, refl))
-pairs-safe true d (closes h i) = closing-safe d _ h i none₂
-pairs-safe false d (closes h i) = tt
+pairs-safe atStart d (closes h i) = closing-safe d _ h i none₂
+pairs-safe behindComma d (closes h i) = tt
 pairs-safe b d aComma = tt
 pairs-safe b d aColon = tt
 
@@ -193,8 +193,8 @@ rules-end : (n : Name) → Inner n → Ends (rules n)
 unfolding rules oneRule pairsRule chunksRule closingRule shapeNumber strays stray strayClosing
 rules-end (one d) i = refl
 rules-end (items h b d) i = items-end h i b d
-rules-end (pairs true d) i = refl
-rules-end (pairs false d) i = refl
+rules-end (pairs atStart d) i = refl
+rules-end (pairs behindComma d) i = refl
 rules-end (chunks w d) i = refl
 
 -- A RULE ON A MARKED TEXT

@@ -19,7 +19,7 @@ use Rattle.notation.specs.Scanning.{skip, skipFrom, skipped}
 use Rattle.notation.specs.Indicators.{Indicator, absent}
 use Rattle.notation.specs.Tokens.{bracket, brace, leaf, literal, Shape, square, curly, round, Token, begins, closes}
 use Rattle.notation.specs.Cutting.{cutBy, cut, place, placed, next}
-use Rattle.notation.specs.Form.{Wanted, either, only, Name, one, items, pairs, chunks, Closed, Value, give, then, shapeNumber, closingRule, tagRule, afterTag, inside, literalItem, beginning, oneRule, addItem, afterItem, itemsRule, afterValue, afterKey, pairsRule, addChunk, afterChunk, isWanted, chunkRule, chunksRule, rules, obey, reads}
+use Rattle.notation.specs.Form.{Position, atStart, behindComma, Wanted, either, only, Name, one, items, pairs, chunks, Closed, Value, give, then, shapeNumber, closingRule, tagRule, afterTag, inside, literalItem, beginning, oneRule, addItem, afterItem, itemsRule, afterValue, afterKey, pairsRule, addChunk, afterChunk, isWanted, chunkRule, chunksRule, rules, obey, reads}
 use Rattle.notation.specs.Printing.{decimalOf, indicatorOf, printString, printChunks, printChunked, sizeOf, printItem, printAll, printRest, printAll₂, printRest₂}
 use Rattle.notation.proofs.Good.{Stop}
 use Rattle.notation.proofs.Locality.{lexing}
@@ -112,7 +112,7 @@ chunked-read k (c ∷ cs) d r v st =
 -- ITEMS UP TO WHAT CLOSES THEM
 
 -- behind the first item: the token after it
-items-first : (h : Shape) (b : Bool) (d : ℕ) (s : List ℕ) {x : Item} {u : List ℕ} → reads (one d) s ≡ ok x u
+items-first : (h : Shape) (b : Position) (d : ℕ) (s : List ℕ) {x : Item} {u : List ℕ} → reads (one d) s ≡ ok x u
     → reads (items h b d) s ≡ bind (next u) (λ t v. obey reads (afterItem h d x t) (place s) (place u) v)
 unfolding obey
 items-first h b d s e = let f = one-starts d s e in items-begin h b d (f .0) s (f .1) (f .2) ∙ bind-ok _ e
@@ -123,27 +123,27 @@ items-end : (h : Shape) (d : ℕ) (x : Item) (i : Indicator) (e r : List ℕ) (p
 unfolding afterItem obey
 items-end h d x i e r p q f = bind-ok _ f ∙ rw (closing-same {A = Closed} d h i)
 
-items-more : (h : Shape) (d : ℕ) (x : Item) (c : ℕ) (s r : List ℕ) (cs : Closed) (p q : ℕ) → is blank c ≡ true → reads (items h false d) s ≡ ok cs r
+items-more : (h : Shape) (d : ℕ) (x : Item) (c : ℕ) (s r : List ℕ) (cs : Closed) (p q : ℕ) → is blank c ≡ true → reads (items h behindComma d) s ≡ ok cs r
     → bind (next (0x2c ∷ (c ∷ s))) (λ t v. obey reads (afterItem h d x t) p q v) ≡ ok (addItem x cs) r
 unfolding afterItem obey
-items-more h d x c s r cs p q b e = bind-ok _ (marks (c ∷ s) .comma) ∙ bind-ok _ (behind-blank (items h false d) c s b e)
+items-more h d x c s r cs p q b e = bind-ok _ (marks (c ∷ s) .comma) ∙ bind-ok _ (behind-blank (items h behindComma d) c s b e)
 
 rest-stop : (xs : Items) (c : ℕ) (e : List ℕ) → Stop e → Stop (printRest (0x2c ∷ c ∷ []) xs ++ e)
 unfolding printRest
 rest-stop none c e st = st
 rest-stop (more x xs) c e st = stops _ .comma
 
-array-read : (d : ℕ) (z : Size) (xs : Items) (s r : List ℕ) → Fits z (count xs) → reads (items square true d) s ≡ ok (record { all = xs; indicator = absent }) r
+array-read : (d : ℕ) (z : Size) (xs : Items) (s r : List ℕ) → Fits z (count xs) → reads (items square atStart d) s ≡ ok (record { all = xs; indicator = absent }) r
     → reads (one (suc d)) (0x5b ∷ (sizeOf z (count xs) ++ s)) ≡ ok (array z xs) r
 unfolding rules oneRule beginning inside obey
 array-read d z xs s r f e =
-    let o = next-bracket z (count xs) s f (no-indicator (items square true d) s e) in
-    by-token (one (suc d)) _ (o .is) ∙ bind-ok _ (reads-skips (items square true d) s (o .rest) (o .skips) ∙ e) ∙ rw (o .sizes (λ z. array z xs))
+    let o = next-bracket z (count xs) s f (no-indicator (items square atStart d) s e) in
+    by-token (one (suc d)) _ (o .is) ∙ bind-ok _ (reads-skips (items square atStart d) s (o .rest) (o .skips) ∙ e) ∙ rw (o .sizes (λ z. array z xs))
 
 -- PAIRS
 
 -- behind the first pair: the token after its value
-pair-first : (b : Bool) (d : ℕ) (s s′ : List ℕ) {k x : Item} {u : List ℕ} → reads (one d) s ≡ ok k (0x3a ∷ (0x20 ∷ s′)) → reads (one d) s′ ≡ ok x u
+pair-first : (b : Position) (d : ℕ) (s s′ : List ℕ) {k x : Item} {u : List ℕ} → reads (one d) s ≡ ok k (0x3a ∷ (0x20 ∷ s′)) → reads (one d) s′ ≡ ok x u
     → reads (pairs b d) s ≡ bind (next u) (λ t v. obey reads (afterValue d k x t) (place s) (place u) v)
 unfolding afterKey obey
 pair-first b d s s′ e e′ =
@@ -157,21 +157,21 @@ pairs-end : (d : ℕ) (k x : Item) (r : List ℕ) (p q : ℕ) → bind (next (0x
 unfolding afterValue obey
 pairs-end d k x r p q = bind-ok _ (marks r .brace) ∙ rw (closing-same {A = Pairs} d curly absent)
 
-pairs-more : (d : ℕ) (k x : Item) (s r : List ℕ) (ps : Pairs) (p q : ℕ) → reads (pairs false d) s ≡ ok ps r
+pairs-more : (d : ℕ) (k x : Item) (s r : List ℕ) (ps : Pairs) (p q : ℕ) → reads (pairs behindComma d) s ≡ ok ps r
     → bind (next (0x2c ∷ (0x20 ∷ s))) (λ t v. obey reads (afterValue d k x t) p q v) ≡ ok (more₂ k x ps) r
 unfolding afterValue obey
-pairs-more d k x s r ps p q e = bind-ok _ (marks (0x20 ∷ s) .comma) ∙ bind-ok _ (behind-blank (pairs false d) 0x20 s space e)
+pairs-more d k x s r ps p q e = bind-ok _ (marks (0x20 ∷ s) .comma) ∙ bind-ok _ (behind-blank (pairs behindComma d) 0x20 s space e)
 
 rest₂-stop : (ps : Pairs) (r : List ℕ) → Stop (printRest₂ ps ++ (0x7d ∷ r))
 unfolding printRest₂
 rest₂-stop none₂ r = stops r .brace
 rest₂-stop (more₂ k x ps) r = stops _ .comma
 
-map-read : (d : ℕ) (z : Size) (ps : Pairs) (s r : List ℕ) → Fits z (count₂ ps) → reads (pairs true d) s ≡ ok ps r → reads (one (suc d)) (0x7b ∷ (sizeOf z (count₂ ps) ++ s)) ≡ ok (map z ps) r
+map-read : (d : ℕ) (z : Size) (ps : Pairs) (s r : List ℕ) → Fits z (count₂ ps) → reads (pairs atStart d) s ≡ ok ps r → reads (one (suc d)) (0x7b ∷ (sizeOf z (count₂ ps) ++ s)) ≡ ok (map z ps) r
 unfolding rules oneRule beginning inside obey
 map-read d z ps s r f e =
-    let o = next-brace z (count₂ ps) s f (no-indicator (pairs true d) s e) in
-    by-token (one (suc d)) _ (o .is) ∙ bind-ok _ (reads-skips (pairs true d) s (o .rest) (o .skips) ∙ e) ∙ rw (o .sizes (λ z. map z ps))
+    let o = next-brace z (count₂ ps) s f (no-indicator (pairs atStart d) s e) in
+    by-token (one (suc d)) _ (o .is) ∙ bind-ok _ (reads-skips (pairs atStart d) s (o .rest) (o .skips) ∙ e) ∙ rw (o .sizes (λ z. map z ps))
 
 pair-split : (a b u r : List ℕ) → (a ++ (ascii ": " ++ (b ++ u))) ++ r ≡ a ++ (0x3a ∷ (0x20 ∷ (b ++ (u ++ r))))
 pair-split a b u r = simp append-assoc
@@ -212,11 +212,11 @@ mutual
 
   -- items, a comma and a blank c between them, in front of e, which closes them
   pub all-read : (xs : Items) (h : Shape) (d c : ℕ) (e r : List ℕ) (i : Indicator) → is blank c ≡ true → ValidAll xs → levelsAll xs ≤ d → Stop e → next e ≡ ok (closes h i) r
-      → reads (items h true d) (printAll (0x2c ∷ c ∷ []) xs ++ e) ≡ ok (record { all = xs; indicator = i }) r
-  all-read none h d c e r i b v l st en = by-token (items h true d) e en ∙ rw (closing-same {A = Closed} d h i)
+      → reads (items h atStart d) (printAll (0x2c ∷ c ∷ []) xs ++ e) ≡ ok (record { all = xs; indicator = i }) r
+  all-read none h d c e r i b v l st en = by-token (items h atStart d) e en ∙ rw (closing-same {A = Closed} d h i)
   all-read (more x xs) h d c e r i b v l st en =
-      ap (reads (items h true d)) (append-assoc (printItem x) (printRest (0x2c ∷ c ∷ []) xs) e)
-      ∙ items-first h true d _ (print-read x d _ (v .0) (omega arith) (rest-stop xs c e st))
+      ap (reads (items h atStart d)) (append-assoc (printItem x) (printRest (0x2c ∷ c ∷ []) xs) e)
+      ∙ items-first h atStart d _ (print-read x d _ (v .0) (omega arith) (rest-stop xs c e st))
       ∙ rest-read xs x h d c e r i _ _ b (v .1) (omega arith) st en
 
   rest-read : (xs : Items) (x : Item) (h : Shape) (d c : ℕ) (e r : List ℕ) (i : Indicator) (p q : ℕ) → is blank c ≡ true → ValidAll xs → levelsAll xs ≤ d → Stop e → next e ≡ ok (closes h i) r
@@ -224,15 +224,15 @@ mutual
   rest-read none x h d c e r i p q b v l st en = items-end h d x i e r p q en
   rest-read (more y ys) x h d c e r i p q b v l st en =
       items-more h d x c _ r (record { all = more y ys; indicator = i }) p q b
-      (ap (reads (items h false d)) (append-assoc (printItem y) (printRest (0x2c ∷ c ∷ []) ys) e)
-      ∙ items-first h false d _ (print-read y d _ (v .0) (omega arith) (rest-stop ys c e st))
+      (ap (reads (items h behindComma d)) (append-assoc (printItem y) (printRest (0x2c ∷ c ∷ []) ys) e)
+      ∙ items-first h behindComma d _ (print-read y d _ (v .0) (omega arith) (rest-stop ys c e st))
       ∙ rest-read ys y h d c e r i _ _ b (v .1) (omega arith) st en)
 
-  pub all₂-read : (ps : Pairs) (d : ℕ) (r : List ℕ) → ValidAll₂ ps → levelsAll₂ ps ≤ d → reads (pairs true d) (printAll₂ ps ++ (0x7d ∷ r)) ≡ ok ps r
-  all₂-read none₂ d r v l = by-token (pairs true d) _ (marks r .brace) ∙ rw (closing-same {A = Pairs} d curly absent)
+  pub all₂-read : (ps : Pairs) (d : ℕ) (r : List ℕ) → ValidAll₂ ps → levelsAll₂ ps ≤ d → reads (pairs atStart d) (printAll₂ ps ++ (0x7d ∷ r)) ≡ ok ps r
+  all₂-read none₂ d r v l = by-token (pairs atStart d) _ (marks r .brace) ∙ rw (closing-same {A = Pairs} d curly absent)
   all₂-read (more₂ k x ps) d r v l =
-      ap (reads (pairs true d)) (pair-split (printItem k) (printItem x) (printRest₂ ps) (0x7d ∷ r))
-      ∙ pair-first true d _ _ (print-read k d _ (v .0) (omega arith) (stops _ .colon)) (print-read x d _ (v .1) (omega arith) (rest₂-stop ps r))
+      ap (reads (pairs atStart d)) (pair-split (printItem k) (printItem x) (printRest₂ ps) (0x7d ∷ r))
+      ∙ pair-first atStart d _ _ (print-read k d _ (v .0) (omega arith) (stops _ .colon)) (print-read x d _ (v .1) (omega arith) (rest₂-stop ps r))
       ∙ rest₂-read ps k x d r _ _ (v .2) (omega arith)
 
   rest₂-read : (ps : Pairs) (k x : Item) (d : ℕ) (r : List ℕ) (p q : ℕ) → ValidAll₂ ps → levelsAll₂ ps ≤ d
@@ -240,6 +240,6 @@ mutual
   rest₂-read none₂ k x d r p q v l = pairs-end d k x r p q
   rest₂-read (more₂ k′ x′ ps) k x d r p q v l =
       pairs-more d k x _ r (more₂ k′ x′ ps) p q
-      (ap (reads (pairs false d)) (pair-split (printItem k′) (printItem x′) (printRest₂ ps) (0x7d ∷ r))
-      ∙ pair-first false d _ _ (print-read k′ d _ (v .0) (omega arith) (stops _ .colon)) (print-read x′ d _ (v .1) (omega arith) (rest₂-stop ps r))
+      (ap (reads (pairs behindComma d)) (pair-split (printItem k′) (printItem x′) (printRest₂ ps) (0x7d ∷ r))
+      ∙ pair-first behindComma d _ _ (print-read k′ d _ (v .0) (omega arith) (stops _ .colon)) (print-read x′ d _ (v .1) (omega arith) (rest₂-stop ps r))
       ∙ rest₂-read ps k′ x′ d r _ _ (v .2) (omega arith))

@@ -17,7 +17,7 @@ use Rattle.notation.specs.Scanning.{skip}
 use Rattle.notation.specs.Indicators.{absent}
 use Rattle.notation.specs.Tokens.{whole}
 use Rattle.notation.specs.Cutting.{place}
-use Rattle.notation.specs.Form.{one, items, reads}
+use Rattle.notation.specs.Form.{atStart, one, items, reads}
 use Rattle.notation.specs.Theorems.{TextOfPrint, ItemOfPrint}
 use Rattle.notation.specs.Reading.{marked, checked, sequence, readText, alone, single, readItem}
 use Rattle.notation.specs.Printing.{decimalOf, indicatorOf, printString, printChunked, printInt, printItem, printAll, printText}
@@ -43,7 +43,7 @@ text-read : (xs : Items) → ValidAll xs → levelsAll xs ≤ mostLevels → seq
 unfolding sequence marked printText printAll
 text-read none v l = all-read none whole mostLevels 0x0a (256 ∷ []) [] absent line v l mark-stop (marks [] .end)
 text-read (more x xs) v l =
-    ap (reads (items whole true mostLevels)) (append-assoc (printAll (ascii ",\n") (more x xs)) (0x0a ∷ []) (256 ∷ []))
+    ap (reads (items whole atStart mostLevels)) (append-assoc (printAll (ascii ",\n") (more x xs)) (0x0a ∷ []) (256 ∷ []))
     ∙ all-read (more x xs) whole mostLevels 0x0a (0x0a ∷ 256 ∷ []) [] absent line v l (stops _ .line) (next-skip _ (256 ∷ []) (lexing .blank-skip 0x0a (256 ∷ []) line) ∙ marks [] .end)
 
 pub print-sequence : (xs : Items) → ValidAll xs → levelsAll xs ≤ mostLevels → bind (sequence (printText xs)) (λ c r. ok (c .all) r) ≡ ok xs []

@@ -16,7 +16,7 @@ use Rattle.notation.specs.Scanning.{skip}
 use Rattle.notation.specs.Indicators.{Indicator, absent, indefinitely, unknown, wide, Chosen, chosen, misfit, choose}
 use Rattle.notation.specs.Tokens.{Opener, bracket, brace, tagging, embedding, Beginning, leaf, literal, chunking, opens, Shape, square, curly, round, angle, whole, Token, begins, closes, aComma, aColon}
 use Rattle.notation.specs.Cutting.{next, place}
-use Rattle.notation.specs.Form.{Name, one, items, pairs, Closed, Value, Rule, give, take, strayClosing, stray, strays, shapeNumber, closingRule, widthRule, contains, inside, beginning, oneRule, addItem, afterItem, itemsRule, afterValue, afterKey, pairsRule, rules, obey, reads}
+use Rattle.notation.specs.Form.{Position, atStart, behindComma, Name, one, items, pairs, Closed, Value, Rule, give, take, strayClosing, stray, strays, shapeNumber, closingRule, widthRule, contains, inside, beginning, oneRule, addItem, afterItem, itemsRule, afterValue, afterKey, pairsRule, rules, obey, reads}
 use Rattle.notation.specs.Places.{Separator, byComma, byColon, separated, past, toElement, toValue, into}
 use Rattle.notation.proofs.Good.{Hard}
 use Rattle.notation.proofs.Locality.{next-skip}
@@ -157,15 +157,15 @@ module _ (n : Name) (d : ℕ) (after : Item → Token → Rule (Value n)) (el : 
         block = λ b′ k l hard i p q. named-bars k hard (h .front ++ b′) (h .block b′ k l hard i (place (h .front ++ b′)) (place (h .front ++ b′)));
       }
 
-items-element : (h : Shape) (bo : Bool) (d : ℕ) → Plain h → Element (items h bo d) d (afterItem h d)
+items-element : (h : Shape) (bo : Position) (d : ℕ) → Plain h → Element (items h bo d) d (afterItem h d)
 unfolding rules itemsRule strays obey
-items-element h true d u = record { begin = λ g s r i. items-begin h true d g s r i; bar = λ h′ i k hard f p q s. closing-bars d h h′ i _ u k hard f p q s }
-items-element h false d u = record { begin = λ g s r i. items-begin h false d g s r i; bar = λ h′ i k hard f p q s. f }
+items-element h atStart d u = record { begin = λ g s r i. items-begin h atStart d g s r i; bar = λ h′ i k hard f p q s. closing-bars d h h′ i _ u k hard f p q s }
+items-element h behindComma d u = record { begin = λ g s r i. items-begin h behindComma d g s r i; bar = λ h′ i k hard f p q s. f }
 
-pairs-element : (bo : Bool) (d : ℕ) → Element (pairs bo d) d (afterKey d)
+pairs-element : (bo : Position) (d : ℕ) → Element (pairs bo d) d (afterKey d)
 unfolding rules pairsRule strays obey shapeNumber
-pairs-element true d = record { begin = λ g s r i. pairs-begin true d g s r i; bar = λ h′ i k hard f p q s. closing-bars d curly h′ i _ refl k hard f p q s }
-pairs-element false d = record { begin = λ g s r i. pairs-begin false d g s r i; bar = λ h′ i k hard f p q s. f }
+pairs-element atStart d = record { begin = λ g s r i. pairs-begin atStart d g s r i; bar = λ h′ i k hard f p q s. closing-bars d curly h′ i _ refl k hard f p q s }
+pairs-element behindComma d = record { begin = λ g s r i. pairs-begin behindComma d g s r i; bar = λ h′ i k hard f p q s. f }
 
 -- THE WAY PAST AN ITEM AND A SEPARATOR
 unfoldable pub tokenOf : Separator → Token
@@ -225,7 +225,7 @@ module _ (d : ℕ) (P : Item → Type 0) (g : Item → Item → Item) where
       let f = closed-ok d h h′ i _ p q s e in
       rw (← f .0) (has-zero P z none u, λ y p q. f .1 _ p q)
   redo-item h z u aComma p q s c r e =
-      let f = bind-map (reads (items h false d) s) (addItem z) e in
+      let f = bind-map (reads (items h behindComma d) s) (addItem z) e in
       rw (← f .2) (has-zero P z (f .0 .all) u, λ y p q. bind-ok _ (f .1))
   redo-item h z u aColon p q s c r e = absurd (refuse-not-ok e)
 
@@ -237,7 +237,7 @@ module _ (d : ℕ) (P : Item → Type 0) (g : Item → Item → Item) where
       let f = closed-ok d curly h i _ p q s e in
       rw (← f .0) (has-zero₂ P key z none₂ u, λ y p q. f .1 _ p q)
   redo-value key z u aComma p q s c r e =
-      let f = bind-map (reads (pairs false d) s) (λ ps. more₂ key z ps) e in
+      let f = bind-map (reads (pairs behindComma d) s) (λ ps. more₂ key z ps) e in
       rw (← f .2) (has-zero₂ P key z (f .0) u, λ y p q. bind-ok _ (f .1))
   redo-value key z u aColon p q s c r e = absurd (refuse-not-ok e)
 
@@ -261,17 +261,17 @@ module _ (e : ℕ) (b a : List ℕ) (d : ℕ) (go : Rule Unit) (P : Item → Typ
     (starts : (p q : ℕ) (s : List ℕ) → obey reads go p q s ≡ ok tt b → (w : Beginning) × (r : List ℕ) × (next s ≡ ok (begins w) r))
     (at : (p q : ℕ) (s : List ℕ) → obey reads go p q s ≡ ok tt b → (x : Item) (r : List ℕ) → reads (one d) s ≡ ok x r → Hole Skips (Blocked d) Next e b a P g (λ p q. reads (one d)) s x r) where
   items-later : (h : Shape) (k : ℕ) (s : List ℕ) (w : Passed d byComma (toElement d go k) s b) (c : Closed) (r : List ℕ)
-      → Hole Equal Refuses Any e b a (λ c. HasNth k P (c .all)) (λ y. changeAll k (g y)) (λ p q. reads (items h false d)) (w .rest) c r
+      → Hole Equal Refuses Any e b a (λ c. HasNth k P (c .all)) (λ y. changeAll k (g y)) (λ p q. reads (items h behindComma d)) (w .rest) c r
       → Hole Equal Refuses Any e b a (λ c. HasNth (suc k) P (c .all)) (λ y. changeAll (suc k) (g y)) (obey reads (element d (afterItem h d))) s (addItem (w .item) c) r
   unfolding obey afterItem tokenOf addItem changeNth
   items-later h k s w c r i =
       hole-past Equal Refuses Any e b a _ _ (one d) (λ x. take (afterItem h d x)) (w .reading)
       (hole-take Equal Refuses Any e b a _ _ (afterItem h d (w .item)) (w .parts)
       (hole-over Equal Refuses Any e b a (λ c. HasNth k P (c .all)) (λ y. changeAll k (g y)) Equal Refuses Any (λ c. HasNth (suc k) P (c .all)) (λ y. changeAll (suc k) (g y))
-      (λ p q. reads (items h false d)) (obey reads (afterItem h d (w .item) aComma)) (λ c p q t. ok (addItem (w .item) c) t) i (λ p q u z t e. (p, q, bind-ok _ e))
-      (λ p q u n hard f. refuses-bind n (reads (items h false d) u) _ f) (has-suc P k (w .item) (c .all) (i .holds)) (λ n. n) (λ y p q t′ n. (t′, n, refl))))
+      (λ p q. reads (items h behindComma d)) (obey reads (afterItem h d (w .item) aComma)) (λ c p q t. ok (addItem (w .item) c) t) i (λ p q u z t e. (p, q, bind-ok _ e))
+      (λ p q u n hard f. refuses-bind n (reads (items h behindComma d) u) _ f) (has-suc P k (w .item) (c .all) (i .holds)) (λ n. n) (λ y p q t′ n. (t′, n, refl))))
 
-  items-first : (h : Shape) → Plain h → (bo : Bool) (s : List ℕ) (p q : ℕ) → obey reads go p q s ≡ ok tt b → (c : Closed) (r : List ℕ) → reads (items h bo d) s ≡ ok c r
+  items-first : (h : Shape) → Plain h → (bo : Position) (s : List ℕ) (p q : ℕ) → obey reads go p q s ≡ ok tt b → (c : Closed) (r : List ℕ) → reads (items h bo d) s ≡ ok c r
       → Hole Equal Refuses Any e b a (λ c. HasNth 0 P (c .all)) (λ y. changeAll 0 (g y)) (λ p q. reads (items h bo d)) s c r
   unfolding obey
   items-first h u bo s p q o c r i =
@@ -282,45 +282,45 @@ module _ (e : ℕ) (b a : List ℕ) (d : ℕ) (go : Rule Unit) (P : Item → Typ
       (at p q s o (j .0) (j .1) (j .2)) (j .3))
 
   -- what is read behind an item and a comma
-  items-rest : (h : Shape) (bo : Bool) (k : ℕ) (s : List ℕ) (w : Passed d byComma (toElement d go k) s b) (c : Closed) (r : List ℕ) → reads (items h bo d) s ≡ ok c r
-      → (c′ : Closed) × (reads (items h false d) (w .rest) ≡ ok c′ r) × (addItem (w .item) c′ ≡ c)
+  items-rest : (h : Shape) (bo : Position) (k : ℕ) (s : List ℕ) (w : Passed d byComma (toElement d go k) s b) (c : Closed) (r : List ℕ) → reads (items h bo d) s ≡ ok c r
+      → (c′ : Closed) × (reads (items h behindComma d) (w .rest) ≡ ok c′ r) × (addItem (w .item) c′ ≡ c)
   unfolding obey afterItem tokenOf
   items-rest h bo k s w c r i =
       let st = one-starts d s (w .reading) in
-      bind-map (reads (items h false d) (w .rest)) (addItem (w .item)) (sym (bind-ok _ (w .reading) ∙ bind-ok _ (w .parts)) ∙ (sym (items-begin h bo d (st .0) s (st .1) (st .2)) ∙ i))
+      bind-map (reads (items h behindComma d) (w .rest)) (addItem (w .item)) (sym (bind-ok _ (w .reading) ∙ bind-ok _ (w .parts)) ∙ (sym (items-begin h bo d (st .0) s (st .1) (st .2)) ∙ i))
 
-  items-more : (h : Shape) → Plain h → (bo : Bool) (k : ℕ) (s : List ℕ) (w : Passed d byComma (toElement d go k) s b) (c c′ : Closed) (r : List ℕ) → addItem (w .item) c′ ≡ c
-      → Hole Equal Refuses Any e b a (λ c. HasNth k P (c .all)) (λ y. changeAll k (g y)) (λ p q. reads (items h false d)) (w .rest) c′ r
+  items-more : (h : Shape) → Plain h → (bo : Position) (k : ℕ) (s : List ℕ) (w : Passed d byComma (toElement d go k) s b) (c c′ : Closed) (r : List ℕ) → addItem (w .item) c′ ≡ c
+      → Hole Equal Refuses Any e b a (λ c. HasNth k P (c .all)) (λ y. changeAll k (g y)) (λ p q. reads (items h behindComma d)) (w .rest) c′ r
       → Hole Equal Refuses Any e b a (λ c. HasNth (suc k) P (c .all)) (λ y. changeAll (suc k) (g y)) (λ p q. reads (items h bo d)) s c r
   items-more h u bo k s w c c′ r m i =
       rw (← m)
       (named-hole (items h bo d) d (afterItem h d) (items-element h bo d u) e b a (λ c. HasNth (suc k) P (c .all)) (λ y. changeAll (suc k) (g y)) (items-later h k s w c′ r i))
 
-  pub items-hole : (h : Shape) → Plain h → (k : ℕ) (bo : Bool) (s : List ℕ) (p q : ℕ) → obey reads (toElement d go k) p q s ≡ ok tt b → (c : Closed) (r : List ℕ) → reads (items h bo d) s ≡ ok c r
+  pub items-hole : (h : Shape) → Plain h → (k : ℕ) (bo : Position) (s : List ℕ) (p q : ℕ) → obey reads (toElement d go k) p q s ≡ ok tt b → (c : Closed) (r : List ℕ) → reads (items h bo d) s ≡ ok c r
       → Hole Equal Refuses Any e b a (λ c. HasNth k P (c .all)) (λ y. changeAll k (g y)) (λ p q. reads (items h bo d)) s c r
   unfolding toElement
   items-hole h u zero bo s p q o c r i = items-first h u bo s p q o c r i
   items-hole h u (suc k) bo s p q o c r i =
       let w = passed d byComma (toElement d go k) p q s o in
       let m = items-rest h bo k s w c r i in
-      items-more h u bo k s w c (m .0) r (m .2) (items-hole h u k false (w .rest) (w .p) (w .q) (w .on) (m .0) r (m .1))
+      items-more h u bo k s w c (m .0) r (m .2) (items-hole h u k behindComma (w .rest) (w .p) (w .q) (w .on) (m .0) r (m .1))
 
   -- behind the key and the colon
-  value-is : (bo : Bool) (s : List ℕ) (go′ : Rule Unit) (w : Passed d byColon go′ s b) {ps : Pairs} {r : List ℕ} → reads (pairs bo d) s ≡ ok ps r
+  value-is : (bo : Position) (s : List ℕ) (go′ : Rule Unit) (w : Passed d byColon go′ s b) {ps : Pairs} {r : List ℕ} → reads (pairs bo d) s ≡ ok ps r
       → obey reads (element d (afterValue d (w .item))) (place s) (place (w .behind)) (w .rest) ≡ ok ps r
   unfolding obey afterKey tokenOf
   value-is bo s go′ w i =
       let st = one-starts d s (w .reading) in
       sym (bind-ok _ (w .reading) ∙ bind-ok _ (w .parts)) ∙ (sym (pairs-begin bo d (st .0) s (st .1) (st .2)) ∙ i)
 
-  pairs-key : (Q : Pairs → Type 0) (g′ : Item → Pairs → Pairs) (bo : Bool) (s : List ℕ) (go′ : Rule Unit) (w : Passed d byColon go′ s b) (ps : Pairs) (r : List ℕ)
+  pairs-key : (Q : Pairs → Type 0) (g′ : Item → Pairs → Pairs) (bo : Position) (s : List ℕ) (go′ : Rule Unit) (w : Passed d byColon go′ s b) (ps : Pairs) (r : List ℕ)
       → Hole Equal Refuses Any e b a Q g′ (obey reads (element d (afterValue d (w .item)))) (w .rest) ps r → Hole Equal Refuses Any e b a Q g′ (λ p q. reads (pairs bo d)) s ps r
   unfolding afterKey tokenOf
   pairs-key Q g′ bo s go′ w ps r i =
       named-hole (pairs bo d) d (afterKey d) (pairs-element bo d) e b a Q g′
       (hole-past Equal Refuses Any e b a Q g′ (one d) (λ k. take (afterKey d k)) (w .reading) (hole-take Equal Refuses Any e b a Q g′ (afterKey d (w .item)) (w .parts) i))
 
-  pairs-first : (bo : Bool) (s : List ℕ) (w : Passed d byColon go s b) (ps : Pairs) (r : List ℕ) → reads (pairs bo d) s ≡ ok ps r
+  pairs-first : (bo : Position) (s : List ℕ) (w : Passed d byColon go s b) (ps : Pairs) (r : List ℕ) → reads (pairs bo d) s ≡ ok ps r
       → Hole Equal Refuses Any e b a (HasNth₂ 0 P) (λ y. changeNth₂ 0 (g y)) (λ p q. reads (pairs bo d)) s ps r
   unfolding obey
   pairs-first bo s w ps r i =
@@ -329,30 +329,30 @@ module _ (e : ℕ) (b a : List ℕ) (d : ℕ) (go : Rule Unit) (P : Item → Typ
       (element-hole e b a d (afterValue d (w .item)) P g (HasNth₂ 0 P) (λ y. changeNth₂ 0 (g y)) (redo-value d P g (w .item)) (value-bars d (w .item)) (w .rest) (j .1) r (j .0) ps (place s) (place (w .behind))
       (at (w .p) (w .q) (w .rest) (w .on) (j .0) (j .1) (j .2)) (j .3))
 
-  pairs-rest : (bo : Bool) (k : ℕ) (s : List ℕ) (go′ : Rule Unit) (w : Passed d byColon go′ s b) (w′ : Passed d byComma (toValue d go k) (w .rest) b) (ps : Pairs) (r : List ℕ)
-      → reads (pairs bo d) s ≡ ok ps r → (ps′ : Pairs) × (reads (pairs false d) (w′ .rest) ≡ ok ps′ r) × (more₂ (w .item) (w′ .item) ps′ ≡ ps)
+  pairs-rest : (bo : Position) (k : ℕ) (s : List ℕ) (go′ : Rule Unit) (w : Passed d byColon go′ s b) (w′ : Passed d byComma (toValue d go k) (w .rest) b) (ps : Pairs) (r : List ℕ)
+      → reads (pairs bo d) s ≡ ok ps r → (ps′ : Pairs) × (reads (pairs behindComma d) (w′ .rest) ≡ ok ps′ r) × (more₂ (w .item) (w′ .item) ps′ ≡ ps)
   unfolding obey afterValue tokenOf
   pairs-rest bo k s go′ w w′ ps r i =
-      bind-map (reads (pairs false d) (w′ .rest)) (λ ps. more₂ (w .item) (w′ .item) ps) (sym (bind-ok _ (w′ .reading) ∙ bind-ok _ (w′ .parts)) ∙ value-is bo s go′ w i)
+      bind-map (reads (pairs behindComma d) (w′ .rest)) (λ ps. more₂ (w .item) (w′ .item) ps) (sym (bind-ok _ (w′ .reading) ∙ bind-ok _ (w′ .parts)) ∙ value-is bo s go′ w i)
 
   pairs-later : (key : Item) (k : ℕ) (s : List ℕ) (w : Passed d byComma (toValue d go k) s b) (ps : Pairs) (r : List ℕ)
-      → Hole Equal Refuses Any e b a (HasNth₂ k P) (λ y. changeNth₂ k (g y)) (λ p q. reads (pairs false d)) (w .rest) ps r
+      → Hole Equal Refuses Any e b a (HasNth₂ k P) (λ y. changeNth₂ k (g y)) (λ p q. reads (pairs behindComma d)) (w .rest) ps r
       → Hole Equal Refuses Any e b a (HasNth₂ (suc k) P) (λ y. changeNth₂ (suc k) (g y)) (obey reads (element d (afterValue d key))) s (more₂ key (w .item) ps) r
   unfolding obey afterValue tokenOf changeNth₂
   pairs-later key k s w ps r i =
       hole-past Equal Refuses Any e b a _ _ (one d) (λ x. take (afterValue d key x)) (w .reading)
       (hole-take Equal Refuses Any e b a _ _ (afterValue d key (w .item)) (w .parts)
-      (hole-over Equal Refuses Any e b a (HasNth₂ k P) (λ y. changeNth₂ k (g y)) Equal Refuses Any (HasNth₂ (suc k) P) (λ y. changeNth₂ (suc k) (g y)) (λ p q. reads (pairs false d))
+      (hole-over Equal Refuses Any e b a (HasNth₂ k P) (λ y. changeNth₂ k (g y)) Equal Refuses Any (HasNth₂ (suc k) P) (λ y. changeNth₂ (suc k) (g y)) (λ p q. reads (pairs behindComma d))
       (obey reads (afterValue d key (w .item) aComma)) (λ ps p q t. ok (more₂ key (w .item) ps) t) i (λ p q u z t e. (p, q, bind-ok _ e))
-      (λ p q u n hard f. refuses-bind n (reads (pairs false d) u) _ f) (has-suc₂ P k key (w .item) ps (i .holds)) (λ n. n) (λ y p q t′ n. (t′, n, refl))))
+      (λ p q u n hard f. refuses-bind n (reads (pairs behindComma d) u) _ f) (has-suc₂ P k key (w .item) ps (i .holds)) (λ n. n) (λ y p q t′ n. (t′, n, refl))))
 
-  pairs-more : (bo : Bool) (k : ℕ) (s : List ℕ) (go′ : Rule Unit) (w : Passed d byColon go′ s b) (w′ : Passed d byComma (toValue d go k) (w .rest) b) (ps ps′ : Pairs) (r : List ℕ)
-      → more₂ (w .item) (w′ .item) ps′ ≡ ps → Hole Equal Refuses Any e b a (HasNth₂ k P) (λ y. changeNth₂ k (g y)) (λ p q. reads (pairs false d)) (w′ .rest) ps′ r
+  pairs-more : (bo : Position) (k : ℕ) (s : List ℕ) (go′ : Rule Unit) (w : Passed d byColon go′ s b) (w′ : Passed d byComma (toValue d go k) (w .rest) b) (ps ps′ : Pairs) (r : List ℕ)
+      → more₂ (w .item) (w′ .item) ps′ ≡ ps → Hole Equal Refuses Any e b a (HasNth₂ k P) (λ y. changeNth₂ k (g y)) (λ p q. reads (pairs behindComma d)) (w′ .rest) ps′ r
       → Hole Equal Refuses Any e b a (HasNth₂ (suc k) P) (λ y. changeNth₂ (suc k) (g y)) (λ p q. reads (pairs bo d)) s ps r
   pairs-more bo k s go′ w w′ ps ps′ r m i =
       rw (← m) (pairs-key (HasNth₂ (suc k) P) (λ y. changeNth₂ (suc k) (g y)) bo s go′ w (more₂ (w .item) (w′ .item) ps′) r (pairs-later (w .item) k (w .rest) w′ ps′ r i))
 
-  pub pairs-hole : (k : ℕ) (bo : Bool) (s : List ℕ) (p q : ℕ) → obey reads (toValue d go k) p q s ≡ ok tt b → (ps : Pairs) (r : List ℕ) → reads (pairs bo d) s ≡ ok ps r
+  pub pairs-hole : (k : ℕ) (bo : Position) (s : List ℕ) (p q : ℕ) → obey reads (toValue d go k) p q s ≡ ok tt b → (ps : Pairs) (r : List ℕ) → reads (pairs bo d) s ≡ ok ps r
       → Hole Equal Refuses Any e b a (HasNth₂ k P) (λ y. changeNth₂ k (g y)) (λ p q. reads (pairs bo d)) s ps r
   unfolding toValue
   pairs-hole zero bo s p q o ps r i = pairs-first bo s (passed d byColon go p q s o) ps r i
@@ -360,7 +360,7 @@ module _ (e : ℕ) (b a : List ℕ) (d : ℕ) (go : Rule Unit) (P : Item → Typ
       let w = passed d byColon (past d byComma (toValue d go k)) p q s o in
       let w′ = passed d byComma (toValue d go k) (w .p) (w .q) (w .rest) (w .on) in
       let m = pairs-rest bo k s (past d byComma (toValue d go k)) w w′ ps r i in
-      pairs-more bo k s (past d byComma (toValue d go k)) w w′ ps (m .0) r (m .2) (pairs-hole k false (w′ .rest) (w′ .p) (w′ .q) (w′ .on) (m .0) r (m .1))
+      pairs-more bo k s (past d byComma (toValue d go k)) w w′ ps (m .0) r (m .2) (pairs-hole k behindComma (w′ .rest) (w′ .p) (w′ .q) (w′ .on) (m .0) r (m .1))
 
 -- WHAT MAKES A CONTAINER looks at no text
 sized-ok : (c : Chosen) (make : Size → Item) (p q : ℕ) (s : List ℕ) {x : Item} {r : List ℕ} → obey reads (widthRule c (λ w. make (definite w))) p q s ≡ ok x r
@@ -385,26 +385,26 @@ module _ (e : ℕ) (b a : List ℕ) (d k : ℕ) (go : Rule Unit) (P : Item → T
       → Hole Skips Refuses Any e b a (HasChild k P) (λ y. changeChild k (g y)) (obey reads (inside d (bracket i))) s x r
   unfolding inside obey shapeNumber changeChild
   array-hole i s p q p′ q′ o x r f =
-      let j = bind-inv (reads (items square true d) s) _ f in
-      let h = items-hole e b a d go P g starts at square refl k true s p q o (j .0) (j .1) (j .2) in
+      let j = bind-inv (reads (items square atStart d) s) _ f in
+      let h = items-hole e b a d go P g starts at square refl k atStart s p q o (j .0) (j .1) (j .2) in
       let m = contains-ok i (count (j .0 .all)) (λ z. array z (j .0 .all)) p′ q′ (j .1) (j .3) in
       rw (m .1)
-      (hole-over Equal Refuses Any e b a _ _ Skips Refuses Any (HasChild k P) (λ y. changeChild k (g y)) (λ p q. reads (items square true d)) (obey reads (inside d (bracket i)))
+      (hole-over Equal Refuses Any e b a _ _ Skips Refuses Any (HasChild k P) (λ y. changeChild k (g y)) (λ p q. reads (items square atStart d)) (obey reads (inside d (bracket i)))
       (λ c p q t. obey reads (contains i (count (c .all)) (λ z. array z (c .all))) p q t) h (λ p q u z t e. (p, q, bind-ok _ e))
-      (λ p q u n hard f. refuses-bind n (reads (items square true d) u) _ f) (has-array P k (m .0) (j .0 .all) (h .holds)) (λ n. n)
+      (λ p q u n hard f. refuses-bind n (reads (items square atStart d) u) _ f) (has-array P k (m .0) (j .0 .all) (h .holds)) (λ n. n)
       (λ y p q t n. (t, ap skip (n ∙ m .2), rw (count-change k (g y) (j .0 .all)) (m .3 (λ z. array z (changeNth k (g y) (j .0 .all))) p q t))))
 
   map-hole : (i : Indicator) (s : List ℕ) (p q p′ q′ : ℕ) → obey reads (toValue d go k) p q s ≡ ok tt b → (x : Item) (r : List ℕ) → obey reads (inside d (brace i)) p′ q′ s ≡ ok x r
       → Hole Skips Refuses Any e b a (HasChild k P) (λ y. changeChild k (g y)) (obey reads (inside d (brace i))) s x r
   unfolding inside obey changeChild
   map-hole i s p q p′ q′ o x r f =
-      let j = bind-inv (reads (pairs true d) s) _ f in
-      let h = pairs-hole e b a d go P g starts at k true s p q o (j .0) (j .1) (j .2) in
+      let j = bind-inv (reads (pairs atStart d) s) _ f in
+      let h = pairs-hole e b a d go P g starts at k atStart s p q o (j .0) (j .1) (j .2) in
       let m = contains-ok i (count₂ (j .0)) (λ z. map z (j .0)) p′ q′ (j .1) (j .3) in
       rw (m .1)
-      (hole-over Equal Refuses Any e b a _ _ Skips Refuses Any (HasChild k P) (λ y. changeChild k (g y)) (λ p q. reads (pairs true d)) (obey reads (inside d (brace i)))
+      (hole-over Equal Refuses Any e b a _ _ Skips Refuses Any (HasChild k P) (λ y. changeChild k (g y)) (λ p q. reads (pairs atStart d)) (obey reads (inside d (brace i)))
       (λ ps p q t. obey reads (contains i (count₂ ps) (λ z. map z ps)) p q t) h (λ p q u z t e. (p, q, bind-ok _ e))
-      (λ p q u n hard f. refuses-bind n (reads (pairs true d) u) _ f) (has-map P k (m .0) (j .0) (h .holds)) (λ n. n)
+      (λ p q u n hard f. refuses-bind n (reads (pairs atStart d) u) _ f) (has-map P k (m .0) (j .0) (h .holds)) (λ n. n)
       (λ y p q t n. (t, ap skip (n ∙ m .2), rw (count-change₂ k (g y) (j .0)) (m .3 (λ z. map z (changeNth₂ k (g y) (j .0))) p q t))))
 
   -- behind the opening token

@@ -19,7 +19,7 @@ use Rattle.cbor.proofs.Utf8Text.{Text}
 use Rattle.notation.specs.Indicators.{Indicator, absent, indefinitely, unknown, wide, Chosen, chosen, misfit, choose}
 use Rattle.notation.specs.Tokens.{Opener, bracket, brace, tagging, embedding, Beginning, leaf, literal, chunking, opens, Shape, curly, round, Token, begins, closes, aComma, aColon}
 use Rattle.notation.specs.Cutting.{place}
-use Rattle.notation.specs.Form.{Wanted, only, Name, one, items, pairs, chunks, Closed, Chunks, Value, Rule, give, deny, denyFirst, take, call, then, strays, shapeNumber, closingRule, widthRule, contains, embeds, tagRule, afterTag, inside, literalItem, beginning, oneRule, addItem, afterItem, itemsRule, afterValue, afterKey, pairsRule, addChunk, afterChunk, isWanted, chunkRule, chunksRule, rules, Calls, obey, readsWithin, reads}
+use Rattle.notation.specs.Form.{Position, atStart, behindComma, Wanted, only, Name, one, items, pairs, chunks, Closed, Chunks, Value, Rule, give, deny, denyFirst, take, call, then, strays, shapeNumber, closingRule, widthRule, contains, embeds, tagRule, afterTag, inside, literalItem, beginning, oneRule, addItem, afterItem, itemsRule, afterValue, afterKey, pairsRule, addChunk, afterChunk, isWanted, chunkRule, chunksRule, rules, Calls, obey, readsWithin, reads}
 use Rattle.notation.proofs.TextScan.{tested, Leaves, leaves-bind}
 use Rattle.notation.proofs.SoundToken.{most, OpenerSound, TokenSound, weight, head-most, Chose, choose-fits, Next, next-sound}
 
@@ -211,12 +211,12 @@ keeps-after-item h d x i p (closes h′ o) m c =
 keeps-after-item h d x i p aComma m c = λ xs j b q. more-held (m + j) (omega arith) p q
 keeps-after-item h d x i p aColon m c = tt
 
-keeps-items : (h : Shape) (b : Bool) (d : ℕ) (t : Token) (m : ℕ) → Taken 0 t m → Keeps (HeldClosed d) m (itemsRule h b d t)
+keeps-items : (h : Shape) (b : Position) (d : ℕ) (t : Token) (m : ℕ) → Taken 0 t m → Keeps (HeldClosed d) m (itemsRule h b d t)
 unfolding itemsRule strays
 keeps-items h b d (begins g) m c =
     keeps-then (HeldItem d) (HeldClosed d) (beginning d g) (λ x. take (afterItem h d x)) m (c .short) (keeps-beginning d g m c) (λ x i k p. keeps-after-item h d x i p)
-keeps-items h true d (closes h′ o) m c = keeps-closing (HeldClosed d) m d h h′ o (record { all = none; indicator = o }) (none-held d m)
-keeps-items h false d (closes h′ o) m c = tt
+keeps-items h atStart d (closes h′ o) m c = keeps-closing (HeldClosed d) m d h h′ o (record { all = none; indicator = o }) (none-held d m)
+keeps-items h behindComma d (closes h′ o) m c = tt
 keeps-items h b d aComma m c = tt
 keeps-items h b d aColon m c = tt
 
@@ -237,11 +237,11 @@ keeps-after-key d k i p (closes h o) m c = tt
 keeps-after-key d k i p aComma m c = tt
 keeps-after-key d k i p aColon m c = λ x j b q t n e. keeps-after-value d k x m j (item-later m (omega arith) p) q t n e
 
-keeps-pairs : (b : Bool) (d : ℕ) (t : Token) (m : ℕ) → Taken 0 t m → Keeps (HeldPairs d) m (pairsRule b d t)
+keeps-pairs : (b : Position) (d : ℕ) (t : Token) (m : ℕ) → Taken 0 t m → Keeps (HeldPairs d) m (pairsRule b d t)
 unfolding pairsRule strays
 keeps-pairs b d (begins g) m c = keeps-then (HeldItem d) (HeldPairs d) (beginning d g) (λ k. take (afterKey d k)) m (c .short) (keeps-beginning d g m c) (λ k i e p. keeps-after-key d k i p)
-keeps-pairs true d (closes h o) m c = keeps-closing (HeldPairs d) m d curly h o none₂ (none₂-held d m)
-keeps-pairs false d (closes h o) m c = tt
+keeps-pairs atStart d (closes h o) m c = keeps-closing (HeldPairs d) m d curly h o none₂ (none₂-held d m)
+keeps-pairs behindComma d (closes h o) m c = tt
 keeps-pairs b d aComma m c = tt
 keeps-pairs b d aColon m c = tt
 

@@ -15,7 +15,7 @@ use Rattle.cbor.specs.Decode.{mostBytes, mostLevels}
 use Rattle.cbor.proofs.Utf8Text.{Text, text-of, text-marked}
 use Rattle.notation.specs.Tokens.{Token, whole}
 use Rattle.notation.specs.Cutting.{next, place}
-use Rattle.notation.specs.Form.{one, items, stray}
+use Rattle.notation.specs.Form.{atStart, one, items, stray}
 use Rattle.notation.specs.Theorems.{TextValid}
 use Rattle.notation.specs.Reading.{marked, checked, sequence, readText, outside, alone, single, readItem}
 use Rattle.notation.proofs.TextScan.{tested, Leaves, leaves-bind}
@@ -43,8 +43,8 @@ AllSound xs = ValidAll xs × (levelsAll xs ≤ mostLevels)
 sequence-sound : (s : List ℕ) → length s ≤ mostBytes → isUtf8 s ≡ true → Leaves (λ xs k. AllSound xs) (bind (sequence s) (λ c r. ok (c .all) r))
 unfolding sequence marked
 sequence-sound s l e =
-    leaves-bind (Reads (Sound (items whole true mostLevels)) (length (marked s))) (λ xs k. AllSound xs) _ _
-    (reads-sound (items whole true mostLevels) (marked s) (text-marked (text-of s e)) (rw length-append (omega arith))) (λ c r t h. (t, (h .2 .good, h .2 .deep)))
+    leaves-bind (Reads (Sound (items whole atStart mostLevels)) (length (marked s))) (λ xs k. AllSound xs) _ _
+    (reads-sound (items whole atStart mostLevels) (marked s) (text-marked (text-of s e)) (rw length-append (omega arith))) (λ c r t h. (t, (h .2 .good, h .2 .deep)))
 
 text-accepts : (s : List ℕ) → Accepts AllSound (readText s)
 unfolding readText

@@ -18,7 +18,7 @@ use Rattle.notation.specs.Classes.{blank, is}
 use Rattle.notation.specs.Scanning.{skip}
 use Rattle.notation.specs.Tokens.{Beginning, whole, Token, begins, closes, aComma, aColon}
 use Rattle.notation.specs.Cutting.{next, place, placed, cut}
-use Rattle.notation.specs.Form.{one, items, Closed, Rule, stray, shapeNumber, obey, reads}
+use Rattle.notation.specs.Form.{atStart, one, items, Closed, Rule, stray, shapeNumber, obey, reads}
 use Rattle.notation.specs.Reading.{marked, sequence, outside, alone, single}
 use Rattle.notation.specs.Places.{into, toElement, toward, levelsAt, around, Span, spanOf, spanAt, edited}
 use Rattle.notation.proofs.Good.{blank-at, blank-stop, Like, like, like-more, Hard}
@@ -193,11 +193,11 @@ module _ (k : ℕ) (p s : List ℕ) (z : Span) (c : Closed) (r : List ℕ) (read
   abbrev pub e : ℕ
   e = levelsAt mostLevels p
 
-  pub text-hole : Hole Equal Refuses Any e (sp .from) (sp .behind) (λ c. HasNth k (Has p (sp .old)) (c .all)) (λ y. changeAll k (changeIn p (λ x. y))) (λ p q. reads (items whole true mostLevels)) (marked s) c r
+  pub text-hole : Hole Equal Refuses Any e (sp .from) (sp .behind) (λ c. HasNth k (Has p (sp .old)) (c .all)) (λ y. changeAll k (changeIn p (λ x. y))) (λ p q. reads (items whole atStart mostLevels)) (marked s) c r
   unfolding sequence shapeNumber
   text-hole =
       items-hole e (sp .from) (sp .behind) mostLevels (toward mostLevels p) (Has p (sp .old)) (λ y. changeIn p (λ x. y)) (toward-starts p mostLevels (sp .from) (sp .behind) (sp .old) (sp .was))
-      (one-hole p mostLevels (sp .from) (sp .behind) (sp .old) (sp .was)) whole refl k true (marked s) 0 0 (sp .way) c r reading
+      (one-hole p mostLevels (sp .from) (sp .behind) (sp .old) (sp .was)) whole refl k atStart (marked s) 0 0 (sp .way) c r reading
 
   -- all in front of the item's first token
   front : List ℕ
@@ -268,7 +268,7 @@ module _ (k : ℕ) (p s : List ℕ) (z : Span) (c : Closed) (r : List ℕ) (read
     unfolding sequence
     filled {y} i =
         let f = text-hole .fill (inserted b₁ new b₂) (b₂ ∷ sp .behind) y inserted-like (inserted-reads ∙ single-fills e b₁ b₂ h₁ h₂ new (sp .behind) i) (lexing .blank-skip b₂ (sp .behind) h₂) 0 0 in
-        ap (reads (items whole true mostLevels)) (edited-is b₁ new b₂) ∙ f .2 ∙ ap (λ (u : List ℕ). ok (changeAll k (changeIn p (λ x. y)) c) u) (f .1)
+        ap (reads (items whole atStart mostLevels)) (edited-is b₁ new b₂) ∙ f .2 ∙ ap (λ (u : List ℕ). ok (changeAll k (changeIn p (λ x. y)) c) u) (f .1)
 
     pub blocked : (n w : ℕ) → Hard n → single e new ≡ refuse n w → Refuses n (sequence (edited s z b₁ new b₂))
     unfolding sequence

@@ -15,7 +15,7 @@ use Rattle.cbor.proofs.Results.{refuse-not-ok}
 use Rattle.notation.specs.Indicators.{Indicator, absent, indefinitely, unknown, wide, Chosen, chosen, misfit, choose}
 use Rattle.notation.specs.Tokens.{Opener, bracket, brace, tagging, embedding, Beginning, leaf, literal, chunking, opens, Shape, square, curly, round, Token, begins, closes, aComma, aColon}
 use Rattle.notation.specs.Cutting.{next, place}
-use Rattle.notation.specs.Form.{Name, one, items, pairs, Closed, Value, Rule, give, deny, denyFirst, take, call, then, strays, shapeNumber, closingRule, widthRule, contains, embeds, tagRule, afterTag, inside, literalItem, beginning, addItem, afterItem, itemsRule, afterValue, afterKey, pairsRule, rules, obey, reads}
+use Rattle.notation.specs.Form.{Position, atStart, behindComma, Name, one, items, pairs, Closed, Value, Rule, give, deny, denyFirst, take, call, then, strays, shapeNumber, closingRule, widthRule, contains, embeds, tagRule, afterTag, inside, literalItem, beginning, addItem, afterItem, itemsRule, afterValue, afterKey, pairsRule, rules, obey, reads}
 use Rattle.notation.specs.Places.{Separator, byComma, byColon, separated, past, toElement, toValue, into}
 use Rattle.notation.proofs.TextScan.{tested}
 use Rattle.notation.proofs.ByName.{bind-ok, reads-is}
@@ -94,16 +94,16 @@ named-gives n d after P begin at-close at-comma at-colon s h x r e = go (next s)
     go (refuse k w) f = absurd (refuse-not-ok (sym f ∙ bind-inv (next s) _ (sym (reads-is n s) ∙ e) .2))
 
 -- Items are none; one, the last; or one, a comma and more
-items-cases : (P : Items → Type 0) (h : Shape) (b : Bool) (d : ℕ) (s : List ℕ) → P none → ((x : Item) (u : List ℕ) → reads (one d) s ≡ ok x u → P (more x none))
-    → ((x : Item) (u v : List ℕ) (c : Closed) (r : List ℕ) → reads (one d) s ≡ ok x u → next u ≡ ok aComma v → reads (items h false d) v ≡ ok c r → P (more x (c .all)))
+items-cases : (P : Items → Type 0) (h : Shape) (b : Position) (d : ℕ) (s : List ℕ) → P none → ((x : Item) (u : List ℕ) → reads (one d) s ≡ ok x u → P (more x none))
+    → ((x : Item) (u v : List ℕ) (c : Closed) (r : List ℕ) → reads (one d) s ≡ ok x u → next u ≡ ok aComma v → reads (items h behindComma d) v ≡ ok c r → P (more x (c .all)))
     → (c : Closed) (r : List ℕ) → reads (items h b d) s ≡ ok c r → P (c .all)
 unfolding rules itemsRule afterItem strays addItem
 items-cases P h b d s empty last further =
     named-gives (items h b d) d (afterItem h d) (λ c r. P (c .all)) (items-begin h b d) (close b) (λ u. tt) (λ u. tt) s (λ x u e t v f. behind x u e t v f)
   where
-    close : (b : Bool) (h′ : Shape) (i : Indicator) (u : List ℕ) → Gives (λ c r. P (c .all)) (itemsRule h b d (closes h′ i)) u
-    close true h′ i u = closing-gives (λ c r. P (c .all)) d h h′ i _ u empty
-    close false h′ i u = tt
+    close : (b : Position) (h′ : Shape) (i : Indicator) (u : List ℕ) → Gives (λ c r. P (c .all)) (itemsRule h b d (closes h′ i)) u
+    close atStart h′ i u = closing-gives (λ c r. P (c .all)) d h h′ i _ u empty
+    close behindComma h′ i u = tt
 
     behind : (x : Item) (u : List ℕ) → reads (one d) s ≡ ok x u → (t : Token) (v : List ℕ) → next u ≡ ok t v → Gives (λ c r. P (c .all)) (afterItem h d x t) v
     behind x u e (begins g) v f = tt
@@ -112,18 +112,18 @@ items-cases P h b d s empty last further =
     behind x u e aColon v f = tt
 
 -- and so are pairs
-pairs-cases : (P : Pairs → Type 0) (b : Bool) (d : ℕ) (s : List ℕ) → P none₂
+pairs-cases : (P : Pairs → Type 0) (b : Position) (d : ℕ) (s : List ℕ) → P none₂
     → ((y x : Item) (u v w : List ℕ) → reads (one d) s ≡ ok y u → next u ≡ ok aColon v → reads (one d) v ≡ ok x w → P (more₂ y x none₂))
-    → ((y x : Item) (u v w z : List ℕ) (ps : Pairs) (r : List ℕ) → reads (one d) s ≡ ok y u → next u ≡ ok aColon v → reads (one d) v ≡ ok x w → next w ≡ ok aComma z → reads (pairs false d) z ≡ ok ps r
+    → ((y x : Item) (u v w z : List ℕ) (ps : Pairs) (r : List ℕ) → reads (one d) s ≡ ok y u → next u ≡ ok aColon v → reads (one d) v ≡ ok x w → next w ≡ ok aComma z → reads (pairs behindComma d) z ≡ ok ps r
     → P (more₂ y x ps))
     → (ps : Pairs) (r : List ℕ) → reads (pairs b d) s ≡ ok ps r → P ps
 unfolding rules pairsRule afterKey afterValue strays
 pairs-cases P b d s empty last further =
     named-gives (pairs b d) d (afterKey d) (λ ps r. P ps) (pairs-begin b d) (close b) (λ u. tt) (λ u. tt) s (λ y u e t v f. key y u e t v f)
   where
-    close : (b : Bool) (h : Shape) (i : Indicator) (u : List ℕ) → Gives (λ ps r. P ps) (pairsRule b d (closes h i)) u
-    close true h i u = closing-gives (λ ps r. P ps) d curly h i _ u empty
-    close false h i u = tt
+    close : (b : Position) (h : Shape) (i : Indicator) (u : List ℕ) → Gives (λ ps r. P ps) (pairsRule b d (closes h i)) u
+    close atStart h i u = closing-gives (λ ps r. P ps) d curly h i _ u empty
+    close behindComma h i u = tt
 
     behind : (y : Item) (u v : List ℕ) → reads (one d) s ≡ ok y u → next u ≡ ok aColon v → (x : Item) (w : List ℕ) → reads (one d) v ≡ ok x w → (t : Token) (z : List ℕ) → next w ≡ ok t z
         → Gives (λ ps r. P ps) (afterValue d y x t) z
@@ -171,15 +171,15 @@ ToElement d s k = Way d (λ go. toElement d go k) s
 abbrev ToValue : ℕ → List ℕ → ℕ → Item → Type 0
 ToValue d s k = Way d (λ go. toValue d go k) s
 
-pub items-lead : (k i : ℕ) (h : Shape) (b : Bool) (d : ℕ) (s : List ℕ) (c : Closed) (r : List ℕ) → reads (items h b d) s ≡ ok c r → Leads (ToElement d s k) (nth i k (c .all))
+pub items-lead : (k i : ℕ) (h : Shape) (b : Position) (d : ℕ) (s : List ℕ) (c : Closed) (r : List ℕ) → reads (items h b d) s ≡ ok c r → Leads (ToElement d s k) (nth i k (c .all))
 unfolding nth toElement tokenOf within
 items-lead zero i h b d s = items-cases (λ xs. Leads (ToElement d s 0) (nth i 0 xs)) h b d s tt (λ x u e. way-here d e) (λ x u v c r e f g. way-here d e)
 items-lead (suc k) i h b d s =
     items-cases (λ xs. Leads (ToElement d s (suc k)) (nth i (suc k) xs)) h b d s tt (λ x u e. tt)
     (λ x u v c r e f g. leads-within (ToElement d s (suc k)) (encode x) [] (nth i k (c .all))
-    (leads-map (ToElement d v k) (ToElement d s (suc k)) (nth i k (c .all)) (λ y w. way-past d byComma (λ go. toElement d go k) e f w) (items-lead k i h false d v c r g)))
+    (leads-map (ToElement d v k) (ToElement d s (suc k)) (nth i k (c .all)) (λ y w. way-past d byComma (λ go. toElement d go k) e f w) (items-lead k i h behindComma d v c r g)))
 
-pairs-lead : (k i : ℕ) (b : Bool) (d : ℕ) (s : List ℕ) (ps : Pairs) (r : List ℕ) → reads (pairs b d) s ≡ ok ps r → Leads (ToValue d s k) (nth₂ i k ps)
+pairs-lead : (k i : ℕ) (b : Position) (d : ℕ) (s : List ℕ) (ps : Pairs) (r : List ℕ) → reads (pairs b d) s ≡ ok ps r → Leads (ToValue d s k) (nth₂ i k ps)
 unfolding nth₂ toValue tokenOf within
 pairs-lead zero i b d s =
     pairs-cases (λ ps. Leads (ToValue d s 0) (nth₂ i 0 ps)) b d s tt (λ y x u v w e f e′. way-past d byColon (λ go. go) e f (way-here d e′))
@@ -188,7 +188,7 @@ pairs-lead (suc k) i b d s =
     pairs-cases (λ ps. Leads (ToValue d s (suc k)) (nth₂ i (suc k) ps)) b d s tt (λ y x u v w e f e′. tt)
     (λ y x u v w z ps r e f e′ f′ g. leads-within (ToValue d s (suc k)) (encode y ++ encode x) [] (nth₂ i k ps)
     (leads-map (ToValue d z k) (ToValue d s (suc k)) (nth₂ i k ps)
-    (λ y q. way-past d byColon (λ go. past d byComma (toValue d go k)) e f (way-past d byComma (λ go. toValue d go k) e′ f′ q)) (pairs-lead k i false d z ps r g)))
+    (λ y q. way-past d byColon (λ go. past d byComma (toValue d go k)) e f (way-past d byComma (λ go. toValue d go k) e′ f′ q)) (pairs-lead k i behindComma d z ps r g)))
 
 -- ONE STEP INTO AN ITEM x, read at s with d levels left and a behind it: there is a way to its child y, or x is written as one token
 pub data Step (d k : ℕ) (s : List ℕ) (x : Item) (a : List ℕ) (y : Item) : Type 0 where
@@ -226,12 +226,12 @@ module _ (i k : ℕ) (s : List ℕ) where
       contains-gives (Stepped (suc d)) j (count (c .all)) (λ z. array z (c .all)) a
       (λ z. leads-within (Step (suc d) k s (array z (c .all)) a) (openingHead arrays z (count (c .all))) (closingBytes z) (nth i k (c .all))
       (leads-map (ToElement d u k) (Step (suc d) k s (array z (c .all)) a) (nth i k (c .all)) (λ y w. enters d refl (way-take d (λ go. into d go k) f w))
-      (items-lead k i square true d u c a e)))
+      (items-lead k i square atStart d u c a e)))
   inside-gives d (brace j) u f = λ ps a e.
       contains-gives (Stepped (suc d)) j (count₂ ps) (λ z. map z ps) a
       (λ z. leads-within (Step (suc d) k s (map z ps) a) (openingHead maps z (count₂ ps)) (closingBytes z) (nth₂ i k ps)
       (leads-map (ToValue d u k) (Step (suc d) k s (map z ps) a) (nth₂ i k ps) (λ y w. enters d refl (way-take d (λ go. into d go k) f w))
-      (pairs-lead k i true d u ps a e)))
+      (pairs-lead k i atStart d u ps a e)))
   inside-gives d (tagging w n) u f = λ x v e t z g. tag-gives d (suc d) w n x t z
   inside-gives d embedding u f = λ c a e. sized-gives (Stepped (suc d)) _ _ a (λ w. tt)
 

@@ -8,7 +8,7 @@ use Rattle.cbor.specs.Refusals.{Result, ok, refuse, bind, notAllowed}
 use Rattle.cbor.specs.Items.{Item}
 use Rattle.notation.specs.Cutting.{place}
 use Rattle.notation.specs.Form.{one, reads}
-use Rattle.notation.specs.Reading.{marked, outside}
+use Rattle.notation.specs.Reading.{marked, isAtToken, outside}
 
 -- the result for a marked text, of what is read without the mark
 unfoldable pub plus : {A : Type 0} → Result A → Result A
@@ -20,4 +20,4 @@ unfoldable pub aloneMarked : ℕ → Item → List ℕ → Result Item
 aloneMarked d x w = elim (eqb (length w) 1) [ true ↦ ok x w | false ↦ outside d w ]
 
 unfoldable pub singleMarked : ℕ → List ℕ → Result Item
-singleMarked d w = elim (eqb (place w) (length w)) [ true ↦ bind (reads (one d) w) (aloneMarked d) | false ↦ refuse notAllowed (length w) ]
+singleMarked d w = elim (isAtToken w) [ true ↦ bind (reads (one d) w) (aloneMarked d) | false ↦ refuse notAllowed (length w) ]

@@ -1,5 +1,6 @@
--- The form of a text (document 01, Form), as a table of rules. A rule sees one token at a time: it gives a value; denies the last
--- token, or the rule's own first token; takes one more token; or calls another rule by name.
+-- From the papers: the form of a text (document 01, Form), as a table of rules. A rule sees one token at a time: it gives a value;
+-- denies the last token, or the rule's own first token; takes one more token; or calls another rule by name. Above each rule stands its
+-- line of grammar: LEAF is an integer, a word or simple(n); LITERAL a quoted, h or b64 literal; TAG the opening of a tag; `|` is `or`.
 use Prim.Native.Nat.{ℕ, zero, suc}
 use mathlib.Core.List.{List, [], _∷_}
 use mathlib.Core.Bool.{Bool, true, false}
@@ -15,15 +16,20 @@ use Rattle.notation.specs.Tokens.{Opener, bracket, brace, tagging, embed
 use Rattle.notation.specs.Cutting.{next, place}
 
 -- WHAT CAN BE READ, d levels being left: an item; the items up to what closes a shape, from its start or behind a comma; the pairs
--- of a map; the chunks of a string, of either kind or of one
+-- of a map; the chunks of a string, of either kind or of one.
+--   text = items    array = [ items    map = { pairs    tag = TAG item )    embedded = << items    chunked = (_ chunks
 pub data Wanted : Type 0 where
   either : Wanted
   only : Kind → Wanted
 
+-- where in a list: at its start, where it may end; or behind a comma, where one more must follow
+pub data Position : Type 0 where
+  atStart behindComma : Position
+
 pub data Name : Type 0 where
   one : ℕ → Name
-  items : Shape → Bool → ℕ → Name
-  pairs : Bool → ℕ → Name
+  items : Shape → Position → ℕ → Name
+  pairs : Position → ℕ → Name
   chunks : Wanted → ℕ → Name
 
 -- items, with the indicator on the token that closes them
@@ -113,23 +119,27 @@ embeds c = widthRule (choose (c .indicator) (length (encodeAll (c .all)))) (λ w
 unfoldable pub tagRule : Width → ℕ → Item → Rule Item
 tagRule w n x = elim (mayTag n x) [ true ↦ give (tag w n x) | false ↦ denyFirst badTypedArray ]
 
+--   afterTag = )
 unfoldable pub afterTag : ℕ → Width → ℕ → Item → Token → Rule Item
 afterTag d w n x (begins g) = strays d (begins g)
 afterTag d w n x (closes h i) = then (closingRule d round h i x) (tagRule w n)
 afterTag d w n x aComma = strays d aComma
 afterTag d w n x aColon = strays d aColon
 
+-- behind what opens a level
+--   inside = items (up to `]`)  |  pairs  |  item afterTag  |  items (up to `>>`)
 unfoldable pub inside : ℕ → Opener → Rule Item
-inside d (bracket i) = call (items square true d) (λ c. contains i (count (c .all)) (λ z. array z (c .all)))
-inside d (brace i) = call (pairs true d) (λ ps. contains i (count₂ ps) (λ z. map z ps))
+inside d (bracket i) = call (items square atStart d) (λ c. contains i (count (c .all)) (λ z. array z (c .all)))
+inside d (brace i) = call (pairs atStart d) (λ ps. contains i (count₂ ps) (λ z. map z ps))
 inside d (tagging w n) = call (one d) (λ x. take (afterTag d w n x))
-inside d embedding = call (items angle true d) embeds
+inside d embedding = call (items angle atStart d) embeds
 
 -- AN ITEM, d levels being left around it
 unfoldable pub literalItem : Kind → Size → List ℕ → Item
 literalItem k (definite w) b = string k w b
 literalItem k indefinite b = chunked k []
 
+--   beginning = LEAF  |  LITERAL  |  (_ chunks  |  [ inside  |  { inside  |  TAG inside  |  << inside
 unfoldable pub beginning : ℕ → Beginning → Rule Item
 beginning d (leaf x) = elim (leb (levels x) d) [ true ↦ give x | false ↦ deny tooDeep ]
 beginning d (literal k z b) = give (literalItem k z b)
@@ -137,6 +147,7 @@ beginning d chunking = call (chunks either d) (λ c. give (chunked (c .kind) (c 
 beginning zero (opens o) = deny tooDeep
 beginning (suc d) (opens o) = inside d o
 
+--   item = beginning
 unfoldable pub oneRule : ℕ → Token → Rule Item
 oneRule d (begins g) = beginning d g
 oneRule d (closes h i) = strays d (closes h i)
@@ -147,36 +158,41 @@ oneRule d aColon = strays d aColon
 unfoldable pub addItem : Item → Closed → Closed
 addItem x c = record { all = more x (c .all); indicator = c .indicator }
 
+--   afterItem = CLOSE  |  , itemsBehindComma
 unfoldable pub afterItem : Shape → ℕ → Item → Token → Rule Closed
 afterItem h d x (begins g) = strays d (begins g)
 afterItem h d x (closes h′ i) = closingRule d h h′ i (record { all = more x none; indicator = i })
-afterItem h d x aComma = call (items h false d) (λ c. give (addItem x c))
+afterItem h d x aComma = call (items h behindComma d) (λ c. give (addItem x c))
 afterItem h d x aColon = strays d aColon
 
-unfoldable pub itemsRule : Shape → Bool → ℕ → Token → Rule Closed
+--   items = CLOSE  |  beginning afterItem          itemsBehindComma = beginning afterItem
+unfoldable pub itemsRule : Shape → Position → ℕ → Token → Rule Closed
 itemsRule h b d (begins g) = then (beginning d g) (λ x. take (afterItem h d x))
-itemsRule h true d (closes h′ i) = closingRule d h h′ i (record { all = none; indicator = i })
-itemsRule h false d (closes h′ i) = strays d (closes h′ i)
+itemsRule h atStart d (closes h′ i) = closingRule d h h′ i (record { all = none; indicator = i })
+itemsRule h behindComma d (closes h′ i) = strays d (closes h′ i)
 itemsRule h b d aComma = strays d aComma
 itemsRule h b d aColon = strays d aColon
 
 -- "Map: item `:` item pairs with commas"
+--   afterValue = }  |  , pairsBehindComma
 unfoldable pub afterValue : ℕ → Item → Item → Token → Rule Pairs
 afterValue d k x (begins g) = strays d (begins g)
 afterValue d k x (closes h i) = closingRule d curly h i (more₂ k x none₂)
-afterValue d k x aComma = call (pairs false d) (λ ps. give (more₂ k x ps))
+afterValue d k x aComma = call (pairs behindComma d) (λ ps. give (more₂ k x ps))
 afterValue d k x aColon = strays d aColon
 
+--   afterKey = : item afterValue
 unfoldable pub afterKey : ℕ → Item → Token → Rule Pairs
 afterKey d k (begins g) = strays d (begins g)
 afterKey d k (closes h i) = strays d (closes h i)
 afterKey d k aComma = strays d aComma
 afterKey d k aColon = call (one d) (λ x. take (afterValue d k x))
 
-unfoldable pub pairsRule : Bool → ℕ → Token → Rule Pairs
+--   pairs = }  |  beginning afterKey               pairsBehindComma = beginning afterKey
+unfoldable pub pairsRule : Position → ℕ → Token → Rule Pairs
 pairsRule b d (begins g) = then (beginning d g) (λ k. take (afterKey d k))
-pairsRule true d (closes h i) = closingRule d curly h i none₂
-pairsRule false d (closes h i) = strays d (closes h i)
+pairsRule atStart d (closes h i) = closingRule d curly h i none₂
+pairsRule behindComma d (closes h i) = strays d (closes h i)
 pairsRule b d aComma = strays d aComma
 pairsRule b d aColon = strays d aColon
 
@@ -184,6 +200,7 @@ pairsRule b d aColon = strays d aColon
 unfoldable pub addChunk : Chunk → Chunks → Chunks
 addChunk c cs = record { kind = cs .kind; all = c ∷ cs .all }
 
+--   afterChunk = )  |  , chunks
 unfoldable pub afterChunk : ℕ → Kind → Chunk → Token → Rule Chunks
 afterChunk d k c (begins g) = strays d (begins g)
 afterChunk d k c (closes h i) = closingRule d round h i (record { kind = k; all = c ∷ [] })
@@ -201,6 +218,7 @@ unfoldable pub chunkRule : Wanted → ℕ → Kind → Size → List ℕ → Rul
 chunkRule want d k (definite w) b = elim (isWanted want k) [ true ↦ take (afterChunk d k (record { width = w; content = b })) | false ↦ deny mixedChunks ]
 chunkRule want d k indefinite b = deny badIndicator
 
+--   chunks = LITERAL afterChunk
 unfoldable pub chunksRule : Wanted → ℕ → Token → Rule Chunks
 chunksRule want d (begins (leaf x)) = strays d (begins (leaf x))
 chunksRule want d (begins (literal k z b)) = chunkRule want d k z b

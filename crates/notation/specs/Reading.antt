@@ -10,7 +10,7 @@ use Rattle.cbor.specs.Utf8.{firstBad, isUtf8}
 use Rattle.cbor.specs.Decode.{mostBytes, mostLevels}
 use Rattle.notation.specs.Tokens.{whole}
 use Rattle.notation.specs.Cutting.{next, place}
-use Rattle.notation.specs.Form.{one, items, Closed, stray, reads}
+use Rattle.notation.specs.Form.{atStart, one, items, Closed, stray, reads}
 
 -- the end mark, which is no byte, stands behind the text
 unfoldable pub marked : List ℕ → List ℕ
@@ -22,7 +22,7 @@ checked s v = elim (leb (length s) mostBytes) [ true ↦ elim (isUtf8 s) [ true 
 
 -- A TEXT: its items, up to the end mark
 unfoldable pub sequence : List ℕ → Result Closed
-sequence s = reads (items whole true mostLevels) (marked s)
+sequence s = reads (items whole atStart mostLevels) (marked s)
 
 unfoldable pub readText : List ℕ → Verdict Items
 readText s = checked s (verdictOf (suc (length s)) (bind (sequence s) (λ c r. ok (c .all) r)))
@@ -30,16 +30,20 @@ readText s = checked s (verdictOf (suc (length s)) (bind (sequence s) (λ c r. o
 -- THE TEXT OF ONE ITEM, "with no blank or comment outside it, else 11 at the extra token, blank or comment"; a token there is asked
 -- for 3 to 10 first. d levels are left
 
+-- a token, or the end, stands right here: no blank and no comment before it
+abbrev pub isAtToken : List ℕ → Bool
+isAtToken s = eqb (place s) (length s)
+
 -- what stands outside: a blank or a comment; a token that is refused; or a token that may not stand there
 unfoldable pub outside : {A : Type 0} → ℕ → List ℕ → Result A
-outside d s = elim (eqb (place s) (length s)) [ true ↦ bind (next s) (λ t r. refuse (stray d t) (length s)) | false ↦ refuse notAllowed (length s) ]
+outside d s = elim (isAtToken s) [ true ↦ bind (next s) (λ t r. refuse (stray d t) (length s)) | false ↦ refuse notAllowed (length s) ]
 
 unfoldable pub alone : ℕ → Item → List ℕ → Result Item
 alone d x [] = ok x []
 alone d x (b ∷ r) = outside d (b ∷ r)
 
 unfoldable pub single : ℕ → List ℕ → Result Item
-single d s = elim (eqb (place s) (length s)) [ true ↦ bind (reads (one d) s) (alone d) | false ↦ refuse notAllowed (length s) ]
+single d s = elim (isAtToken s) [ true ↦ bind (reads (one d) s) (alone d) | false ↦ refuse notAllowed (length s) ]
 
 unfoldable pub readItem : ℕ → List ℕ → Verdict Item
 readItem d s = checked s (verdictOf (length s) (single d s))

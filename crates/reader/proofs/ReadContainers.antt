@@ -23,7 +23,7 @@ use Rattle.head.proofs.HeadCode.{head-bytes}
 use Rattle.notation.specs.Indicators.{Indicator, absent, indefinitely, unknown, wide, Chosen, chosen, misfit, choose}
 use Rattle.notation.specs.Tokens.{bracket, brace, embedding}
 use Rattle.notation.specs.Cutting.{next, place}
-use Rattle.notation.specs.Form.{one, items, pairs, widthRule, contains, embeds, inside, obey, reads}
+use Rattle.notation.specs.Form.{atStart, one, items, pairs, widthRule, contains, embeds, inside, obey, reads}
 use Rattle.notation.specs.Reading.{marked, sequence}
 use Rattle.token.specs.TokenAnswers.{widthNumber, indicatorNumber, shapeCode, Took}
 use Rattle.numbers.specs.NumberAnswers.{chooseBy, chosenNumber}
@@ -134,9 +134,9 @@ module _ {A : Type 0} {v : A → View} {s b b′ : List ℕ} {at place′ : ℕ}
   kept-more = record { fits = omega (arith, got a told g .moved .short, o .room) }
 
 -- ARRAYS
-module _ {s b b′ : List ℕ} {at pos place′ mark : ℕ} (d : ℕ) (a : ReadAnswer) (br : Bracketed s at pos place′ mark) (told : ReadTold ofClosed s b b′ (length (marked s) - at) (pos + 1) a (reads (items (shapeFor 16) true d) (drop at (marked s)))) where
+module _ {s b b′ : List ℕ} {at pos place′ mark : ℕ} (d : ℕ) (a : ReadAnswer) (br : Bracketed s at pos place′ mark) (told : ReadTold ofClosed s b b′ (length (marked s) - at) (pos + 1) a (reads (items (shapeFor 16) atStart d) (drop at (marked s)))) where
   array-eq : behindOpener d (bracket (indicatorFor mark)) (length (marked s) - place′) (drop at (marked s))
-      ≡ bind (reads (items (shapeFor 16) true d) (drop at (marked s))) (λ c r. obey reads (contains (indicatorFor mark) (count (c .all)) (λ z. array z (c .all))) (length (marked s) - place′) (length (marked s) - place′) r)
+      ≡ bind (reads (items (shapeFor 16) atStart d) (drop at (marked s))) (λ c r. obey reads (contains (indicatorFor mark) (count (c .all)) (λ z. array z (c .all))) (length (marked s) - place′) (length (marked s) - place′) r)
   unfolding behindOpener inside obey shapeFor
   array-eq = refl
 
@@ -148,23 +148,23 @@ module _ {s b b′ : List ℕ} {at pos place′ mark : ℕ} (d : ℕ) (a : ReadA
         → ReadTold ofItem s b b″ (length (marked s) - at + 1) pos a′ (behindOpener d (bracket (indicatorFor mark)) (length (marked s) - place′) (drop at (marked s)))
     unfolding ofClosed encode enclosed openingHead closingBreak noteOf majorNumber
     array-done n1 we fin =
-        rw (array-eq ∙ bind-same (reads (items (shapeFor 16) true d) (drop at (marked s))) _ _ (λ c r e. bounded-by (indicatorFor mark) (count (c .all)) (λ z. array z (c .all)) (length (marked s) - place′) (length (marked s) - place′) r (λ z. n1 (sym (br .known) ∙ z))))
-        (kept-done (reads (items (shapeFor 16) true d)) ofClosed (λ c. indicatorFor mark) (λ c. count (c .all)) (λ c w. array (definite w) (c .all)) arrays
+        rw (array-eq ∙ bind-same (reads (items (shapeFor 16) atStart d) (drop at (marked s))) _ _ (λ c r e. bounded-by (indicatorFor mark) (count (c .all)) (λ z. array z (c .all)) (length (marked s) - place′) (length (marked s) - place′) r (λ z. n1 (sym (br .known) ∙ z))))
+        (kept-done (reads (items (shapeFor 16) atStart d)) ofClosed (λ c. indicatorFor mark) (λ c. count (c .all)) (λ c w. array (definite w) (c .all)) arrays
         (λ c w. ap (λ (u : List ℕ). head arrays w (count (c .all)) ++ u) (mathlib.Core.List.append-nil (encodeAll (c .all)))) a (br .opened) told g mark
         (λ c r mv. (mv .counted, omega (arith, mv .counted, mv .many), sym (br .known), (λ w. refl))) we fin)
 
     pub array-open : mark ≡ 1 → Ended b′ b″ pos 0x9f m 0 a′ → ReadTold ofItem s b b″ (length (marked s) - at + 1) pos a′ (behindOpener d (bracket (indicatorFor mark)) (length (marked s) - place′) (drop at (marked s)))
     unfolding ofClosed encode enclosed openingHead closingBreak initial majorNumber noteOf
     array-open e en =
-        rw (array-eq ∙ bind-same (reads (items (shapeFor 16) true d) (drop at (marked s))) _ _ (λ c r q. open-by mark (count (c .all)) (λ z. array z (c .all)) (length (marked s) - place′) (length (marked s) - place′) r e))
-        (kept-open (reads (items (shapeFor 16) true d)) ofClosed (λ c. array indefinite (c .all)) (λ c. refl) (λ c. refl) a (br .opened) told g en)
+        rw (array-eq ∙ bind-same (reads (items (shapeFor 16) atStart d) (drop at (marked s))) _ _ (λ c r q. open-by mark (count (c .all)) (λ z. array z (c .all)) (length (marked s) - place′) (length (marked s) - place′) r e))
+        (kept-open (reads (items (shapeFor 16) atStart d)) ofClosed (λ c. array indefinite (c .all)) (λ c. refl) (λ c. refl) a (br .opened) told g en)
 
 pub ruleset array-ways = (array-refused, array-done, array-open)
 
 -- MAPS
-module _ {s b b′ : List ℕ} {at pos place′ mark : ℕ} (d : ℕ) (a : ReadAnswer) (br : Bracketed s at pos place′ mark) (told : ReadTold ofPairs s b b′ (length (marked s) - at) (pos + 1) a (reads (pairs true d) (drop at (marked s)))) where
+module _ {s b b′ : List ℕ} {at pos place′ mark : ℕ} (d : ℕ) (a : ReadAnswer) (br : Bracketed s at pos place′ mark) (told : ReadTold ofPairs s b b′ (length (marked s) - at) (pos + 1) a (reads (pairs atStart d) (drop at (marked s)))) where
   map-eq : behindOpener d (brace (indicatorFor mark)) (length (marked s) - place′) (drop at (marked s))
-      ≡ bind (reads (pairs true d) (drop at (marked s))) (λ c r. obey reads (contains (indicatorFor mark) (count₂ c) (λ z. map z c)) (length (marked s) - place′) (length (marked s) - place′) r)
+      ≡ bind (reads (pairs atStart d) (drop at (marked s))) (λ c r. obey reads (contains (indicatorFor mark) (count₂ c) (λ z. map z c)) (length (marked s) - place′) (length (marked s) - place′) r)
   unfolding behindOpener inside obey
   map-eq = refl
 
@@ -176,16 +176,16 @@ module _ {s b b′ : List ℕ} {at pos place′ mark : ℕ} (d : ℕ) (a : ReadA
         → ReadTold ofItem s b b″ (length (marked s) - at + 1) pos a′ (behindOpener d (brace (indicatorFor mark)) (length (marked s) - place′) (drop at (marked s)))
     unfolding ofPairs encode enclosed openingHead closingBreak noteOf majorNumber
     map-done n1 we fin =
-        rw (map-eq ∙ bind-same (reads (pairs true d) (drop at (marked s))) _ _ (λ c r e. bounded-by (indicatorFor mark) (count₂ c) (λ z. map z c) (length (marked s) - place′) (length (marked s) - place′) r (λ z. n1 (sym (br .known) ∙ z))))
-        (kept-done (reads (pairs true d)) ofPairs (λ c. indicatorFor mark) (λ c. count₂ c) (λ c w. map (definite w) c) maps
+        rw (map-eq ∙ bind-same (reads (pairs atStart d) (drop at (marked s))) _ _ (λ c r e. bounded-by (indicatorFor mark) (count₂ c) (λ z. map z c) (length (marked s) - place′) (length (marked s) - place′) r (λ z. n1 (sym (br .known) ∙ z))))
+        (kept-done (reads (pairs atStart d)) ofPairs (λ c. indicatorFor mark) (λ c. count₂ c) (λ c w. map (definite w) c) maps
         (λ c w. ap (λ (u : List ℕ). head maps w (count₂ c) ++ u) (mathlib.Core.List.append-nil (encodeAll₂ c))) a (br .opened) told g mark
         (λ c r mv. (mv .counted, omega (arith, mv .counted, mv .many), sym (br .known), (λ w. refl))) we fin)
 
     pub map-open : mark ≡ 1 → Ended b′ b″ pos 0xbf m 0 a′ → ReadTold ofItem s b b″ (length (marked s) - at + 1) pos a′ (behindOpener d (brace (indicatorFor mark)) (length (marked s) - place′) (drop at (marked s)))
     unfolding ofPairs encode enclosed openingHead closingBreak initial majorNumber noteOf
     map-open e en =
-        rw (map-eq ∙ bind-same (reads (pairs true d) (drop at (marked s))) _ _ (λ c r q. open-by mark (count₂ c) (λ z. map z c) (length (marked s) - place′) (length (marked s) - place′) r e))
-        (kept-open (reads (pairs true d)) ofPairs (λ c. map indefinite c) (λ c. refl) (λ c. refl) a (br .opened) told g en)
+        rw (map-eq ∙ bind-same (reads (pairs atStart d) (drop at (marked s))) _ _ (λ c r q. open-by mark (count₂ c) (λ z. map z c) (length (marked s) - place′) (length (marked s) - place′) r e))
+        (kept-open (reads (pairs atStart d)) ofPairs (λ c. map indefinite c) (λ c. refl) (λ c. refl) a (br .opened) told g en)
 
 pub ruleset map-ways = (map-refused, map-done, map-open)
 
@@ -201,9 +201,9 @@ mark-small (wide w2) = refl
 mark-small (wide w4) = refl
 mark-small (wide w8) = refl
 
-module _ {s b b′ : List ℕ} {at pos place′ : ℕ} (d : ℕ) (a : ReadAnswer) (o : Opened s at pos place′) (told : ReadTold ofClosed s b b′ (length (marked s) - at) (pos + 1) a (reads (items (shapeFor 20) true d) (drop at (marked s)))) where
+module _ {s b b′ : List ℕ} {at pos place′ : ℕ} (d : ℕ) (a : ReadAnswer) (o : Opened s at pos place′) (told : ReadTold ofClosed s b b′ (length (marked s) - at) (pos + 1) a (reads (items (shapeFor 20) atStart d) (drop at (marked s)))) where
   embed-eq : behindOpener d embedding (length (marked s) - place′) (drop at (marked s))
-      ≡ bind (reads (items (shapeFor 20) true d) (drop at (marked s))) (λ c r. obey reads (widthRule (choose (c .indicator) (length (encodeAll (c .all)))) (λ w. string byteString w (encodeAll (c .all)))) (length (marked s) - place′) (length (marked s) - place′) r)
+      ≡ bind (reads (items (shapeFor 20) atStart d) (drop at (marked s))) (λ c r. obey reads (widthRule (choose (c .indicator) (length (encodeAll (c .all)))) (λ w. string byteString w (encodeAll (c .all)))) (length (marked s) - place′) (length (marked s) - place′) r)
   unfolding behindOpener inside obey shapeFor embeds
   embed-eq = refl
 
@@ -215,7 +215,7 @@ module _ {s b b′ : List ℕ} {at pos place′ : ℕ} (d : ℕ) (a : ReadAnswer
   unfolding ofClosed encode encodeString noteOf majorNumber
   embed-done {m = m} g we fin =
       rw embed-eq
-      (kept-done (reads (items (shapeFor 20) true d)) ofClosed (λ c. c .indicator) (λ c. length (encodeAll (c .all))) (λ c w. string byteString w (encodeAll (c .all))) (strings byteString) (λ c w. refl) a o told g (m .note % 256)
+      (kept-done (reads (items (shapeFor 20) atStart d)) ofClosed (λ c. c .indicator) (λ c. length (encodeAll (c .all))) (λ c w. string byteString w (encodeAll (c .all))) (strings byteString) (λ c w. refl) a o told g (m .note % 256)
       (λ c r mv. (mv .sized, omega arith, ap (λ (k : ℕ). k % 256) (mv .noted) ∙ mark-small (c .indicator), (λ w. omega (arith, mv .sized)))) we fin)
 
 pub ruleset embed-ways = (embed-refused, embed-done)
@@ -404,6 +404,6 @@ pub whole-loop : (s : List ℕ) → length s ≤ 65535 → Loop s 0 0 21
 unfolding shapeFor shapeCode
 whole-loop s h = record { room = record { inside = omega arith; room = omega (arith, length-marked s) }; closes = refl }
 
-pub whole-told : {s b b′ : List ℕ} {a : ReadAnswer} → ReadTold ofClosed s b b′ (length (marked s) - 0) 0 a (reads (items (shapeFor 21) true 16) (drop 0 (marked s))) → ReadTold ofClosed s b b′ (length (marked s)) 0 a (sequence s)
+pub whole-told : {s b b′ : List ℕ} {a : ReadAnswer} → ReadTold ofClosed s b b′ (length (marked s) - 0) 0 a (reads (items (shapeFor 21) atStart 16) (drop 0 (marked s))) → ReadTold ofClosed s b b′ (length (marked s)) 0 a (sequence s)
 unfolding shapeFor sequence
 whole-told {s} h = let le : length (marked s) - 0 ≤ length (marked s) = omega arith in told-more le h

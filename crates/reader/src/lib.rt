@@ -19,11 +19,10 @@ use string_reader::literal;
 use tokens::cut::next_token;
 ghost use mathlib.Core.Path.{_≡_};
 ghost use Prim.Native.Nat.{_+_, _-_, _≤_};
-ghost use mathlib.Core.Bool.{true};
 ghost use lib.ListN.{length, drop};
 ghost use Rattle.cbor.specs.Decode.{mostBytes};
 ghost use Rattle.notation.specs.Tokens.{bracket, brace, embedding};
-ghost use Rattle.notation.specs.Form.{one, items, pairs, reads};
+ghost use Rattle.notation.specs.Form.{atStart, one, items, pairs, reads};
 ghost use Rattle.notation.specs.Reading.{marked, sequence};
 ghost use Rattle.encoding.specs.ReadAnswers.{followed, entryRead, behindOpener, taggedRead, indicatorFor, shapeFor, mayTagNoted, Room, Opened, Loop, Ahead, ReadTold, TagMade, Bracketed, joinedAs, ofItem, ofEntry, ofClosed, ofPairs, ofTagged};
 
@@ -243,7 +242,7 @@ fn list(
     pos: usize,
 ) -> ReadAnswer
     requires { ⌜ Loop (now text) from pos closer ⌝ }
-    ensures { λ r. ⌜ ReadTold ofClosed (now (text .entry)) (now (buf .entry)) (now (buf .exit)) (length (marked (now (text .entry))) - from) pos r (reads (items (shapeFor closer) true levels) (drop from (marked (now (text .entry))))) ⌝ }
+    ensures { λ r. ⌜ ReadTold ofClosed (now (text .entry)) (now (buf .entry)) (now (buf .exit)) (length (marked (now (text .entry))) - from) pos r (reads (items (shapeFor closer) atStart levels) (drop from (marked (now (text .entry))))) ⌝ }
 {
     let first = next_token(text, from);
     if first.code == closer {
@@ -276,7 +275,7 @@ fn list(
 // The pairs of a map up to its brace.
 fn entries(text: &[u8], from: usize, levels: usize, buf: &mut [u8], pos: usize) -> ReadAnswer
     requires { ⌜ Loop (now text) from pos 18 ⌝ }
-    ensures { λ r. ⌜ ReadTold ofPairs (now (text .entry)) (now (buf .entry)) (now (buf .exit)) (length (marked (now (text .entry))) - from) pos r (reads (pairs true levels) (drop from (marked (now (text .entry))))) ⌝ }
+    ensures { λ r. ⌜ ReadTold ofPairs (now (text .entry)) (now (buf .entry)) (now (buf .exit)) (length (marked (now (text .entry))) - from) pos r (reads (pairs atStart levels) (drop from (marked (now (text .entry))))) ⌝ }
 {
     let first = next_token(text, from);
     if first.code == 18 {

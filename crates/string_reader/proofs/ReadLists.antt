@@ -14,7 +14,7 @@ use Rattle.refusal.specs.declared.Refusal.{Refusal}
 use Rattle.notation.specs.Indicators.{Indicator}
 use Rattle.notation.specs.Tokens.{Shape, curly}
 use Rattle.notation.specs.Cutting.{next}
-use Rattle.notation.specs.Form.{one, items, pairs, Closed, addItem, reads}
+use Rattle.notation.specs.Form.{atStart, behindComma, one, items, pairs, Closed, addItem, reads}
 use Rattle.notation.specs.Reading.{marked}
 use Rattle.token.specs.TokenAnswers.{indicatorNumber, shapeCode, Took}
 use Rattle.encoding.specs.ReadAnswers.{ofItem, ofEntry, ofClosed, ofPairs, entryRead, shapeFor, Room, Loop, ReadTold, Strayed}
@@ -60,8 +60,8 @@ itemsRow h d =
       ofElem = ofItem;
       ofAll = ofClosed;
       elem = reads (one d);
-      first = reads (items h true d);
-      rest = reads (items h false d);
+      first = reads (items h atStart d);
+      rest = reads (items h behindComma d);
       add = addItem;
       last = lastItem;
       kept = indicatorNumber;
@@ -97,7 +97,7 @@ pub record Items-run (k d : ℕ) (s b₀ : List ℕ) (i pos at n size : ℕ) (b 
   pub run : Run (itemsRow (shapeFor k) d) s b₀ i pos at n size b
 
 pub list-empty : {s b : List ℕ} {i pos k : ℕ} {t : Cut} {a : ReadAnswer} (d : ℕ) → Loop s i pos k → Took s i t → t .code ≡ k → a ≡ Made (record { next = t .next; size = 0; count = 0; note = t .indicator })
-    → ReadTold ofClosed s b b (length (marked s) - i) pos a (reads (items (shapeFor k) true d) (drop i (marked s)))
+    → ReadTold ofClosed s b b (length (marked s) - i) pos a (reads (items (shapeFor k) atStart d) (drop i (marked s)))
 list-empty {s = s} {i = i} {k = k} {t = t} d l tk e f =
     row-empty (itemsRow (shapeFor k) d) tk (t .indicator) emptyItems (e ∙ sym (l .closes)) (λ j z. z ∙ sym (empty-note j)) (λ tok r q c. items-end (shapeFor k) d (drop i (marked s)) r tok q c) empty-bytes empty-count f
 
@@ -116,7 +116,7 @@ list-place r = room-fits (list-room r)
 
 module _ {s b₀ : List ℕ} {k d i pos at n size : ℕ} {b b′ : List ℕ} (a : ReadAnswer)
     (run : Items-run k d s b₀ i pos at n size b) (told : ReadTold ofItem s b b′ (length (marked s) - at) (pos + size) a (reads (one d) (drop at (marked s)))) where
-  pub list-refused : {b″ : List ℕ} {e : Refusal} → a ≡ Refused e → ReadTold ofClosed s b₀ b″ (length (marked s) - i) pos (Refused e) (reads (items (shapeFor k) true d) (drop i (marked s)))
+  pub list-refused : {b″ : List ℕ} {e : Refusal} → a ≡ Refused e → ReadTold ofClosed s b₀ b″ (length (marked s) - i) pos (Refused e) (reads (items (shapeFor k) atStart d) (drop i (marked s)))
   list-refused f = row-refused (itemsRow (shapeFor k) d) a (run .run) told f
 
   module _ {m : MadeS} (g : a ≡ Made m) where
@@ -138,10 +138,10 @@ module _ {s b₀ : List ℕ} {k d i pos at n size : ℕ} {b b′ : List ℕ} (a 
 
       module _ {a′ : ReadAnswer} where
         pub list-close : t .code ≡ k → a′ ≡ Made (record { next = t .next; size = size + m .size; count = n + m .count; note = t .indicator })
-            → ReadTold ofClosed s b₀ b′ (length (marked s) - i) pos a′ (reads (items (shapeFor k) true d) (drop i (marked s)))
+            → ReadTold ofClosed s b₀ b′ (length (marked s) - i) pos a′ (reads (items (shapeFor k) atStart d) (drop i (marked s)))
         list-close e f = row-close (itemsRow (shapeFor k) d) a (run .run) told g tk (t .indicator) (e ∙ sym (run .loop .closes)) (λ j z. z) f
 
-        pub list-stray : (t .code ≡ k → ⊥) → (t .code ≡ 11 → ⊥) → Strayed d t a′ → ReadTold ofClosed s b₀ b′ (length (marked s) - i) pos a′ (reads (items (shapeFor k) true d) (drop i (marked s)))
+        pub list-stray : (t .code ≡ k → ⊥) → (t .code ≡ 11 → ⊥) → Strayed d t a′ → ReadTold ofClosed s b₀ b′ (length (marked s) - i) pos a′ (reads (items (shapeFor k) atStart d) (drop i (marked s)))
         list-stray nc n11 f = row-stray (itemsRow (shapeFor k) d) a (run .run) told g tk (λ z. nc (z ∙ run .loop .closes)) n11 f
 
 pub ruleset list-ways = (list-empty, list-refused, list-close, list-stray)
@@ -179,8 +179,8 @@ pairsRow d =
       ofElem = ofEntry;
       ofAll = ofPairs;
       elem = entryRead d;
-      first = reads (pairs true d);
-      rest = reads (pairs false d);
+      first = reads (pairs atStart d);
+      rest = reads (pairs behindComma d);
       add = addPair;
       last = lastPair;
       kept = λ i. 0;
@@ -211,7 +211,7 @@ unfolding ofPairs
 none-note = refl
 
 pub map-empty : {s b : List ℕ} {i pos : ℕ} {t : Cut} {a : ReadAnswer} (d : ℕ) → Took s i t → t .code ≡ 18 → a ≡ Made (record { next = t .next; size = 0; count = 0; note = 0 })
-    → ReadTold ofPairs s b b (length (marked s) - i) pos a (reads (pairs true d) (drop i (marked s)))
+    → ReadTold ofPairs s b b (length (marked s) - i) pos a (reads (pairs atStart d) (drop i (marked s)))
 unfolding shapeCode
 map-empty {s = s} {i = i} d tk e f =
     row-empty (pairsRow d) tk 0 (λ j. none₂) e (λ j z. none-note) (λ tok r q c. pairs-end d (drop i (marked s)) r tok q c) (λ j. none-bytes) (λ j. none-count) f
@@ -228,7 +228,7 @@ map-place r = room-fits (map-room r)
 
 module _ {s b₀ : List ℕ} {d i pos at n size : ℕ} {b b′ : List ℕ} (a : ReadAnswer)
     (run : Pairs-run d s b₀ i pos at n size b) (told : ReadTold ofEntry s b b′ (length (marked s) - at) (pos + size) a (entryRead d (drop at (marked s)))) where
-  pub map-lost : {b″ : List ℕ} {e : Refusal} → a ≡ Refused e → ReadTold ofPairs s b₀ b″ (length (marked s) - i) pos (Refused e) (reads (pairs true d) (drop i (marked s)))
+  pub map-lost : {b″ : List ℕ} {e : Refusal} → a ≡ Refused e → ReadTold ofPairs s b₀ b″ (length (marked s) - i) pos (Refused e) (reads (pairs atStart d) (drop i (marked s)))
   map-lost f = row-refused (pairsRow d) a (run .run) told f
 
   module _ {m : MadeS} (g : a ≡ Made m) where
@@ -250,11 +250,11 @@ module _ {s b₀ : List ℕ} {d i pos at n size : ℕ} {b b′ : List ℕ} (a : 
 
       module _ {a′ : ReadAnswer} where
         pub map-close : t .code ≡ 18 → a′ ≡ Made (record { next = t .next; size = size + m .size; count = n + m .count; note = 0 })
-            → ReadTold ofPairs s b₀ b′ (length (marked s) - i) pos a′ (reads (pairs true d) (drop i (marked s)))
+            → ReadTold ofPairs s b₀ b′ (length (marked s) - i) pos a′ (reads (pairs atStart d) (drop i (marked s)))
         unfolding shapeCode
         map-close e f = row-close (pairsRow d) a (run .run) told g tk 0 e (λ j z. refl) f
 
-        pub map-stray : (t .code ≡ 18 → ⊥) → (t .code ≡ 11 → ⊥) → Strayed d t a′ → ReadTold ofPairs s b₀ b′ (length (marked s) - i) pos a′ (reads (pairs true d) (drop i (marked s)))
+        pub map-stray : (t .code ≡ 18 → ⊥) → (t .code ≡ 11 → ⊥) → Strayed d t a′ → ReadTold ofPairs s b₀ b′ (length (marked s) - i) pos a′ (reads (pairs atStart d) (drop i (marked s)))
         unfolding shapeCode
         map-stray nc n11 f = row-stray (pairsRow d) a (run .run) told g tk nc n11 f
 
