@@ -30,7 +30,7 @@ use Rattle.notation.proofs.SoundRead.{text-valid}
 use Rattle.notation.proofs.Edited.{edited-text}
 use Rattle.notation.proofs.AllFound.{item-found}
 use Rattle.operations.specs.Operations.{andThen, room, fitting, written, bytesOf, read, itemsOf, textOf, print, spotOf, lookUp, partOf, level, replaced, correction, zeroed, correct}
-use Rattle.operations.specs.Demands.{Demand1, Allowed, Encoded, Restores, Demand2, Parts, PartLookedUp, Blank, tab, newline, carriageReturn, space, blankByte, OneItem, Stored, Edit, editedText, Agree, Demand3}
+use Rattle.operations.specs.Demands.{Demand1, Allowed, Encoded, Restores, Demand2, LookedUp, PartLookedUp, Blank, tab, newline, carriageReturn, space, blankByte, OneItem, Stored, Edit, editedText, Agree, Demand3}
 use Rattle.operations.proofs.Verdicts.{onward-ok, onward-is, onward-refused, fitting-yes, fitting-ok, fitting-same, written-ok, written-kept, front-all, agree-same, agree-refused}
 
 -- DEMAND 1

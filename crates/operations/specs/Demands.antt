@@ -65,12 +65,12 @@ pub record Demand2 : Type 0 where
 -- LOOK UP. Document 01: "a look up handing back all the bytes (the part is that item's encoding)"
 
 -- the part at z is the item's encoding, and the bytes are what is before it, it, and what is behind it
-pub record Parts (bytes : List ℕ) (z : Spot) : Type 0 where
+pub record LookedUp (bytes : List ℕ) (z : Spot) : Type 0 where
   pub part : partOf bytes (accepted z) ≡ encode (z .item)
   pub whole : bytes ≡ z .before ++ (encode (z .item) ++ z .behind)
 
 abbrev pub PartLookedUp : Type 0
-PartLookedUp = (bytes path : List ℕ) (z : Spot) → Bytes bytes → lookUp bytes path ≡ accepted z → Parts bytes z
+PartLookedUp = (bytes path : List ℕ) (z : Spot) → Bytes bytes → lookUp bytes path ≡ accepted z → LookedUp bytes z
 
 -- DEMAND 3
 
