@@ -12,9 +12,9 @@ use Rattle.refusal.specs.RefusalKinds.{kindNumber}
 use Rattle.refusal.specs.declared.Refusal.{Refusal}
 use Rattle.refusal.specs.declared.RefusalKind.{RefusalKind}
 use Rattle.refusal.specs.declared.RefusalKind.the-variants.{TooLong, NotUtf8, NoToken, UnknownWord, Dots, Float, OutOfRange, BadContent, BadIndicator, TooDeep, NotAllowed, MixedChunks, BadTypedArray, NoRoom, EndsInside, NotWellFormed, NoSuchPath}
-use Rattle.answer.specs.Outcomes.{outcomeOf}
-use Rattle.answer.specs.declared.Answer.{Answer}
-use Rattle.answer.specs.declared.Answer.the-variants.{Written, Refused}
+use Rattle.outcome.specs.Outcomes.{outcomeOf}
+use Rattle.outcome.specs.declared.Answer.{Answer}
+use Rattle.outcome.specs.declared.Answer.the-variants.{Written, Refused}
 use Rattle.c_reply.specs.Replies.{code, succeeds, lengthIn, answerOf}
 
 -- past its end a list stays as it is

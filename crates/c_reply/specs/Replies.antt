@@ -6,8 +6,8 @@ use mathlib.Core.List.{List, []}
 use lib.ListN.{set}
 use Rattle.cbor.specs.Refusals.{Verdict, accepted, refused}
 use Rattle.cbor.specs.Paths.{Spot, start, end}
-use Rattle.answer.specs.Outcomes.{outcomeOf}
-use Rattle.answer.specs.declared.Answer.{Answer}
+use Rattle.outcome.specs.Outcomes.{outcomeOf}
+use Rattle.outcome.specs.declared.Answer.{Answer}
 
 -- 0, or the number of the refusal
 unfoldable pub code : {A : Type 0} → Verdict A → ℕ

@@ -1,5 +1,5 @@
 // What an operation returns in numbers, and what it writes into `value`.
-use answer::Answer;
+use outcome::Answer;
 use refusal::Refusal;
 ghost use mathlib.Core.Path.{_≡_};
 ghost use lib.Dec.{eqb};

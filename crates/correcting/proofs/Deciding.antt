@@ -30,12 +30,12 @@ use Rattle.encoding.specs.declared.answer.ReadAnswer.{ReadAnswer}
 use Rattle.encoding.specs.declared.answer.ReadAnswer.the-variants.{Made as ReadMade, Refused as ReadRefused}
 use Rattle.operations.specs.Operations.{andThen, room, fitting, written, itemsOf, spotOf, lookUp, level, replaced, correction, zeroed, correct}
 use Rattle.looking.specs.Answers.{locateTold, locateOf}
-use Rattle.answer.specs.Outcomes.{outcomeOf}
+use Rattle.outcome.specs.Outcomes.{outcomeOf}
 use Rattle.text_check.specs.TextAnswers.{textTold, passing}
 use Rattle.planning.specs.PlanAnswers.{splice, Bounded, lengthFor, PlanFor, Plans}
 use Rattle.correcting.specs.Corrections.{Spots, NewRead, Newly, decisionOf, Planned, roomFor, Replaces, Decides, Corrects}
-use Rattle.answer.specs.declared.Answer.{Answer}
-use Rattle.answer.specs.declared.Answer.the-variants.{Written, Refused as AnswerRefused}
+use Rattle.outcome.specs.declared.Answer.{Answer}
+use Rattle.outcome.specs.declared.Answer.the-variants.{Written, Refused as AnswerRefused}
 use Rattle.text_check.specs.declared.Text.{Text}
 use Rattle.text_check.specs.declared.Text.the-variants.{Good, Refused as TextRefused}
 use Rattle.looking.specs.declared.Located.{Located}

@@ -18,8 +18,8 @@ use Rattle.encoding.specs.declared.answer.ReadAnswer.{ReadAnswer}
 use Rattle.encoding.specs.declared.answer.ReadAnswer.the-variants.{Made as ReadMade, Refused as ReadRefused}
 use Rattle.operations.specs.Operations.{andThen, lookUp, correction, correct}
 use Rattle.looking.specs.Answers.{locateTold, locateOf}
-use Rattle.answer.specs.Outcomes.{outcomeOf, Holds}
-use Rattle.answer.specs.declared.Answer.{Answer}
+use Rattle.outcome.specs.Outcomes.{outcomeOf, Holds}
+use Rattle.outcome.specs.declared.Answer.{Answer}
 use Rattle.looking.specs.declared.Located.{Located}
 use Rattle.looking.specs.declared.Part.{Part}
 use Rattle.planning.specs.declared.Decision.{Decision}

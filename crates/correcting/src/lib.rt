@@ -1,6 +1,6 @@
 // One item of bytes replaced by the item that a text spells: first what would come of it, with nothing written; then the writing.
-use answer::Answer;
-use answer::fits;
+use outcome::Answer;
+use outcome::fits;
 use encoding::answer::ReadAnswer;
 use looking::Located;
 use looking::Part;
@@ -20,7 +20,7 @@ ghost use Prim.Native.Nat.{_≤_};
 ghost use lib.ListN.{length, take};
 ghost use Rattle.cbor.specs.Decode.{mostBytes};
 ghost use Rattle.operations.specs.Operations.{level, correct};
-ghost use Rattle.answer.specs.Outcomes.{outcomeOf};
+ghost use Rattle.outcome.specs.Outcomes.{outcomeOf};
 ghost use Rattle.planning.specs.PlanAnswers.{Bounded};
 ghost use Rattle.correcting.specs.Corrections.{Spots, Newly, Replaces, Decides, Corrects};
 

@@ -15,9 +15,9 @@ use Rattle.operations.specs.Demands.{Allowed, Encoded, Stored, Edit, editedText
 use Rattle.refusal.specs.RefusalKinds.{kindNumber}
 use Rattle.refusal.specs.declared.Refusal.{Refusal}
 use Rattle.refusal.specs.declared.RefusalKind.{RefusalKind}
-use Rattle.answer.specs.Outcomes.{outcomeOf}
-use Rattle.answer.specs.declared.Answer.{Answer}
-use Rattle.answer.specs.declared.Answer.the-variants.{Written, Refused}
+use Rattle.outcome.specs.Outcomes.{outcomeOf}
+use Rattle.outcome.specs.declared.Answer.{Answer}
+use Rattle.outcome.specs.declared.Answer.the-variants.{Written, Refused}
 
 -- the promises of `edn::read`, `edn::print` and `edn::correct`: a call with the buffer b answered r and left b′
 unfoldable pub ReadRan : List ℕ → List ℕ → Answer → List ℕ → Type 0

@@ -1,5 +1,5 @@
 // The notation and its bytes: check, look up, scan, read, print, correct. Each function is handed on from the crate that has its code.
-pub use answer::Answer;
+pub use outcome::Answer;
 pub use correcting::correct;
 pub use looking::Checked;
 pub use looking::ItemAt;

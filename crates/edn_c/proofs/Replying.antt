@@ -13,10 +13,10 @@ use Rattle.cbor.specs.Paths.{Spot, start, end}
 use Rattle.refusal.specs.RefusalKinds.{kindNumber}
 use Rattle.refusal.specs.declared.Refusal.{Refusal}
 use Rattle.operations.specs.Operations.{Outcome}
-use Rattle.answer.specs.Outcomes.{outcomeOf}
+use Rattle.outcome.specs.Outcomes.{outcomeOf}
 use Rattle.looking.specs.Answers.{checkTold, checkOf, locateTold, locateOf}
-use Rattle.answer.specs.declared.Answer.{Answer}
-use Rattle.answer.specs.declared.Answer.the-variants.{Written, Refused}
+use Rattle.outcome.specs.declared.Answer.{Answer}
+use Rattle.outcome.specs.declared.Answer.the-variants.{Written, Refused}
 use Rattle.looking.specs.declared.Checked.{Checked}
 use Rattle.looking.specs.declared.Checked.the-variants.{Accepted, Refused as CheckRefused}
 use Rattle.looking.specs.declared.Part.{Part}

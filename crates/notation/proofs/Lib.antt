@@ -11,6 +11,12 @@ pub mod Splice
 pub mod Replace
 pub mod Substitution
 pub mod Edited
+pub mod TextScan
+pub mod SoundContent
+pub mod TextQuoted
+pub mod SoundToken
+pub mod Ways
+pub mod AllFound
 pub mod MarkedTokens
 pub mod MarkedText
 pub mod MarkedRules
@@ -21,11 +27,5 @@ pub mod PrintTokens
 pub mod PrintRead
 pub mod PrintUtf8
 pub mod PrintWhole
-pub mod TextScan
-pub mod SoundContent
-pub mod TextQuoted
-pub mod SoundToken
 pub mod SoundForm
 pub mod SoundRead
-pub mod Ways
-pub mod AllFound

@@ -1,5 +1,5 @@
 // What is planned of a correction, and the writing.
-use answer::fits;
+use outcome::fits;
 use looking::Part;
 use refusal::Refusal;
 use refusal::RefusalKind;

@@ -25,11 +25,11 @@ use Rattle.operations.specs.Operations.{written, itemsOf, textOf, andThen, prin
 use Rattle.cbor.specs.Valid.{Bytes}
 use Rattle.cbor.proofs.EncodeDecode.{encode-of-decode}
 use Rattle.looking.specs.Answers.{Checks}
-use Rattle.answer.specs.Outcomes.{outcomeOf, laid, Refuses}
+use Rattle.outcome.specs.Outcomes.{outcomeOf, laid, Refuses}
 use Rattle.printing.specs.PrintOutcomes.{Lays}
-use Rattle.answer.specs.declared.Answer.{Answer}
-use Rattle.answer.specs.declared.Answer.the-variants.{Written, Refused}
-use Rattle.answer.proofs.Room.{laid-room, laid-yes, laid-no}
+use Rattle.outcome.specs.declared.Answer.{Answer}
+use Rattle.outcome.specs.declared.Answer.the-variants.{Written, Refused}
+use Rattle.outcome.proofs.Room.{laid-room, laid-yes, laid-no}
 
 -- PRINTING
 module _ {s : List ℕ} (b : List ℕ) {n : ℕ} (t : TextSize s n) {v : Bool} (f : v ≡ leb n (min (length b) 65535)) where

@@ -6,8 +6,8 @@ use Rattle.cbor.specs.Refusals.{ok}
 use Rattle.cbor.specs.Items.{Items}
 use Rattle.cbor.specs.Decode.{decode}
 use Rattle.notation.specs.Printing.{printText}
-use Rattle.answer.specs.Outcomes.{outcomeOf, laid}
-use Rattle.answer.specs.declared.Answer.{Answer}
+use Rattle.outcome.specs.Outcomes.{outcomeOf, laid}
+use Rattle.outcome.specs.declared.Answer.{Answer}
 
 -- PRINTING: the text of bytes that decode to xs
 pub record Lays (s b b′ : List ℕ) (r : Answer) : Type 0 where

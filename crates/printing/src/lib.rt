@@ -1,12 +1,12 @@
 // Bytes as a text in diagnostic notation, in a lent buffer.
-use answer::Answer;
-use answer::fits;
-use answer::refuse;
+use outcome::Answer;
+use outcome::fits;
+use outcome::refuse;
 use refusal::RefusalKind;
 use walk::Passed;
 ghost use mathlib.Core.Path.{_≡_};
 ghost use Rattle.operations.specs.Operations.{print};
-ghost use Rattle.answer.specs.Outcomes.{outcomeOf};
+ghost use Rattle.outcome.specs.Outcomes.{outcomeOf};
 ghost use Rattle.printing.specs.PrintOutcomes.{Lays};
 
 // The text of bytes that were checked. Its size is known before its first byte is written.

@@ -23,14 +23,14 @@ use Rattle.encoding.specs.declared.answer.MadeItem.{MadeItem as MadeS}
 use Rattle.encoding.specs.declared.answer.ReadAnswer.{ReadAnswer}
 use Rattle.encoding.specs.declared.answer.ReadAnswer.the-variants.{Made as ReadMade, Refused as ReadRefused}
 use Rattle.operations.specs.Operations.{andThen, room, written, bytesOf, read}
-use Rattle.answer.specs.Outcomes.{outcomeOf, laid, Refuses}
+use Rattle.outcome.specs.Outcomes.{outcomeOf, laid, Refuses}
 use Rattle.reading.specs.ReadOutcomes.{Delivered, itemsRead, Ready, Encodes}
 use Rattle.text_check.specs.TextAnswers.{textTold, passing}
-use Rattle.answer.specs.declared.Answer.{Answer}
-use Rattle.answer.specs.declared.Answer.the-variants.{Written, Refused}
+use Rattle.outcome.specs.declared.Answer.{Answer}
+use Rattle.outcome.specs.declared.Answer.the-variants.{Written, Refused}
 use Rattle.text_check.specs.declared.Text.{Text}
 use Rattle.text_check.specs.declared.Text.the-variants.{Good, Refused as TextRefused}
-use Rattle.answer.proofs.Room.{laid-room, laid-yes, laid-no}
+use Rattle.outcome.proofs.Room.{laid-room, laid-yes, laid-no}
 use Rattle.operations.proofs.Verdicts.{front-all}
 use Rattle.text_check.proofs.Texts.{passes, fails, passed-short}
 

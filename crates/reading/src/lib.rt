@@ -1,14 +1,14 @@
 // A text in diagnostic notation as the bytes of its items, in a lent buffer.
-use answer::Answer;
-use answer::fits;
-use answer::refuse;
+use outcome::Answer;
+use outcome::fits;
+use outcome::refuse;
 use encoding::answer::ReadAnswer;
 use refusal::RefusalKind;
 use text_check::Text;
 use text_check::check_text;
 ghost use mathlib.Core.Path.{_≡_};
 ghost use Rattle.operations.specs.Operations.{read};
-ghost use Rattle.answer.specs.Outcomes.{outcomeOf};
+ghost use Rattle.outcome.specs.Outcomes.{outcomeOf};
 ghost use Rattle.reading.specs.ReadOutcomes.{Ready, Delivered, Encodes};
 
 // The first `size` bytes of what was made, if that is all of them and they have room.

@@ -21,10 +21,10 @@ use Rattle.notation.specs.Printing.{decimalOf, printText}
 use Rattle.text_output.specs.PrintParts.{Prints, contentOf}
 use Rattle.text_output.proofs.PrintLeaves.{prints-more, prints-as}
 use Rattle.operations.specs.Operations.{Outcome, andThen, room, fitting, written, bytesOf, itemsOf, textOf, read, print}
-use Rattle.answer.specs.Outcomes.{outcomeOf}
+use Rattle.outcome.specs.Outcomes.{outcomeOf}
 use Rattle.operations.specs.Programs.{acceptedLine, acceptedLines, atPlace, refusedLine, said, empty, readProgram, printProgram}
-use Rattle.answer.specs.declared.Answer.{Answer}
-use Rattle.answer.specs.declared.Answer.the-variants.{Written, Refused}
+use Rattle.outcome.specs.declared.Answer.{Answer}
+use Rattle.outcome.specs.declared.Answer.the-variants.{Written, Refused}
 use Rattle.cbor.proofs.Results.{refused-not-accepted}
 use Rattle.operations.proofs.Verdicts.{front-all, fitting-yes, fitting-no, fitting-same}
 

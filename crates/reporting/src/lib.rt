@@ -1,5 +1,5 @@
 // What the programs write on standard output.
-use answer::Answer;
+use outcome::Answer;
 use printing::print;
 use reading::read;
 use refusal::Refusal;

@@ -1,7 +1,7 @@
 // Compares what came out with what a row says.
 use crate::cut::find;
 use crate::cut::part;
-use answer::Answer;
+use outcome::Answer;
 use refusal::Refusal;
 ghost use mathlib.Core.Path.{_≡_};
 ghost use lib.ListN.{length};

@@ -13,10 +13,10 @@ use Rattle.memory.specs.Buffer.{over}
 use Rattle.refusal.specs.RefusalKinds.{kindNumber}
 use Rattle.refusal.specs.declared.RefusalKind.the-variants.{NoRoom}
 use Rattle.operations.specs.Operations.{room, fitting, written}
-use Rattle.answer.specs.Outcomes.{outcomeOf, laid, Refuses}
+use Rattle.outcome.specs.Outcomes.{outcomeOf, laid, Refuses}
 use Rattle.operations.proofs.Verdicts.{fitting-yes, fitting-no}
-use Rattle.answer.specs.declared.Answer.{Answer}
-use Rattle.answer.specs.declared.Answer.the-variants.{Written}
+use Rattle.outcome.specs.declared.Answer.{Answer}
+use Rattle.outcome.specs.declared.Answer.the-variants.{Written}
 
 -- ROOM
 

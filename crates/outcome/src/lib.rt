@@ -5,7 +5,7 @@ ghost use mathlib.Core.Path.{_≡_};
 ghost use Prim.Native.Nat.{min};
 ghost use lib.Dec.{leb};
 ghost use Rattle.cbor.specs.Decode.{mostBytes};
-ghost use Rattle.answer.specs.Outcomes.{Refuses};
+ghost use Rattle.outcome.specs.Outcomes.{Refuses};
 
 // The result stands at the front of the buffer and has this many bytes; or the buffer is as it was.
 pub enum Answer {

@@ -8,8 +8,8 @@ use Rattle.cbor.specs.Decode.{mostBytes}
 use Rattle.refusal.specs.RefusalKinds.{kindNumber}
 use Rattle.refusal.specs.declared.RefusalKind.{RefusalKind}
 use Rattle.operations.specs.Operations.{Outcome, fitting, written}
-use Rattle.answer.specs.declared.Answer.{Answer}
-use Rattle.answer.specs.declared.Answer.the-variants.{Written, Refused}
+use Rattle.outcome.specs.declared.Answer.{Answer}
+use Rattle.outcome.specs.declared.Answer.the-variants.{Written, Refused}
 
 -- an answer, with what the buffer holds then
 unfoldable pub outcomeOf : Answer → List ℕ → Outcome ℕ
