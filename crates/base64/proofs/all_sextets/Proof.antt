@@ -1,4 +1,4 @@
--- `tokens::base64::all_sextets` meets its contract.
+-- `base64::all_sextets` meets its contract.
 -- Assumes nothing.
 use Rattle.base64.proofs.Base64Code.{all-ways}
 use Rattle.base64.proofs.all_sextets.Statement.{statement}

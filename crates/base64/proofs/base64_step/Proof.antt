@@ -1,4 +1,4 @@
--- `tokens::base64::base64_step` meets its contract.
+-- `base64::base64_step` meets its contract.
 -- Assumes nothing.
 use Rattle.base64.proofs.Base64Code.{base64-step-ways}
 use borrow.Author.Needs.{needs}

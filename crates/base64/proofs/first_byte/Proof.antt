@@ -1,4 +1,4 @@
--- `tokens::base64::first_byte` meets its contract.
+-- `base64::first_byte` meets its contract.
 -- Assumes nothing.
 use Rattle.base64.proofs.Base64Code.{first-is}
 use borrow.Author.Needs.{needs}

@@ -1,4 +1,4 @@
--- `tokens::base64::last_size` meets its contract.
+-- `base64::last_size` meets its contract.
 -- Assumes nothing.
 use Rattle.base64.proofs.Base64Code.{last-ways}
 use borrow.Author.Needs.{needs}

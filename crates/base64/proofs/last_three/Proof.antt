@@ -1,4 +1,4 @@
--- `tokens::base64::last_three` meets its contract.
+-- `base64::last_three` meets its contract.
 -- Assumes nothing.
 use Rattle.base64.proofs.Base64Code.{three-ways}
 use Rattle.base64.proofs.last_three.Statement.{statement}

@@ -1,4 +1,4 @@
--- `tokens::base64::last_two` meets its contract.
+-- `base64::last_two` meets its contract.
 -- Assumes nothing.
 use Rattle.base64.proofs.Base64Code.{two-ways}
 use Rattle.base64.proofs.last_two.Statement.{statement}

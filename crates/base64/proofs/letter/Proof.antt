@@ -1,4 +1,4 @@
--- `tokens::base64::letter` meets its contract.
+-- `base64::letter` meets its contract.
 -- Assumes nothing.
 use Rattle.base64.proofs.Base64Code.{letter-ways}
 use borrow.Author.Needs.{needs}

@@ -1,4 +1,4 @@
--- `tokens::base64::pushed` meets its contract.
+-- `base64::pushed` meets its contract.
 -- Assumes nothing.
 use Rattle.base64.proofs.Base64Code.{push-ways}
 use borrow.Author.Needs.{needs}

@@ -1,4 +1,4 @@
--- `tokens::base64::put_base64` meets its contract.
+-- `base64::put_base64` meets its contract.
 -- Assumes nothing.
 use Prim.Native.Nat.{_-_}
 use Rattle.base64.proofs.Base64Code.{GroupPut, group-put-start, group-put-wrong, group-put-on, group-put-end}

@@ -1,4 +1,4 @@
--- `tokens::base64::put_bytes` meets its contract.
+-- `base64::put_bytes` meets its contract.
 -- Assumes nothing.
 use Rattle.base64.proofs.Base64Code.{bytes-ways}
 use borrow.Author.Needs.{needs}

@@ -1,4 +1,4 @@
--- `tokens::base64::scan_base64` meets its contract.
+-- `base64::scan_base64` meets its contract.
 -- Assumes nothing.
 use Prim.Native.Nat.{_-_}
 use Rattle.base64.proofs.Base64Code.{GroupScan, group-start, group-wrong, group-on, group-none, group-end}

@@ -1,4 +1,4 @@
--- `tokens::base64::sextet_value` meets its contract.
+-- `base64::sextet_value` meets its contract.
 -- Assumes nothing.
 use Rattle.base64.proofs.Base64Code.{sextet-ways}
 use borrow.Author.Needs.{needs}

@@ -1,4 +1,4 @@
--- `tokens::base64::sign_value` meets its contract.
+-- `base64::sign_value` meets its contract.
 -- Assumes nothing.
 use Rattle.base64.proofs.Base64Code.{sign-ways}
 use Rattle.base64.proofs.sign_value.Statement.{statement}

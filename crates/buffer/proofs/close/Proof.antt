@@ -1,4 +1,4 @@
--- `cbor::emit::close` meets its contract.
+-- `buffer::close` meets its contract.
 -- Assumes nothing.
 use Rattle.buffer.proofs.close.Statement.{statement}
 use Rattle.buffer.proofs.close.Tie as tie

@@ -1,4 +1,4 @@
--- `cbor::emit::copy_at` meets its contract.
+-- `buffer::copy_at` meets its contract.
 -- Assumes nothing.
 use Rattle.buffer.proofs.copy_at.Statement.{statement}
 use Rattle.buffer.proofs.copy_at.Tie as tie

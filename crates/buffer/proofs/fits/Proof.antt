@@ -1,4 +1,4 @@
--- `cbor::emit::fits` meets its contract.
+-- `buffer::fits` meets its contract.
 -- Assumes nothing.
 use borrow.Author.Needs.{needs}
 use Rattle.buffer.proofs.EmitCode.{fits-ways}

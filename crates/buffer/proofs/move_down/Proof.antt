@@ -1,4 +1,4 @@
--- `cbor::emit::move_down` meets its contract.
+-- `buffer::move_down` meets its contract.
 -- Assumes nothing.
 use Rattle.buffer.proofs.move_down.Statement.{statement}
 use Rattle.buffer.proofs.move_down.Tie as tie

@@ -1,4 +1,4 @@
--- `cbor::emit::move_far` meets its contract.
+-- `buffer::move_far` meets its contract.
 -- Assumes nothing.
 use Rattle.buffer.proofs.move_far.Statement.{statement}
 use Rattle.buffer.proofs.move_far.Tie as tie

@@ -1,4 +1,4 @@
--- `cbor::emit::move_part` meets its contract.
+-- `buffer::move_part` meets its contract.
 -- Assumes nothing.
 use borrow.Author.Needs.{needs}
 use Rattle.buffer.proofs.EmitCode.{part-up, part-down}

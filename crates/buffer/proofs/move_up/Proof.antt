@@ -1,4 +1,4 @@
--- `cbor::emit::move_up` meets its contract.
+-- `buffer::move_up` meets its contract.
 -- Assumes nothing.
 use borrow.Author.Needs.{needs}
 use Rattle.buffer.proofs.EmitCode.{raise-none, raise-by}

@@ -1,4 +1,4 @@
--- `cbor::emit::move_up_1` meets its contract.
+-- `buffer::move_up_1` meets its contract.
 -- Assumes nothing.
 use Rattle.buffer.proofs.move_up_1.Statement.{statement}
 use Rattle.buffer.proofs.move_up_1.Tie as tie

@@ -1,4 +1,4 @@
--- `cbor::emit::move_up_2` meets its contract.
+-- `buffer::move_up_2` meets its contract.
 -- Assumes nothing.
 use Rattle.buffer.proofs.move_up_2.Statement.{statement}
 use Rattle.buffer.proofs.move_up_2.Tie as tie

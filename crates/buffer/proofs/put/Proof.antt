@@ -1,4 +1,4 @@
--- `cbor::emit::put` meets its contract.
+-- `buffer::put` meets its contract.
 -- Assumes nothing.
 use borrow.Author.Needs.{needs}
 use Rattle.buffer.proofs.EmitCode.{put-ways}

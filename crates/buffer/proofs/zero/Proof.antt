@@ -1,4 +1,4 @@
--- `cbor::emit::zero` meets its contract.
+-- `buffer::zero` meets its contract.
 -- Assumes nothing.
 use Rattle.buffer.proofs.zero.Statement.{statement}
 use Rattle.buffer.proofs.zero.Tie as tie

@@ -1,4 +1,4 @@
--- `edn_c::put` meets its contract.
+-- `c_reply::put` meets its contract.
 -- Assumes nothing.
 use borrow.Author.Needs.{needs}
 use Rattle.c_reply.proofs.put.Statement.{statement}

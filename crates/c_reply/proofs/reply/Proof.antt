@@ -1,4 +1,4 @@
--- `edn_c::reply` meets its contract.
+-- `c_reply::reply` meets its contract.
 -- Assumes nothing.
 use borrow.Author.Needs.{needs}
 use Rattle.c_reply.proofs.reply.Statement.{statement}

@@ -1,4 +1,4 @@
--- `edn::correct::carry_out` meets its contract.
+-- `correcting::carry_out` meets its contract.
 -- Assumes nothing.
 use borrow.Author.Needs.{needs}
 use Rattle.correcting.proofs.carry_out.Statement.{statement}

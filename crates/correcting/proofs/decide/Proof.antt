@@ -1,4 +1,4 @@
--- `edn::correct::decide` meets its contract.
+-- `correcting::decide` meets its contract.
 -- Assumes nothing.
 use borrow.Author.Needs.{needs}
 use lib.Seq.{length-take-le}

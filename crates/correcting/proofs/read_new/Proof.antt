@@ -1,4 +1,4 @@
--- `edn::correct::read_new` meets its contract.
+-- `correcting::read_new` meets its contract.
 -- Assumes nothing.
 use borrow.Author.Needs.{needs}
 use Rattle.correcting.proofs.read_new.Statement.{statement}

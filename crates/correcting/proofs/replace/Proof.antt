@@ -1,4 +1,4 @@
--- `edn::correct::replace` meets its contract.
+-- `correcting::replace` meets its contract.
 -- Assumes nothing.
 use borrow.Author.Needs.{needs}
 use Rattle.correcting.proofs.replace.Statement.{statement}

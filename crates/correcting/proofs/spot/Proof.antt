@@ -1,4 +1,4 @@
--- `edn::correct::spot` meets its contract.
+-- `correcting::spot` meets its contract.
 -- Assumes nothing.
 use borrow.Author.Needs.{needs}
 use Rattle.correcting.proofs.spot.Statement.{statement}

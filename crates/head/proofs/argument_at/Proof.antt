@@ -1,4 +1,4 @@
--- `cbor::head::argument_at` meets its contract.
+-- `head::argument_at` meets its contract.
 -- Assumes nothing.
 use borrow.Author.Needs.{needs}
 use Rattle.head.proofs.HeadCode.{argument-ways}

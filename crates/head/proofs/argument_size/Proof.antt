@@ -1,4 +1,4 @@
--- `cbor::head::argument_size` meets its contract.
+-- `head::argument_size` meets its contract.
 -- Assumes nothing.
 use Rattle.head.proofs.argument_size.Statement.{statement}
 use Rattle.head.proofs.argument_size.Tie as tie

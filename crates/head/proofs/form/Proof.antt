@@ -1,4 +1,4 @@
--- `cbor::head::form` meets its contract.
+-- `head::form` meets its contract.
 -- Assumes nothing.
 use Rattle.head.proofs.form.Statement.{statement}
 use Rattle.head.proofs.form.Tie as tie

@@ -1,4 +1,4 @@
--- `cbor::head::found` meets its contract.
+-- `head::found` meets its contract.
 -- Assumes nothing.
 use Rattle.head.proofs.found.Statement.{statement}
 use Rattle.head.proofs.found.Tie as tie

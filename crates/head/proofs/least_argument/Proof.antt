@@ -1,4 +1,4 @@
--- `cbor::head::least_argument` meets its contract.
+-- `head::least_argument` meets its contract.
 -- Assumes nothing.
 use Rattle.head.proofs.least_argument.Statement.{statement}
 use Rattle.head.proofs.least_argument.Tie as tie

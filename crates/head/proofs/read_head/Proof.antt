@@ -1,4 +1,4 @@
--- `cbor::head::read_head` meets its contract.
+-- `head::read_head` meets its contract.
 -- Assumes nothing.
 use borrow.Author.Needs.{needs}
 use Rattle.head.proofs.HeadCode.{head-ways, head-short, argument-room}

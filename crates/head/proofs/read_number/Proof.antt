@@ -1,4 +1,4 @@
--- `cbor::head::read_number` meets its contract.
+-- `head::read_number` meets its contract.
 -- Assumes nothing.
 use Rattle.head.proofs.read_number.Statement.{statement}
 use Rattle.head.proofs.read_number.Tie as tie

@@ -1,4 +1,4 @@
--- `cbor::head::refuse` meets its contract.
+-- `head::refuse` meets its contract.
 -- Assumes nothing.
 use Rattle.head.proofs.refuse.Statement.{statement}
 use Rattle.head.proofs.refuse.Tie as tie

@@ -1,4 +1,4 @@
--- `cbor::head::shortest_info` meets its contract.
+-- `head::shortest_info` meets its contract.
 -- Assumes nothing.
 use borrow.Author.Needs.{needs}
 use Rattle.head.proofs.HeadCode.{shortest-ways}

@@ -1,4 +1,4 @@
--- `cbor::head::write_head` meets its contract.
+-- `head::write_head` meets its contract.
 -- Assumes nothing.
 use borrow.Author.Needs.{needs}
 use Rattle.head.proofs.HeadCode.{write-ways, write-same}

@@ -1,4 +1,4 @@
--- `cbor::head::write_number` meets its contract.
+-- `head::write_number` meets its contract.
 -- Assumes nothing.
 use Rattle.head.proofs.write_number.Statement.{statement}
 use Rattle.head.proofs.write_number.Tie as tie

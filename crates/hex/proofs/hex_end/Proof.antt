@@ -1,4 +1,4 @@
--- `tokens::hex::hex_end` meets its contract.
+-- `hex::hex_end` meets its contract.
 -- Assumes nothing.
 use Rattle.hex.proofs.HexCode.{hex-end-ways}
 use Rattle.hex.proofs.hex_end.Statement.{statement}

@@ -1,4 +1,4 @@
--- `tokens::hex::hex_step` meets its contract.
+-- `hex::hex_step` meets its contract.
 -- Assumes nothing.
 use Rattle.hex.proofs.HexCode.{hex-ways}
 use borrow.Author.Needs.{needs}

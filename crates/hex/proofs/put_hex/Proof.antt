@@ -1,4 +1,4 @@
--- `tokens::hex::put_hex` meets its contract.
+-- `hex::put_hex` meets its contract.
 -- Assumes nothing.
 use Prim.Native.Nat.{_-_}
 use Rattle.hex.proofs.HexCode.{HexPut, put-start, put-on, hex-put-ways}

@@ -1,4 +1,4 @@
--- `tokens::hex::scan_hex` meets its contract.
+-- `hex::scan_hex` meets its contract.
 -- Assumes nothing.
 use Prim.Native.Nat.{_-_}
 use Rattle.hex.proofs.HexCode.{HexScan, scan-start, scan-on, scan-wrong, scan-end}

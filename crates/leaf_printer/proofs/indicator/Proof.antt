@@ -1,4 +1,4 @@
--- `printer::parts::indicator` meets its contract.
+-- `leaf_printer::indicator` meets its contract.
 -- Assumes nothing.
 use borrow.Author.Needs.{needs}
 use Rattle.leaf_printer.proofs.PrintHeads.{mark-none, mark-some}

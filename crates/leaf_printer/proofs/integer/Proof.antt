@@ -1,4 +1,4 @@
--- `printer::parts::integer` meets its contract.
+-- `leaf_printer::integer` meets its contract.
 -- Assumes nothing.
 use borrow.Author.Needs.{needs}
 use Rattle.leaf_printer.proofs.PrintHeads.{int-ways}

@@ -1,4 +1,4 @@
--- `printer::parts::is_shortest` meets its contract.
+-- `leaf_printer::is_shortest` meets its contract.
 -- Assumes nothing.
 use borrow.Author.Needs.{needs}
 use Rattle.leaf_printer.proofs.PrintHeads.{shortest-test}

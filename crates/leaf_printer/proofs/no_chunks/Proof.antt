@@ -1,4 +1,4 @@
--- `printer::parts::no_chunks` meets its contract.
+-- `leaf_printer::no_chunks` meets its contract.
 -- Assumes nothing.
 use borrow.Author.Needs.{needs}
 use Rattle.leaf_printer.proofs.PrintHeads.{empty-ways}

@@ -1,4 +1,4 @@
--- `printer::parts::open_quote` meets its contract.
+-- `leaf_printer::open_quote` meets its contract.
 -- Assumes nothing.
 use borrow.Author.Needs.{needs}
 use Rattle.leaf_printer.proofs.PrintHeads.{open-ways}

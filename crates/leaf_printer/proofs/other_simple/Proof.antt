@@ -1,4 +1,4 @@
--- `printer::parts::other_simple` meets its contract.
+-- `leaf_printer::other_simple` meets its contract.
 -- Assumes nothing.
 use borrow.Author.Needs.{needs}
 use Rattle.leaf_printer.proofs.PrintHeads.{simple-other}

@@ -1,4 +1,4 @@
--- `printer::parts::quote` meets its contract.
+-- `leaf_printer::quote` meets its contract.
 -- Assumes nothing.
 use Rattle.leaf_printer.proofs.quote.Statement.{statement}
 use Rattle.leaf_printer.proofs.quote.Tie as tie

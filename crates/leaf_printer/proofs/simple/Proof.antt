@@ -1,4 +1,4 @@
--- `printer::parts::simple` meets its contract.
+-- `leaf_printer::simple` meets its contract.
 -- Assumes nothing.
 use borrow.Author.Needs.{needs}
 use Rattle.leaf_printer.proofs.PrintHeads.{simple-ways}

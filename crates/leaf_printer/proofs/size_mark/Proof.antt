@@ -1,4 +1,4 @@
--- `printer::parts::size_mark` meets its contract.
+-- `leaf_printer::size_mark` meets its contract.
 -- Assumes nothing.
 use borrow.Author.Needs.{needs}
 use Rattle.leaf_printer.proofs.size_mark.Statement.{statement}

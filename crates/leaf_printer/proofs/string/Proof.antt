@@ -1,4 +1,4 @@
--- `printer::parts::string` meets its contract.
+-- `leaf_printer::string` meets its contract.
 -- Assumes nothing.
 use borrow.Author.Needs.{needs}
 use Rattle.leaf_printer.proofs.PrintHeads.{string-whole}

@@ -1,4 +1,4 @@
--- `printer::parts::width_name` meets its contract.
+-- `leaf_printer::width_name` meets its contract.
 -- Assumes nothing.
 use Rattle.leaf_printer.proofs.width_name.Statement.{statement}
 use Rattle.leaf_printer.proofs.width_name.Tie as tie

@@ -1,4 +1,4 @@
--- `tokens::literal::body_byte` meets its contract.
+-- `literal_body::body_byte` meets its contract.
 -- Assumes nothing.
 use Rattle.literal_body.proofs.LiteralCode.{body-ways}
 use borrow.Author.Needs.{needs}

@@ -1,4 +1,4 @@
--- `tokens::literal::hex_value` meets its contract.
+-- `literal_body::hex_value` meets its contract.
 -- Assumes nothing.
 use Rattle.literal_body.proofs.LiteralCode.{digit-ways}
 use borrow.Author.Needs.{needs}

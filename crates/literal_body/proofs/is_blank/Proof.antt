@@ -1,4 +1,4 @@
--- `tokens::literal::is_blank` meets its contract.
+-- `literal_body::is_blank` meets its contract.
 -- Assumes nothing.
 use Rattle.literal_body.proofs.LiteralCode.{blank-ways}
 use Rattle.literal_body.proofs.is_blank.Statement.{statement}

@@ -1,4 +1,4 @@
--- `tokens::literal::put` meets its contract.
+-- `literal_body::put` meets its contract.
 -- Assumes nothing.
 use Rattle.literal_body.proofs.LiteralCode.{put-past, put-one}
 use borrow.Author.Needs.{needs}

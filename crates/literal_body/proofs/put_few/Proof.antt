@@ -1,4 +1,4 @@
--- `tokens::literal::put_few` meets its contract.
+-- `literal_body::put_few` meets its contract.
 -- Assumes nothing.
 use Rattle.literal_body.proofs.LiteralCode.{few-ways}
 use borrow.Author.Needs.{needs}

@@ -1,4 +1,4 @@
--- `tokens::literal::put_two` meets its contract.
+-- `literal_body::put_two` meets its contract.
 -- Assumes nothing.
 use Rattle.literal_body.proofs.LiteralCode.{put-two}
 use borrow.Author.Needs.{needs}

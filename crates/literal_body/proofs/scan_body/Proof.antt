@@ -1,4 +1,4 @@
--- `tokens::literal::scan_body` meets its contract.
+-- `literal_body::scan_body` meets its contract.
 -- Assumes nothing.
 use lib.ListN.{length}
 use Prim.Native.Nat.{_-_}

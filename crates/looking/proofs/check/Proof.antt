@@ -1,4 +1,4 @@
--- `edn::look::check` meets its contract.
+-- `looking::check` meets its contract.
 -- Assumes nothing.
 use borrow.Author.Needs.{needs}
 use Rattle.looking.proofs.check.Statement.{statement}

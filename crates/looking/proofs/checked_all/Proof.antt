@@ -1,4 +1,4 @@
--- `edn::look::checked_all` meets its contract.
+-- `looking::checked_all` meets its contract.
 -- Assumes nothing.
 use borrow.Author.Needs.{needs}
 use Rattle.looking.proofs.checked_all.Statement.{statement}

@@ -1,4 +1,4 @@
--- `edn::look::look_up` meets its contract.
+-- `looking::look_up` meets its contract.
 -- Assumes nothing.
 use borrow.Author.Needs.{needs}
 use Rattle.looking.proofs.look_up.Statement.{statement}

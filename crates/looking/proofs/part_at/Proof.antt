@@ -1,4 +1,4 @@
--- `edn::look::part_at` meets its contract.
+-- `looking::part_at` meets its contract.
 -- Assumes nothing.
 use borrow.Author.Needs.{needs}
 use Rattle.looking.proofs.part_at.Statement.{statement}

@@ -1,4 +1,4 @@
--- `edn::look::scan` meets its contract.
+-- `looking::scan` meets its contract.
 -- Assumes nothing.
 use borrow.Author.Needs.{needs}
 use Rattle.looking.proofs.scan.Statement.{statement}

@@ -1,4 +1,4 @@
--- `reader::one::alone` meets its contract.
+-- `one_item::alone` meets its contract.
 -- Assumes nothing.
 use borrow.Author.Needs.{needs}
 use Rattle.refusal.specs.RefusalKinds.{kindNumber}

@@ -1,4 +1,4 @@
--- `reader::one::read_one` meets its contract.
+-- `one_item::read_one` meets its contract.
 -- Assumes nothing.
 use borrow.Author.Needs.{needs}
 use Rattle.refusal.specs.RefusalKinds.{kindNumber}

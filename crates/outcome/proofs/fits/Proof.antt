@@ -1,4 +1,4 @@
--- `edn::answer::fits` meets its contract.
+-- `outcome::fits` meets its contract.
 -- Assumes nothing.
 use Rattle.outcome.proofs.fits.Statement.{statement}
 use Rattle.outcome.proofs.fits.Tie as tie

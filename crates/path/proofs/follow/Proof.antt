@@ -1,4 +1,4 @@
--- `edn::look::follow` meets its contract.
+-- `path::follow` meets its contract.
 -- Assumes nothing.
 use Rattle.path.proofs.follow.Statement.{statement}
 use Rattle.path.proofs.follow.Tie as tie

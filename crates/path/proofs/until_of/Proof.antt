@@ -1,4 +1,4 @@
--- `edn::look::until_of` meets its contract.
+-- `path::until_of` meets its contract.
 -- Assumes nothing.
 use Rattle.path.proofs.until_of.Statement.{statement}
 use Rattle.path.proofs.until_of.Tie as tie

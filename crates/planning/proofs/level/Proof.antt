@@ -1,4 +1,4 @@
--- `edn::correct::level` meets its contract.
+-- `planning::level` meets its contract.
 -- Assumes nothing.
 use Rattle.planning.proofs.level.Statement.{statement}
 use Rattle.planning.proofs.level.Tie as tie

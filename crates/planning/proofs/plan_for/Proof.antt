@@ -1,4 +1,4 @@
--- `edn::correct::plan_for` meets its contract.
+-- `planning::plan_for` meets its contract.
 -- Assumes nothing.
 use borrow.Author.Needs.{needs}
 use Rattle.planning.proofs.plan_for.Statement.{statement}

@@ -1,4 +1,4 @@
--- `edn::correct::put` meets its contract.
+-- `planning::put` meets its contract.
 -- Assumes nothing.
 use borrow.Author.Needs.{needs}
 use Rattle.planning.proofs.put.Statement.{statement}

@@ -1,4 +1,4 @@
--- `printer::print::chunk` meets its contract.
+-- `printer::chunk` meets its contract.
 -- Assumes nothing.
 use borrow.Author.Needs.{needs}
 use Rattle.printer.proofs.PrintWays.{chunk-ways}

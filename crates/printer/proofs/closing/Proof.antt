@@ -1,4 +1,4 @@
--- `printer::print::closing` meets its contract.
+-- `printer::closing` meets its contract.
 -- Assumes nothing.
 use Rattle.printer.proofs.closing.Statement.{statement}
 use Rattle.printer.proofs.closing.Tie as tie

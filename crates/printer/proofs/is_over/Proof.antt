@@ -1,4 +1,4 @@
--- `printer::print::is_over` meets its contract.
+-- `printer::is_over` meets its contract.
 -- Assumes nothing.
 use borrow.Author.Needs.{needs}
 use Rattle.printer.proofs.PrintSeveral.{over-ways}

@@ -1,4 +1,4 @@
--- `printer::print::mode_of` meets its contract.
+-- `printer::mode_of` meets its contract.
 -- Assumes nothing.
 use Rattle.printer.proofs.mode_of.Statement.{statement}
 use Rattle.printer.proofs.mode_of.Tie as tie

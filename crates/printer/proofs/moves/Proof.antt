@@ -1,4 +1,4 @@
--- `printer::print::moves` meets its contract.
+-- `printer::moves` meets its contract.
 -- Assumes nothing.
 use Rattle.printer.proofs.PrintSeveral.{moves-ways}
 use Rattle.printer.proofs.moves.Statement.{statement}

@@ -1,4 +1,4 @@
--- `printer::print::opening` meets its contract.
+-- `printer::opening` meets its contract.
 -- Assumes nothing.
 use Rattle.printer.proofs.opening.Statement.{statement}
 use Rattle.printer.proofs.opening.Tie as tie

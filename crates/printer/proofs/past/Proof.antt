@@ -1,4 +1,4 @@
--- `printer::print::past` meets its contract.
+-- `printer::past` meets its contract.
 -- Assumes nothing.
 use borrow.Author.Needs.{needs}
 use Rattle.printer.proofs.PrintSeveral.{past-ways}

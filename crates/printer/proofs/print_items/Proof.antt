@@ -1,4 +1,4 @@
--- `printer::print::print_items` meets its contract.
+-- `printer::print_items` meets its contract.
 -- Assumes nothing.
 use borrow.Author.Needs.{needs}
 use Rattle.printer.proofs.PrintText.{text-none, text-all}

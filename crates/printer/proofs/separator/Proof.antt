@@ -1,4 +1,4 @@
--- `printer::print::separator` meets its contract.
+-- `printer::separator` meets its contract.
 -- Assumes nothing.
 use borrow.Author.Needs.{needs}
 use Rattle.printer.proofs.PrintSeveral.{separator-ways}

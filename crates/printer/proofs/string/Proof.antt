@@ -1,4 +1,4 @@
--- `printer::print::string` meets its contract.
+-- `printer::string` meets its contract.
 -- Assumes nothing.
 use borrow.Author.Needs.{needs}
 use Rattle.printer.proofs.PrintWays.{string-ways}

@@ -1,4 +1,4 @@
--- `edn::print::lay` meets its contract.
+-- `printing::lay` meets its contract.
 -- Assumes nothing.
 use borrow.Author.Needs.{needs}
 use Rattle.printing.proofs.lay.Statement.{statement}

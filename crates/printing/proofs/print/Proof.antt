@@ -1,4 +1,4 @@
--- `edn::print::print` meets its contract.
+-- `printing::print` meets its contract.
 -- Assumes nothing.
 use borrow.Author.Needs.{needs}
 use Rattle.printing.proofs.print.Statement.{statement}

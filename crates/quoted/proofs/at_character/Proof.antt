@@ -1,4 +1,4 @@
--- `tokens::quoted::at_character` meets its contract.
+-- `quoted::at_character` meets its contract.
 -- Assumes nothing.
 use Rattle.quoted.proofs.QuotedCode.{character-ways}
 use borrow.Author.Needs.{needs}

@@ -1,4 +1,4 @@
--- `tokens::quoted::at_digit` meets its contract.
+-- `quoted::at_digit` meets its contract.
 -- Assumes nothing.
 use Rattle.quoted.proofs.QuotedCode.{digit-move-ways, digit-whole-room}
 use borrow.Author.Needs.{needs}

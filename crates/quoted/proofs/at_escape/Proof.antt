@@ -1,4 +1,4 @@
--- `tokens::quoted::at_escape` meets its contract.
+-- `quoted::at_escape` meets its contract.
 -- Assumes nothing.
 use Rattle.quoted.proofs.QuotedCode.{escape-ways}
 use borrow.Author.Needs.{needs}

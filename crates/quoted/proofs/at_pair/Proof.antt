@@ -1,4 +1,4 @@
--- `tokens::quoted::at_pair` meets its contract.
+-- `quoted::at_pair` meets its contract.
 -- Assumes nothing.
 use Rattle.quoted.proofs.QuotedCode.{pair-ways}
 use borrow.Author.Needs.{needs}

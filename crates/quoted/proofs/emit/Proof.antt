@@ -1,4 +1,4 @@
--- `tokens::quoted::emit` meets its contract.
+-- `quoted::emit` meets its contract.
 -- Assumes nothing.
 use Rattle.quoted.proofs.QuotedCode.{emit-ways, emit-byte-fits}
 use borrow.Author.Needs.{needs}

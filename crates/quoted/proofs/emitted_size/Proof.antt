@@ -1,4 +1,4 @@
--- `tokens::quoted::emitted_size` meets its contract.
+-- `quoted::emitted_size` meets its contract.
 -- Assumes nothing.
 use Rattle.quoted.proofs.QuotedCode.{sized-ways}
 use Rattle.quoted.proofs.emitted_size.Statement.{statement}

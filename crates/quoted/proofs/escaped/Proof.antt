@@ -1,4 +1,4 @@
--- `tokens::quoted::escaped` meets its contract.
+-- `quoted::escaped` meets its contract.
 -- Assumes nothing.
 use Rattle.quoted.proofs.QuotedCode.{escaped-ways}
 use Rattle.quoted.proofs.escaped.Statement.{statement}

@@ -1,4 +1,4 @@
--- `tokens::quoted::put_point` meets its contract.
+-- `quoted::put_point` meets its contract.
 -- Assumes nothing.
 use Rattle.quoted.proofs.QuotedCode.{point-ways}
 use borrow.Author.Needs.{needs}

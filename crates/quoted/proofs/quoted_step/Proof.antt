@@ -1,4 +1,4 @@
--- `tokens::quoted::quoted_step` meets its contract.
+-- `quoted::quoted_step` meets its contract.
 -- Assumes nothing.
 use Rattle.quoted.proofs.QuotedCode.{step-ways, step-digits}
 use borrow.Author.Needs.{needs}

@@ -1,4 +1,4 @@
--- `tokens::quoted::scan_quoted` meets its contract.
+-- `quoted::scan_quoted` meets its contract.
 -- Assumes nothing.
 use lib.ListN.{length}
 use Prim.Native.Nat.{_-_}

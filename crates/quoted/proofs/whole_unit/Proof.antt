@@ -1,4 +1,4 @@
--- `tokens::quoted::whole_unit` meets its contract.
+-- `quoted::whole_unit` meets its contract.
 -- Assumes nothing.
 use Rattle.quoted.proofs.QuotedCode.{whole-ways}
 use borrow.Author.Needs.{needs}

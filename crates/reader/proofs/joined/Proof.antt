@@ -1,4 +1,4 @@
--- `reader::read::joined` meets its contract.
+-- `reader::joined` meets its contract.
 -- Assumes nothing.
 use borrow.Author.Needs.{needs}
 use Rattle.reader.proofs.joined.Statement.{statement}

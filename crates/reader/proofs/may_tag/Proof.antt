@@ -1,4 +1,4 @@
--- `reader::read::may_tag` meets its contract.
+-- `reader::may_tag` meets its contract.
 -- Assumes nothing.
 use borrow.Author.Needs.{needs}
 use Rattle.reader.proofs.may_tag.Statement.{statement}

@@ -1,4 +1,4 @@
--- `reader::read::read_items` meets its contract.
+-- `reader::read_items` meets its contract.
 -- Assumes nothing.
 use borrow.Author.Needs.{needs}
 use Rattle.reader.proofs.read_items.Statement.{statement}

@@ -1,4 +1,4 @@
--- `reader::read::tagged` meets its contract.
+-- `reader::tagged` meets its contract.
 -- Assumes nothing.
 use borrow.Author.Needs.{needs}
 use Rattle.reader.proofs.tagged.Statement.{statement}

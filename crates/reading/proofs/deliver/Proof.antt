@@ -1,4 +1,4 @@
--- `edn::read::deliver` meets its contract.
+-- `reading::deliver` meets its contract.
 -- Assumes nothing.
 use borrow.Author.Needs.{needs}
 use Rattle.reading.proofs.deliver.Statement.{statement}

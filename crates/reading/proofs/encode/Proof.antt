@@ -1,4 +1,4 @@
--- `edn::read::encode` meets its contract.
+-- `reading::encode` meets its contract.
 -- Assumes nothing.
 use borrow.Author.Needs.{needs}
 use Rattle.reading.proofs.encode.Statement.{statement}

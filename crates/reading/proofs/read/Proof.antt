@@ -1,4 +1,4 @@
--- `edn::read::read` meets its contract.
+-- `reading::read` meets its contract.
 -- Assumes nothing.
 use borrow.Author.Needs.{needs}
 use Rattle.reading.proofs.read.Statement.{statement}

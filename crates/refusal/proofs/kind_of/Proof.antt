@@ -1,4 +1,4 @@
--- `cbor::refusal::kind_of` meets its contract.
+-- `refusal::kind_of` meets its contract.
 -- Assumes nothing.
 use Rattle.refusal.proofs.kind_of.Statement.{statement}
 use Rattle.refusal.proofs.kind_of.Tie as tie

@@ -1,4 +1,4 @@
--- `cbor::refusal::number` meets its contract.
+-- `refusal::number` meets its contract.
 -- Assumes nothing.
 use borrow.Author.Needs.{needs}
 use Rattle.refusal.specs.RefusalKinds.{kindNumber}

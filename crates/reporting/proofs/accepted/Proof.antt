@@ -1,4 +1,4 @@
--- `edn::report::accepted` meets its contract.
+-- `reporting::accepted` meets its contract.
 -- Assumes nothing.
 use borrow.Author.Needs.{needs}
 use Rattle.reporting.proofs.accepted.Statement.{statement}

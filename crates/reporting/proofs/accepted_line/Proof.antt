@@ -1,4 +1,4 @@
--- `edn::report::accepted_line` meets its contract.
+-- `reporting::accepted_line` meets its contract.
 -- Assumes nothing.
 use borrow.Author.Needs.{needs}
 use Rattle.reporting.proofs.accepted_line.Statement.{statement}

@@ -1,4 +1,4 @@
--- `edn::report::at_place` meets its contract.
+-- `reporting::at_place` meets its contract.
 -- Assumes nothing.
 use borrow.Author.Needs.{needs}
 use Rattle.reporting.proofs.at_place.Statement.{statement}

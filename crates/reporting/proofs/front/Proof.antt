@@ -1,4 +1,4 @@
--- `edn::report::front` meets its contract.
+-- `reporting::front` meets its contract.
 -- Assumes nothing.
 use borrow.Author.Needs.{needs}
 use lib.Seq.{length-take-le}

@@ -1,4 +1,4 @@
--- `edn::report::refused` meets its contract.
+-- `reporting::refused` meets its contract.
 -- Assumes nothing.
 use borrow.Author.Needs.{needs}
 use Rattle.reporting.proofs.refused.Statement.{statement}

@@ -1,4 +1,4 @@
--- `edn::report::said_of_read` meets its contract.
+-- `reporting::said_of_read` meets its contract.
 -- Assumes nothing.
 use borrow.Author.Needs.{needs}
 use lib.Seq.{length-take-le}

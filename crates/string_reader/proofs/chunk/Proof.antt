@@ -1,4 +1,4 @@
--- `reader::strings::chunk` meets its contract.
+-- `string_reader::chunk` meets its contract.
 -- Assumes nothing.
 use borrow.Author.Needs.{needs}
 use Rattle.refusal.specs.RefusalKinds.{kindNumber}

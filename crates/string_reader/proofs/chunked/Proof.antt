@@ -1,4 +1,4 @@
--- `reader::strings::chunked` meets its contract.
+-- `string_reader::chunked` meets its contract.
 -- Assumes nothing.
 use borrow.Author.Needs.{needs}
 use Rattle.string_reader.proofs.ReadStrings.{opened-fits, chunked-strings, major-fits, major-open, chunked-count, chunked-light, chunked-ways}

@@ -1,4 +1,4 @@
--- `reader::strings::chunks` meets its contract.
+-- `string_reader::chunks` meets its contract.
 -- Assumes nothing.
 use Rattle.string_reader.proofs.chunks.Statement.{statement}
 use Rattle.notation.specs.Reading.{marked}

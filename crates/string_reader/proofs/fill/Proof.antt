@@ -1,4 +1,4 @@
--- `reader::strings::fill` meets its contract.
+-- `string_reader::fill` meets its contract.
 -- Assumes nothing.
 use borrow.Author.Needs.{needs}
 use Rattle.string_reader.proofs.fill.Statement.{statement}

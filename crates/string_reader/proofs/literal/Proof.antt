@@ -1,4 +1,4 @@
--- `reader::strings::literal` meets its contract.
+-- `string_reader::literal` meets its contract.
 -- Assumes nothing.
 use borrow.Author.Needs.{needs}
 use Rattle.string_reader.proofs.literal.Statement.{statement}

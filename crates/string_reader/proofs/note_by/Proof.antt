@@ -1,4 +1,4 @@
--- `reader::strings::note_by` meets its contract.
+-- `string_reader::note_by` meets its contract.
 -- Assumes nothing.
 use borrow.Author.Needs.{needs}
 use Rattle.string_reader.proofs.note_by.Statement.{statement}

@@ -1,4 +1,4 @@
--- `reader::strings::string` meets its contract.
+-- `string_reader::string` meets its contract.
 -- Assumes nothing.
 use borrow.Author.Needs.{needs}
 use Rattle.string_reader.proofs.string.Statement.{statement}

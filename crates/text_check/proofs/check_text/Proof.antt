@@ -1,4 +1,4 @@
--- `edn::text::check_text` meets its contract.
+-- `text_check::check_text` meets its contract.
 -- Assumes nothing.
 use borrow.Author.Needs.{needs}
 use Rattle.text_check.proofs.check_text.Statement.{statement}

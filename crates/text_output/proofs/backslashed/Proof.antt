@@ -1,4 +1,4 @@
--- `printer::put::backslashed` meets its contract.
+-- `text_output::backslashed` meets its contract.
 -- Assumes nothing.
 use borrow.Author.Needs.{needs}
 use Rattle.text_output.proofs.PrintLeaves.{two}

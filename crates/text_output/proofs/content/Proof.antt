@@ -1,4 +1,4 @@
--- `printer::put::content` meets its contract.
+-- `text_output::content` meets its contract.
 -- Assumes nothing.
 use Rattle.text_output.proofs.content.Statement.{statement}
 use Rattle.text_output.proofs.content.Tie as tie

@@ -1,4 +1,4 @@
--- `printer::put::content_byte` meets its contract.
+-- `text_output::content_byte` meets its contract.
 -- Assumes nothing.
 use borrow.Author.Needs.{needs}
 use Rattle.text_output.proofs.PrintLeaves.{content-ways}

@@ -1,4 +1,4 @@
--- `printer::put::escaped` meets its contract.
+-- `text_output::escaped` meets its contract.
 -- Assumes nothing.
 use borrow.Author.Needs.{needs}
 use Rattle.text_output.proofs.PrintLeaves.{escape-ways}

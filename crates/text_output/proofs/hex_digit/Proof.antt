@@ -1,4 +1,4 @@
--- `printer::put::hex_digit` meets its contract.
+-- `text_output::hex_digit` meets its contract.
 -- Assumes nothing.
 use borrow.Author.Needs.{needs}
 use Rattle.text_output.proofs.PrintLeaves.{hex-ways}

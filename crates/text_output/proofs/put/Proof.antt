@@ -1,4 +1,4 @@
--- `printer::put::put` meets its contract.
+-- `text_output::put` meets its contract.
 -- Assumes nothing.
 use borrow.Author.Needs.{needs}
 use Rattle.text_output.proofs.PrintLeaves.{put-in, put-past}

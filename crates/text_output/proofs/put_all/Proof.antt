@@ -1,4 +1,4 @@
--- `printer::put::put_all` meets its contract.
+-- `text_output::put_all` meets its contract.
 -- Assumes nothing.
 use Rattle.text_output.proofs.put_all.Statement.{statement}
 use Rattle.text_output.proofs.put_all.Tie as tie

@@ -1,4 +1,4 @@
--- `printer::put::successor` meets its contract.
+-- `text_output::successor` meets its contract.
 -- Assumes nothing.
 use borrow.Author.Needs.{needs}
 use Rattle.text_output.proofs.PrintLeaves.{next-ways}

@@ -1,4 +1,4 @@
--- `cbor::typed::element_size` meets its contract.
+-- `typed_array::element_size` meets its contract.
 -- Assumes nothing.
 use borrow.Author.Needs.{needs}
 use Rattle.typed_array.proofs.element_size.Statement.{statement}

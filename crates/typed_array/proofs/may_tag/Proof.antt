@@ -1,4 +1,4 @@
--- `cbor::typed::may_tag` meets its contract.
+-- `typed_array::may_tag` meets its contract.
 -- Assumes nothing.
 use borrow.Author.Needs.{needs}
 use Rattle.typed_array.proofs.may_tag.Statement.{statement}

@@ -1,4 +1,4 @@
--- `cbor::utf8::first_bad` meets its contract.
+-- `utf8::first_bad` meets its contract.
 -- Assumes nothing.
 use Rattle.utf8.proofs.first_bad.Statement.{statement}
 use Rattle.utf8.proofs.first_bad.Tie as tie

@@ -1,4 +1,4 @@
--- `cbor::utf8::lead_of` meets its contract: each return is tested at each byte that comes there.
+-- `utf8::lead_of` meets its contract: each return is tested at each byte that comes there.
 -- Assumes nothing.
 use Rattle.utf8.proofs.lead_of.Statement.{statement}
 use Rattle.utf8.proofs.lead_of.Tie as tie

@@ -1,4 +1,4 @@
--- `cbor::utf8::sequence` meets its contract.
+-- `utf8::sequence` meets its contract.
 -- Assumes nothing.
 use Rattle.utf8.proofs.sequence.Statement.{statement}
 use Rattle.utf8.proofs.sequence.Tie as tie

@@ -1,4 +1,4 @@
--- `cbor::utf8::within` meets its contract.
+-- `utf8::within` meets its contract.
 -- Assumes nothing.
 use borrow.Author.Needs.{needs}
 use Rattle.utf8.proofs.within.Statement.{statement}

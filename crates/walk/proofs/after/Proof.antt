@@ -1,4 +1,4 @@
--- `cbor::walk::after` meets its contract.
+-- `walk::after` meets its contract.
 -- Assumes nothing.
 use borrow.Author.Needs.{needs}
 use Rattle.walk.proofs.after.Statement.{statement}

@@ -1,4 +1,4 @@
--- `cbor::walk::as_span` meets its contract.
+-- `walk::as_span` meets its contract.
 -- Assumes nothing.
 use borrow.Author.Needs.{needs}
 use Rattle.walk.proofs.as_span.Statement.{statement}

@@ -1,4 +1,4 @@
--- `cbor::walk::chunk` meets its contract.
+-- `walk::chunk` meets its contract.
 -- Assumes nothing.
 use borrow.Author.Needs.{needs}
 use Rattle.walk.proofs.chunk.Statement.{statement}

@@ -1,4 +1,4 @@
--- `cbor::walk::content` meets its contract.
+-- `walk::content` meets its contract.
 -- Assumes nothing.
 use borrow.Author.Needs.{needs}
 use Rattle.walk.proofs.content.Statement.{statement}

@@ -1,4 +1,4 @@
--- `cbor::walk::is_text` meets its contract.
+-- `walk::is_text` meets its contract.
 -- Assumes nothing.
 use borrow.Author.Needs.{needs}
 use Rattle.walk.proofs.is_text.Statement.{statement}

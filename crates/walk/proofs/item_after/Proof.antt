@@ -1,4 +1,4 @@
--- `cbor::walk::item_after` meets its contract.
+-- `walk::item_after` meets its contract.
 -- Assumes nothing.
 use borrow.Author.Needs.{needs}
 use Rattle.walk.proofs.item_after.Statement.{statement}

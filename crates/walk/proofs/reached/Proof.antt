@@ -1,4 +1,4 @@
--- `cbor::walk::reached` meets its contract.
+-- `walk::reached` meets its contract.
 -- Assumes nothing.
 use Rattle.walk.proofs.reached.Statement.{statement}
 use Rattle.walk.proofs.reached.Tie as tie

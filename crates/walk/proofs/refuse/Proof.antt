@@ -1,4 +1,4 @@
--- `cbor::walk::refuse` meets its contract.
+-- `walk::refuse` meets its contract.
 -- Assumes nothing.
 use Rattle.walk.proofs.refuse.Statement.{statement}
 use Rattle.walk.proofs.refuse.Tie as tie

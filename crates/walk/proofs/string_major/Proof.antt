@@ -1,4 +1,4 @@
--- `cbor::walk::string_major` meets its contract.
+-- `walk::string_major` meets its contract.
 -- Assumes nothing.
 use Rattle.walk.proofs.string_major.Statement.{statement}
 use Rattle.walk.proofs.string_major.Tie as tie

@@ -1,4 +1,4 @@
--- `cbor::walk::turn_at` meets its contract.
+-- `walk::turn_at` meets its contract.
 -- Assumes nothing.
 use borrow.Author.Needs.{needs}
 use Rattle.walk.proofs.turn_at.Statement.{statement}

@@ -1,4 +1,4 @@
--- `cbor::walk::walk_all` meets its contract.
+-- `walk::walk_all` meets its contract.
 -- Assumes nothing.
 use borrow.Author.Needs.{needs}
 use Rattle.walk.proofs.walk_all.Statement.{statement}

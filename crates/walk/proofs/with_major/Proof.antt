@@ -1,4 +1,4 @@
--- `cbor::walk::with_major` meets its contract.
+-- `walk::with_major` meets its contract.
 -- Assumes nothing.
 use borrow.Author.Needs.{needs}
 use Rattle.walk.proofs.with_major.Statement.{statement}

@@ -1,4 +1,4 @@
--- `tokens::word::after_minus` meets its contract.
+-- `words::after_minus` meets its contract.
 -- Assumes nothing.
 use borrow.Author.Needs.{needs}
 use Rattle.words.proofs.after_minus.Statement.{statement}

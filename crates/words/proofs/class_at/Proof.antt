@@ -1,4 +1,4 @@
--- `tokens::word::class_at` meets its contract.
+-- `words::class_at` meets its contract.
 -- Assumes nothing.
 use borrow.Author.Needs.{needs}
 use Rattle.words.proofs.class_at.Statement.{statement}

@@ -1,4 +1,4 @@
--- `tokens::word::is_same` meets its contract.
+-- `words::is_same` meets its contract.
 -- Assumes nothing.
 use borrow.Author.Needs.{needs}
 use Rattle.words.proofs.is_same.Statement.{statement}

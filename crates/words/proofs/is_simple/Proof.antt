@@ -1,4 +1,4 @@
--- `tokens::word::is_simple` meets its contract.
+-- `words::is_simple` meets its contract.
 -- Assumes nothing.
 use Rattle.words.proofs.is_simple.Statement.{statement}
 use Rattle.words.proofs.is_simple.Tie as tie

@@ -1,4 +1,4 @@
--- `tokens::word::other_word` meets its contract.
+-- `words::other_word` meets its contract.
 -- Assumes nothing.
 use borrow.Author.Needs.{needs}
 use Rattle.words.proofs.other_word.Statement.{statement}

@@ -1,4 +1,4 @@
--- `tokens::word::plain_decimal` meets its contract.
+-- `words::plain_decimal` meets its contract.
 -- Assumes nothing.
 use borrow.Author.Needs.{needs}
 use Rattle.words.proofs.plain_decimal.Statement.{statement}

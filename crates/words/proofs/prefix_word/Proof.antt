@@ -1,4 +1,4 @@
--- `tokens::word::prefix_word` meets its contract.
+-- `words::prefix_word` meets its contract.
 -- Assumes nothing.
 use borrow.Author.Needs.{needs}
 use Rattle.words.proofs.prefix_word.Statement.{statement}

@@ -1,4 +1,4 @@
--- `tokens::word::simple_in` meets its contract.
+-- `words::simple_in` meets its contract.
 -- Assumes nothing.
 use borrow.Author.Needs.{needs}
 use Rattle.words.proofs.simple_in.Statement.{statement}

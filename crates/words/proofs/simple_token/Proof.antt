@@ -1,4 +1,4 @@
--- `tokens::word::simple_token` meets its contract.
+-- `words::simple_token` meets its contract.
 -- Assumes nothing.
 use borrow.Author.Needs.{needs}
 use Rattle.words.proofs.simple_token.Statement.{statement}

@@ -1,4 +1,4 @@
--- `tokens::word::starts_with` meets its contract.
+-- `words::starts_with` meets its contract.
 -- Assumes nothing.
 use Rattle.words.proofs.starts_with.Statement.{statement}
 use Rattle.words.proofs.starts_with.Tie as tie

@@ -1,4 +1,4 @@
--- `tokens::word::value_word` meets its contract.
+-- `words::value_word` meets its contract.
 -- Assumes nothing.
 use borrow.Author.Needs.{needs}
 use Rattle.words.proofs.value_word.Statement.{statement}

@@ -1,4 +1,4 @@
--- `tokens::word::worded` meets its contract.
+-- `words::worded` meets its contract.
 -- Assumes nothing.
 use borrow.Author.Needs.{needs}
 use Rattle.words.proofs.worded.Statement.{statement}

@@ -1,4 +1,4 @@
--- `reader::answer::refuse` meets its contract.
+-- `encoding::answer::refuse` meets its contract.
 -- Assumes nothing.
 use Rattle.encoding.proofs.answer.refuse.Statement.{statement}
 use Rattle.encoding.proofs.answer.refuse.Tie as tie

@@ -1,4 +1,4 @@
--- `reader::answer::stray_number` meets its contract.
+-- `encoding::answer::stray_number` meets its contract.
 -- Assumes nothing.
 use Rattle.encoding.proofs.answer.stray_number.Statement.{statement}
 use Rattle.encoding.proofs.answer.stray_number.Tie as tie

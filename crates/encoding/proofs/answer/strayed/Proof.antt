@@ -1,4 +1,4 @@
--- `reader::answer::strayed` meets its contract.
+-- `encoding::answer::strayed` meets its contract.
 -- Assumes nothing.
 use borrow.Author.Needs.{needs}
 use Rattle.encoding.proofs.answer.strayed.Statement.{statement}

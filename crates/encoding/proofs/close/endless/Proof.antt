@@ -1,4 +1,4 @@
--- `reader::close::endless` meets its contract.
+-- `encoding::close::endless` meets its contract.
 -- Assumes nothing.
 use borrow.Author.Needs.{needs}
 use Rattle.encoding.proofs.close.endless.Statement.{statement}

@@ -1,4 +1,4 @@
--- `reader::close::finish` meets its contract.
+-- `encoding::close::finish` meets its contract.
 -- Assumes nothing.
 use borrow.Author.Needs.{needs}
 use Rattle.encoding.proofs.close.finish.Statement.{statement}

@@ -1,4 +1,4 @@
--- `reader::heads::head_size` meets its contract.
+-- `encoding::heads::head_size` meets its contract.
 -- Assumes nothing.
 use borrow.Author.Needs.{needs}
 use Rattle.encoding.proofs.heads.head_size.Statement.{statement}

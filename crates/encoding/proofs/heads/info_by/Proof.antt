@@ -1,4 +1,4 @@
--- `reader::heads::info_by` meets its contract.
+-- `encoding::heads::info_by` meets its contract.
 -- Assumes nothing.
 use borrow.Author.Needs.{needs}
 use Rattle.encoding.proofs.heads.info_by.Statement.{statement}

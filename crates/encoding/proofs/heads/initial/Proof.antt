@@ -1,4 +1,4 @@
--- `reader::heads::initial` meets its contract.
+-- `encoding::heads::initial` meets its contract.
 -- Assumes nothing.
 use borrow.Author.Needs.{needs}
 use Rattle.encoding.proofs.heads.initial.Statement.{statement}

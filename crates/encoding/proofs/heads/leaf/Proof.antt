@@ -1,4 +1,4 @@
--- `reader::heads::leaf` meets its contract.
+-- `encoding::heads::leaf` meets its contract.
 -- Assumes nothing.
 use borrow.Author.Needs.{needs}
 use Rattle.encoding.proofs.heads.leaf.Statement.{statement}

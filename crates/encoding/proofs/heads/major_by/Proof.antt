@@ -1,4 +1,4 @@
--- `reader::heads::major_by` meets its contract.
+-- `encoding::heads::major_by` meets its contract.
 -- Assumes nothing.
 use Rattle.encoding.proofs.heads.major_by.Statement.{statement}
 use Rattle.encoding.proofs.heads.major_by.Tie as tie

@@ -1,4 +1,4 @@
--- `tokens::amount::count_digits` meets its contract.
+-- `numbers::amount::count_digits` meets its contract.
 -- Assumes nothing.
 use Rattle.numbers.proofs.amount.count_digits.Statement.{statement}
 use Rattle.numbers.proofs.amount.count_digits.Tie as tie

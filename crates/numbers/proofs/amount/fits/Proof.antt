@@ -1,4 +1,4 @@
--- `tokens::amount::fits` meets its contract.
+-- `numbers::amount::fits` meets its contract.
 -- Assumes nothing.
 use borrow.Author.Needs.{needs}
 use Rattle.numbers.proofs.amount.fits.Statement.{statement}

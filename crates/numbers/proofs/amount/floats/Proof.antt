@@ -1,4 +1,4 @@
--- `tokens::amount::floats` meets its contract.
+-- `numbers::amount::floats` meets its contract.
 -- Assumes nothing.
 use borrow.Author.Needs.{needs}
 use Rattle.numbers.proofs.amount.floats.Statement.{statement}

@@ -1,4 +1,4 @@
--- `tokens::amount::grow` meets its contract.
+-- `numbers::amount::grow` meets its contract.
 -- Assumes nothing.
 use borrow.Author.Needs.{needs}
 use Rattle.numbers.proofs.amount.grow.Statement.{statement}

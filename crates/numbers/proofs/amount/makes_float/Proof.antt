@@ -1,4 +1,4 @@
--- `tokens::amount::makes_float` meets its contract.
+-- `numbers::amount::makes_float` meets its contract.
 -- Assumes nothing.
 use Rattle.numbers.proofs.amount.makes_float.Statement.{statement}
 use Rattle.numbers.proofs.amount.makes_float.Tie as tie

@@ -1,4 +1,4 @@
--- `tokens::amount::nearly` meets its contract.
+-- `numbers::amount::nearly` meets its contract.
 -- Assumes nothing.
 use borrow.Author.Needs.{needs}
 use Rattle.numbers.proofs.amount.nearly.Statement.{statement}

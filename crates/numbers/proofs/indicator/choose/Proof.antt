@@ -1,4 +1,4 @@
--- `tokens::indicator::choose` meets its contract.
+-- `numbers::indicator::choose` meets its contract.
 -- Assumes nothing.
 use borrow.Author.Needs.{needs}
 use Rattle.numbers.proofs.indicator.choose.Statement.{statement}

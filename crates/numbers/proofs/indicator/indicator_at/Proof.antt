@@ -1,4 +1,4 @@
--- `tokens::indicator::indicator_at` meets its contract.
+-- `numbers::indicator::indicator_at` meets its contract.
 -- Assumes nothing.
 use borrow.Author.Needs.{needs}
 use Rattle.numbers.proofs.indicator.indicator_at.Statement.{statement}

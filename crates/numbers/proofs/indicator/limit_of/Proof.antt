@@ -1,4 +1,4 @@
--- `tokens::indicator::limit_of` meets its contract.
+-- `numbers::indicator::limit_of` meets its contract.
 -- Assumes nothing.
 use Rattle.numbers.proofs.indicator.limit_of.Statement.{statement}
 use Rattle.numbers.proofs.indicator.limit_of.Tie as tie

@@ -1,4 +1,4 @@
--- `tokens::indicator::named` meets its contract.
+-- `numbers::indicator::named` meets its contract.
 -- Assumes nothing.
 use borrow.Author.Needs.{needs}
 use Rattle.numbers.proofs.indicator.named.Statement.{statement}

@@ -1,4 +1,4 @@
--- `tokens::indicator::shortest` meets its contract.
+-- `numbers::indicator::shortest` meets its contract.
 -- Assumes nothing.
 use Rattle.numbers.proofs.indicator.shortest.Statement.{statement}
 use Rattle.numbers.proofs.indicator.shortest.Tie as tie

@@ -1,4 +1,4 @@
--- `tokens::number::after_zero` meets its contract.
+-- `numbers::number::after_zero` meets its contract.
 -- Assumes nothing.
 use borrow.Author.Needs.{needs}
 use Rattle.numbers.proofs.number.after_zero.Statement.{statement}

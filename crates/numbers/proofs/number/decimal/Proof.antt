@@ -1,4 +1,4 @@
--- `tokens::number::decimal` meets its contract.
+-- `numbers::number::decimal` meets its contract.
 -- Assumes nothing.
 use borrow.Author.Needs.{needs}
 use Rattle.numbers.proofs.number.decimal.Statement.{statement}

@@ -1,4 +1,4 @@
--- `tokens::number::integer` meets its contract.
+-- `numbers::number::integer` meets its contract.
 -- Assumes nothing.
 use borrow.Author.Needs.{needs}
 use Rattle.numbers.proofs.number.integer.Statement.{statement}

@@ -1,4 +1,4 @@
--- `tokens::number::judged` meets its contract.
+-- `numbers::number::judged` meets its contract.
 -- Assumes nothing.
 use borrow.Author.Needs.{needs}
 use Rattle.numbers.proofs.number.judged.Statement.{statement}

@@ -1,4 +1,4 @@
--- `tokens::number::negated` meets its contract.
+-- `numbers::number::negated` meets its contract.
 -- Assumes nothing.
 use borrow.Author.Needs.{needs}
 use Rattle.numbers.proofs.number.negated.Statement.{statement}

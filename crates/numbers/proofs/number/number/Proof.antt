@@ -1,4 +1,4 @@
--- `tokens::number::number` meets its contract.
+-- `numbers::number::number` meets its contract.
 -- Assumes nothing.
 use borrow.Author.Needs.{needs}
 use Rattle.numbers.proofs.number.number.Statement.{statement}

@@ -1,4 +1,4 @@
--- `tokens::number::prefix` meets its contract.
+-- `numbers::number::prefix` meets its contract.
 -- Assumes nothing.
 use borrow.Author.Needs.{needs}
 use Rattle.numbers.proofs.number.prefix.Statement.{statement}

@@ -1,4 +1,4 @@
--- `tokens::number::radix_of` meets its contract.
+-- `numbers::number::radix_of` meets its contract.
 -- Assumes nothing.
 use Rattle.numbers.proofs.number.radix_of.Statement.{statement}
 use Rattle.numbers.proofs.number.radix_of.Tie as tie

@@ -1,4 +1,4 @@
--- `edn::look::Cursor::into` meets its contract.
+-- `path::Cursor::into` meets its contract.
 -- Assumes nothing.
 use borrow.Author.Needs.{needs}
 use Rattle.path.proofs.Cursor.into.Statement.{statement}

@@ -1,4 +1,4 @@
--- `edn::look::Cursor::nth` meets its contract.
+-- `path::Cursor::nth` meets its contract.
 -- Assumes nothing.
 use Rattle.path.proofs.Cursor.nth.Statement.{statement}
 use Rattle.path.proofs.Cursor.nth.Tie as tie

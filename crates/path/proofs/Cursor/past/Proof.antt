@@ -1,4 +1,4 @@
--- `edn::look::Cursor::past` meets its contract.
+-- `path::Cursor::past` meets its contract.
 -- Assumes nothing.
 use borrow.Author.Needs.{needs}
 use Rattle.path.proofs.Cursor.past.Statement.{statement}

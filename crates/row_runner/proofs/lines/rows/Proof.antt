@@ -1,4 +1,4 @@
--- `vectors::lines::rows` meets its contract.
+-- `row_runner::lines::rows` meets its contract.
 -- Assumes nothing.
 use Rattle.row_runner.proofs.lines.rows.Statement.{statement}
 use Rattle.row_runner.proofs.lines.rows.Tie as tie

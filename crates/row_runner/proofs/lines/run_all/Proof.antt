@@ -1,4 +1,4 @@
--- `vectors::lines::run_all` meets its contract.
+-- `row_runner::lines::run_all` meets its contract.
 -- Assumes nothing.
 use Rattle.row_runner.proofs.lines.run_all.Statement.{statement}
 use Rattle.row_runner.proofs.lines.run_all.Tie as tie

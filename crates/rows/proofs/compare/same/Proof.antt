@@ -1,4 +1,4 @@
--- `vectors::compare::same` meets its contract.
+-- `rows::compare::same` meets its contract.
 -- Assumes nothing.
 use Rattle.rows.proofs.compare.same.Statement.{statement}
 use Rattle.rows.proofs.compare.same.Tie as tie

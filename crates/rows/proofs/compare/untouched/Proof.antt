@@ -1,4 +1,4 @@
--- `vectors::compare::untouched` meets its contract.
+-- `rows::compare::untouched` meets its contract.
 -- Assumes nothing.
 use Rattle.rows.proofs.compare.untouched.Statement.{statement}
 use Rattle.rows.proofs.compare.untouched.Tie as tie

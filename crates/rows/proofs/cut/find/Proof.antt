@@ -1,4 +1,4 @@
--- `vectors::cut::find` meets its contract.
+-- `rows::cut::find` meets its contract.
 -- Assumes nothing.
 use Rattle.rows.proofs.cut.find.Statement.{statement}
 use Rattle.rows.proofs.cut.find.Tie as tie

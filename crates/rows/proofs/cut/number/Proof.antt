@@ -1,4 +1,4 @@
--- `vectors::cut::number` meets its contract.
+-- `rows::cut::number` meets its contract.
 -- Assumes nothing.
 use Rattle.rows.proofs.cut.number.Statement.{statement}
 use Rattle.rows.proofs.cut.number.Tie as tie

@@ -1,4 +1,4 @@
--- `vectors::cut::pieces` meets its contract.
+-- `rows::cut::pieces` meets its contract.
 -- Assumes nothing.
 use Rattle.rows.proofs.cut.pieces.Statement.{statement}
 use Rattle.rows.proofs.cut.pieces.Tie as tie

@@ -1,4 +1,4 @@
--- `vectors::cut::start_of` meets its contract.
+-- `rows::cut::start_of` meets its contract.
 -- Assumes nothing.
 use Rattle.rows.proofs.cut.start_of.Statement.{statement}
 use Rattle.rows.proofs.cut.start_of.Tie as tie

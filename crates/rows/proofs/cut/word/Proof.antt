@@ -1,4 +1,4 @@
--- `vectors::cut::word` meets its contract.
+-- `rows::cut::word` meets its contract.
 -- Assumes nothing.
 use Rattle.rows.proofs.cut.word.Statement.{statement}
 use Rattle.rows.proofs.cut.word.Tie as tie

@@ -1,4 +1,4 @@
--- `vectors::fill::digits` meets its contract.
+-- `rows::fill::digits` meets its contract.
 -- Assumes nothing.
 use Rattle.rows.proofs.fill.digits.Statement.{statement}
 use Rattle.rows.proofs.fill.digits.Tie as tie

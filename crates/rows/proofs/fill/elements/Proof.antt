@@ -1,4 +1,4 @@
--- `vectors::fill::elements` meets its contract.
+-- `rows::fill::elements` meets its contract.
 -- Assumes nothing.
 use Rattle.rows.proofs.fill.elements.Statement.{statement}
 use Rattle.rows.proofs.fill.elements.Tie as tie

@@ -1,4 +1,4 @@
--- `vectors::fill::path` meets its contract.
+-- `rows::fill::path` meets its contract.
 -- Assumes nothing.
 use Rattle.rows.proofs.fill.path.Statement.{statement}
 use Rattle.rows.proofs.fill.path.Tie as tie

@@ -1,4 +1,4 @@
--- `vectors::fill::repeated` meets its contract.
+-- `rows::fill::repeated` meets its contract.
 -- Assumes nothing.
 use Rattle.rows.proofs.fill.repeated.Statement.{statement}
 use Rattle.rows.proofs.fill.repeated.Tie as tie

@@ -1,4 +1,4 @@
--- `tokens::class::class` meets its contract.
+-- `scanning::class::class` meets its contract.
 -- Assumes nothing.
 use Rattle.scanning.proofs.class.class.Statement.{statement}
 use Rattle.scanning.proofs.class.class.Tie as tie

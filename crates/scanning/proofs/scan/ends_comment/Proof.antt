@@ -1,4 +1,4 @@
--- `tokens::scan::ends_comment` meets its contract.
+-- `scanning::scan::ends_comment` meets its contract.
 -- Assumes nothing.
 use borrow.Author.Needs.{needs}
 use Rattle.scanning.proofs.scan.ends_comment.Statement.{statement}

@@ -1,4 +1,4 @@
--- `tokens::scan::first_of` meets its contract.
+-- `scanning::scan::first_of` meets its contract.
 -- Assumes nothing.
 use Rattle.scanning.proofs.scan.first_of.Statement.{statement}
 use Rattle.scanning.proofs.scan.first_of.Tie as tie

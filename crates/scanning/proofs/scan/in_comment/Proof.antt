@@ -1,4 +1,4 @@
--- `tokens::scan::in_comment` meets its contract.
+-- `scanning::scan::in_comment` meets its contract.
 -- Assumes nothing.
 use borrow.Author.Needs.{needs}
 use Rattle.scanning.proofs.scan.in_comment.Statement.{statement}

@@ -1,4 +1,4 @@
--- `tokens::scan::is_word` meets its contract.
+-- `scanning::scan::is_word` meets its contract.
 -- Assumes nothing.
 use borrow.Author.Needs.{needs}
 use Rattle.scanning.proofs.scan.is_word.Statement.{statement}

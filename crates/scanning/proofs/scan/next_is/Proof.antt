@@ -1,4 +1,4 @@
--- `tokens::scan::next_is` meets its contract.
+-- `scanning::scan::next_is` meets its contract.
 -- Assumes nothing.
 use borrow.Author.Needs.{needs}
 use Rattle.scanning.proofs.scan.next_is.Statement.{statement}

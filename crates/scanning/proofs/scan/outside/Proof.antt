@@ -1,4 +1,4 @@
--- `tokens::scan::outside` meets its contract.
+-- `scanning::scan::outside` meets its contract.
 -- Assumes nothing.
 use borrow.Author.Needs.{needs}
 use Rattle.scanning.proofs.scan.outside.Statement.{statement}

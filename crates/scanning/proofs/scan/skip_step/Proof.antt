@@ -1,4 +1,4 @@
--- `tokens::scan::skip_step` meets its contract.
+-- `scanning::scan::skip_step` meets its contract.
 -- Assumes nothing.
 use borrow.Author.Needs.{needs}
 use Rattle.scanning.proofs.scan.skip_step.Statement.{statement}

@@ -1,4 +1,4 @@
--- `tokens::token::closing` meets its contract.
+-- `tokens::cut::closing` meets its contract.
 -- Assumes nothing.
 use borrow.Author.Needs.{needs}
 use Rattle.tokens.proofs.cut.closing.Statement.{statement}

@@ -1,4 +1,4 @@
--- `tokens::token::cut` meets its contract.
+-- `tokens::cut::cut` meets its contract.
 -- Assumes nothing.
 use borrow.Author.Needs.{needs}
 use Rattle.tokens.proofs.cut.cut.Statement.{statement}

@@ -1,4 +1,4 @@
--- `tokens::token::dots` meets its contract.
+-- `tokens::cut::dots` meets its contract.
 -- Assumes nothing.
 use borrow.Author.Needs.{needs}
 use Rattle.tokens.proofs.cut.dots.Statement.{statement}

@@ -1,4 +1,4 @@
--- `tokens::token::next_token` meets its contract.
+-- `tokens::cut::next_token` meets its contract.
 -- Assumes nothing.
 use borrow.Author.Needs.{needs}
 use Rattle.tokens.proofs.cut.next_token.Statement.{statement}

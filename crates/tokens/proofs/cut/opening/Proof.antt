@@ -1,4 +1,4 @@
--- `tokens::token::opening` meets its contract.
+-- `tokens::cut::opening` meets its contract.
 -- Assumes nothing.
 use borrow.Author.Needs.{needs}
 use Rattle.tokens.proofs.cut.opening.Statement.{statement}

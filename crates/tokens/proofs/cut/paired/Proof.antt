@@ -1,4 +1,4 @@
--- `tokens::token::paired` meets its contract.
+-- `tokens::cut::paired` meets its contract.
 -- Assumes nothing.
 use borrow.Author.Needs.{needs}
 use Rattle.tokens.proofs.cut.paired.Statement.{statement}

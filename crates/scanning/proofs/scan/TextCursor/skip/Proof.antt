@@ -1,4 +1,4 @@
--- `tokens::scan::Cursor::skip` meets its contract.
+-- `scanning::scan::TextCursor::skip` meets its contract.
 -- Assumes nothing.
 use Rattle.scanning.proofs.scan.TextCursor.skip.Statement.{statement}
 use Rattle.scanning.proofs.scan.TextCursor.skip.Tie as tie

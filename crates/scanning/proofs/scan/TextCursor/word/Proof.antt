@@ -1,4 +1,4 @@
--- `tokens::scan::Cursor::word` meets its contract.
+-- `scanning::scan::TextCursor::word` meets its contract.
 -- Assumes nothing.
 use Rattle.scanning.proofs.scan.TextCursor.word.Statement.{statement}
 use Rattle.scanning.proofs.scan.TextCursor.word.Tie as tie
