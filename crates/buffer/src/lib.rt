@@ -33,7 +33,7 @@ fn fits(end: usize, from: usize, by: usize, size: usize) -> bool
 
 // Bytes that move up move from the last one down, so that none is overwritten before it has moved. With a distance that is a
 // literal the compiler makes wide moves of the loop.
-pub fn move_up_1(out: &mut [u8], from: usize, size: usize)
+fn move_up_1(out: &mut [u8], from: usize, size: usize)
     ensures { λ _. ⌜ now (out .exit) ≡ movedUp (now (out .entry)) from 1 size ⌝ }
 {
     if !fits(out.len(), from, 1, size) {
@@ -47,7 +47,7 @@ pub fn move_up_1(out: &mut [u8], from: usize, size: usize)
     }
 }
 
-pub fn move_up_2(out: &mut [u8], from: usize, size: usize)
+fn move_up_2(out: &mut [u8], from: usize, size: usize)
     ensures { λ _. ⌜ now (out .exit) ≡ movedUp (now (out .entry)) from 2 size ⌝ }
 {
     if !fits(out.len(), from, 2, size) {
@@ -61,7 +61,7 @@ pub fn move_up_2(out: &mut [u8], from: usize, size: usize)
     }
 }
 
-pub fn move_up_4(out: &mut [u8], from: usize, size: usize)
+fn move_up_4(out: &mut [u8], from: usize, size: usize)
     ensures { λ _. ⌜ now (out .exit) ≡ movedUp (now (out .entry)) from 4 size ⌝ }
 {
     if !fits(out.len(), from, 4, size) {
@@ -75,7 +75,7 @@ pub fn move_up_4(out: &mut [u8], from: usize, size: usize)
     }
 }
 
-pub fn move_up_8(out: &mut [u8], from: usize, size: usize)
+fn move_up_8(out: &mut [u8], from: usize, size: usize)
     ensures { λ _. ⌜ now (out .exit) ≡ movedUp (now (out .entry)) from 8 size ⌝ }
 {
     if !fits(out.len(), from, 8, size) {
@@ -105,7 +105,7 @@ fn move_far(out: &mut [u8], from: usize, by: usize, size: usize)
 }
 
 // Moves bytes up by any distance.
-pub fn move_up(out: &mut [u8], from: usize, by: usize, size: usize)
+fn move_up(out: &mut [u8], from: usize, by: usize, size: usize)
     ensures { λ _. ⌜ now (out .exit) ≡ movedUp (now (out .entry)) from by size ⌝ }
 {
     match by {
@@ -119,7 +119,7 @@ pub fn move_up(out: &mut [u8], from: usize, by: usize, size: usize)
 }
 
 // Moves the bytes that stand `by` places above `to` down to it, from the first one up.
-pub fn move_down(out: &mut [u8], to: usize, by: usize, size: usize)
+fn move_down(out: &mut [u8], to: usize, by: usize, size: usize)
     ensures { λ _. ⌜ now (out .exit) ≡ movedDown (now (out .entry)) to by size ⌝ }
 {
     if !fits(out.len(), to, by, size) {

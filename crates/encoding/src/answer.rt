@@ -46,7 +46,7 @@ pub fn closed(next: usize, size: usize, count: usize, note: u8) -> ReadAnswer
 }
 
 // The number of the refusal of a token that may not stand where it does, or of what is no token.
-pub fn stray_number(levels: usize, code: u8, mark: u8) -> u8
+pub(crate) fn stray_number(levels: usize, code: u8, mark: u8) -> u8
     ensures { λ r. ⌜ r ≡ strayBy levels code mark ⌝ }
 {
     if code == 0 {

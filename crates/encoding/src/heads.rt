@@ -6,7 +6,7 @@ ghost use mathlib.Core.Path.{_≡_};
 ghost use Rattle.encoding.specs.ReadAnswers.{Informed, initialBy, MajorBy, HeadSize, Leafed};
 
 // The additional information of a head, by the number of its width or size; 0: the shortest.
-pub fn info_by(width: u8, n: u64) -> u8
+pub(crate) fn info_by(width: u8, n: u64) -> u8
     ensures { λ r. ⌜ Informed width n r ⌝ }
 {
     match width {

@@ -85,7 +85,7 @@ fn wide(b: u8) -> u64
 }
 
 // The number that bytes make, `size` of them from a place on, high byte first.
-pub fn read_number(bytes: &[u8], from: usize, size: usize) -> u64
+fn read_number(bytes: &[u8], from: usize, size: usize) -> u64
     requires { ⌜ Inside (now bytes) from size ⌝ }
     ensures { λ r. ⌜ r ≡ valueFrom 0 (take size (drop from (now (bytes .entry)))) ⌝ }
 {
@@ -164,7 +164,7 @@ pub fn shortest_info(n: u64) -> u8
 }
 
 // Writes a number in `size` bytes from a place on, high byte first, if they fit.
-pub fn write_number(out: &mut [u8], from: usize, size: usize, n: u64)
+fn write_number(out: &mut [u8], from: usize, size: usize, n: u64)
     ensures { λ _. ⌜ now (out .exit) ≡ overIfFits (now (out .entry)) from (bigEndian size n) ⌝ }
 {
     if out.len() < size {

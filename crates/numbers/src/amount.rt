@@ -21,7 +21,7 @@ pub struct Digits {
 }
 
 // The value of a digit, hexadecimal ones in either case; 99: no digit.
-pub fn digit_value(b: u8) -> u64
+pub(crate) fn digit_value(b: u8) -> u64
     ensures { λ r. ⌜ r ≡ digitValue b ⌝ }
 {
     hex_value(b) as u64
@@ -123,7 +123,7 @@ fn makes_float(radix: u64, b: u8) -> bool
 }
 
 // Whether what stands at a place makes a float of the digits before it.
-pub fn floats(text: &[u8], at: usize, radix: u64) -> bool
+pub(crate) fn floats(text: &[u8], at: usize, radix: u64) -> bool
     ensures { λ r. ⌜ r ≡ floatAt radix (drop at (marked (now (text .entry)))) ⌝ }
 {
     if text.len() <= at {

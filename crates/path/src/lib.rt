@@ -15,7 +15,7 @@ pub struct Cursor {
 }
 
 // Where a step leads.
-pub enum Destination {
+enum Destination {
     To(Cursor),
     Nowhere,
 }
@@ -27,7 +27,7 @@ pub enum Trace {
 }
 
 // How far the elements behind a head go.
-pub fn until_of(info: u8, argument: u64) -> Extent
+fn until_of(info: u8, argument: u64) -> Extent
     ensures { λ r. ⌜ untilOf r ≡ extentBy info argument ⌝ }
 {
     if info == 31 {
@@ -38,7 +38,7 @@ pub fn until_of(info: u8, argument: u64) -> Extent
 
 impl Cursor {
     // Past one element of an array, or one entry of a map.
-    pub fn past(self, bytes: &[u8], major: u8) -> Destination
+    fn past(self, bytes: &[u8], major: u8) -> Destination
         ensures { λ r. ⌜ ReachedAt (now (bytes .entry)) r (pastOne major (drop (self .at) (now (bytes .entry)))) ⌝ }
     {
         let at = self.at;
@@ -53,7 +53,7 @@ impl Cursor {
     }
 
     // To the element, or the entry, number `k`, where they begin at the cursor.
-    pub fn nth(self, bytes: &[u8], until: Extent, major: u8, k: u16) -> Destination
+    fn nth(self, bytes: &[u8], until: Extent, major: u8, k: u16) -> Destination
         requires { ⌜ Within (now bytes) (self .at) ⌝ }
         ensures { λ r. ⌜ ReachedAt (now (bytes .entry)) r (nthFrom major k (untilOf until) (drop (self .at) (now (bytes .entry)))) ⌝ }
     {
@@ -84,7 +84,7 @@ impl Cursor {
     }
 
     // Into the item at the cursor: to the element of an array, or the value of a map's entry, number `k`.
-    pub fn into(self, bytes: &[u8], k: u16) -> Destination
+    fn into(self, bytes: &[u8], k: u16) -> Destination
         ensures { λ r. ⌜ ReachedAt (now (bytes .entry)) r (childIn k (drop (self .at) (now (bytes .entry)))) ⌝ }
     {
         let read = head::read_head(bytes, self.at);

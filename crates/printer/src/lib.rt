@@ -135,7 +135,7 @@ fn chunk(bytes: &[u8], at: usize, text: bool, out: &mut [u8], pos: usize) -> Pri
 // THE CYCLE
 
 // The item at a place, with levels left.
-pub fn print_item(bytes: &[u8], at: usize, levels: usize, out: &mut [u8], pos: usize) -> Printed
+fn print_item(bytes: &[u8], at: usize, levels: usize, out: &mut [u8], pos: usize) -> Printed
     ensures { λ r. ⌜ PrintTold (now (bytes .entry)) (at + 1) (now (out .entry)) (now (out .exit)) pos r (mapped printItem (item levels (drop at (now (bytes .entry))))) ⌝ }
 {
     let read = head::read_head(bytes, at);

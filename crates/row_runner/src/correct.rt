@@ -119,7 +119,7 @@ fn with_text(line: &[u8], edit: bool, path: &[u16], by: &[u8]) -> bool {
 }
 
 // A row that corrects bytes, or edits a text: the path and the new text of two fields are read first.
-pub fn with_path(line: &[u8], edit: bool, at: &[u8], by: &[u8]) -> bool {
+pub(crate) fn with_path(line: &[u8], edit: bool, at: &[u8], by: &[u8]) -> bool {
     let mut space = [0u16; 64];
     let n = path(at, &mut space);
     n < FAILED && with_text(line, edit, steps(&space, n), by)

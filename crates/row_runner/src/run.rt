@@ -28,7 +28,7 @@ use rows::fill::fill;
 use rows::fill::path;
 
 // A text is read, or bytes are printed.
-pub fn ask(printing: bool, input: &[u8], out: &mut [u8]) -> Reply {
+pub(crate) fn ask(printing: bool, input: &[u8], out: &mut [u8]) -> Reply {
     if printing {
         return told(print(input, out));
     }
@@ -47,7 +47,7 @@ fn short(printing: bool, input: &[u8], n: usize, out: &mut [u8]) -> bool {
 }
 
 // The result is some bytes.
-pub fn gives(printing: bool, input: &[u8], want: &[u8]) -> bool {
+pub(crate) fn gives(printing: bool, input: &[u8], want: &[u8]) -> bool {
     let mut out = lent();
     wrote(ask(printing, input, &mut out), &out, want)
 }
@@ -192,7 +192,7 @@ fn run_row(kind: u64, line: &[u8], expected: &[u8]) -> bool {
 }
 
 // A row that no kind has is wrong.
-pub fn run(line: &[u8]) -> bool {
+pub(crate) fn run(line: &[u8]) -> bool {
     let kind = word(field(line, 0));
     let n = pieces(line, b'\t');
     let expected = field(line, n - 1);

@@ -20,7 +20,7 @@ ghost use Rattle.notation.specs.Reading.{marked};
 ghost use Rattle.encoding.specs.ReadAnswers.{chunkRead, chunkedRead, kindFor, noteBy, Filled, Opened, Strings, Light, LiteralTold, ReadTold, Stringed, ChunksTold, ofItem, ofChunk};
 
 // The note of a string, by the code of its literals.
-pub fn note_by(code: u8, n: usize) -> usize
+fn note_by(code: u8, n: usize) -> usize
     requires { ⌜ Light n ⌝ }
     ensures { λ r. ⌜ r ≡ noteBy code n ⌝ }
 {
@@ -31,7 +31,7 @@ pub fn note_by(code: u8, n: usize) -> usize
 }
 
 // What a literal holds.
-pub fn fill(text: &[u8], t: Token, buf: &mut [u8], pos: usize)
+fn fill(text: &[u8], t: Token, buf: &mut [u8], pos: usize)
     ensures { λ _. ⌜ Filled (now (text .entry)) t (now (buf .entry)) (now (buf .exit)) pos ⌝ }
 {
     let form = t.form;
@@ -44,7 +44,7 @@ pub fn fill(text: &[u8], t: Token, buf: &mut [u8], pos: usize)
 }
 
 // A literal's head and what it holds.
-pub fn string(text: &[u8], t: Token, buf: &mut [u8], pos: usize) -> usize
+fn string(text: &[u8], t: Token, buf: &mut [u8], pos: usize) -> usize
     requires { ⌜ Light (pos + t .number) ⌝ }
     ensures { λ r. ⌜ Stringed (now (text .entry)) t (now (buf .entry)) (now (buf .exit)) pos r ⌝ }
 {
@@ -74,7 +74,7 @@ pub fn literal(text: &[u8], t: Token, buf: &mut [u8], pos: usize) -> ReadAnswer
 }
 
 // A chunk of a kind, by the code of its literals.
-pub fn chunk(
+fn chunk(
     text: &[u8],
     at: usize,
     kind: u8,
@@ -104,7 +104,7 @@ pub fn chunk(
 }
 
 // The chunks of a string up to its parenthesis.
-pub fn chunks(
+fn chunks(
     text: &[u8],
     from: usize,
     kind: u8,

@@ -95,7 +95,7 @@ fn quoted_token(form: u8, size: usize, start: usize, place: usize, m: Mark) -> T
     literal(form, mark, size, start, 0, place, next)
 }
 
-pub fn quoted(text: &[u8], place: usize, form: u8) -> Token
+pub(crate) fn quoted(text: &[u8], place: usize, form: u8) -> Token
     requires { ⌜ QuotedAt (now text) place form ⌝ }
     ensures { λ r. ⌜ Says (now (text .entry)) place r (quoted (quoteKind form) (quoteByte form) (drop (place + 1) (marked (now (text .entry))))) ⌝ }
 {
@@ -151,7 +151,7 @@ fn prefixed(text: &[u8], place: usize, end: usize) -> Token
 }
 
 // A word: a simple value, or the prefix of a literal.
-pub fn word(text: &[u8], place: usize) -> Token
+pub(crate) fn word(text: &[u8], place: usize) -> Token
     requires { ⌜ place < length (now text) ⌝ }
     ensures { λ r. ⌜ Says (now (text .entry)) place r (word (getD (now (text .entry)) place 0) (drop (place + 1) (marked (now (text .entry))))) ⌝ }
 {

@@ -3,7 +3,7 @@ ghost use mathlib.Core.Path.{_≡_};
 ghost use Rattle.typed_array.specs.TypedArrayAnswers.{mayTagBy, ElementSize};
 
 // The size of the elements (section 2.1).
-pub fn element_size(number: u64) -> usize
+fn element_size(number: u64) -> usize
     ensures { λ r. ⌜ ElementSize number r ⌝ }
 {
     let power = number / 16 % 2 + number % 4;
