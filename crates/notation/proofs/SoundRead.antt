@@ -16,7 +16,7 @@ use Rattle.cbor.proofs.Utf8Text.{Text, text-of, text-marked}
 use Rattle.notation.specs.Tokens.{Token, whole}
 use Rattle.notation.specs.Cutting.{next, place}
 use Rattle.notation.specs.Form.{atStart, one, items, stray}
-use Rattle.notation.specs.Theorems.{TextValid}
+use Rattle.notation.specs.Theorems.{TextValid, ItemValid}
 use Rattle.notation.specs.Reading.{marked, checked, sequence, readText, outside, alone, single, readItem}
 use Rattle.notation.proofs.TextScan.{tested, Leaves, leaves-bind}
 use Rattle.notation.proofs.SoundForm.{Sound, Reads, reads-sound}
@@ -81,5 +81,5 @@ module _ (d : ℕ) where
   unfolding readItem
   item-accepts s = checked-accepts OneSound s _ (λ l f. verdict-accepts OneSound (length s) _ (single-sound s l f))
 
-  pub item-valid : (s : List ℕ) (x : Item) → readItem d s ≡ accepted x → Valid x × (levels x ≤ d)
-  item-valid s x e = rw e at (item-accepts s)
+pub item-valid : ItemValid
+item-valid d s x e = rw e at (item-accepts d s)
