@@ -20,7 +20,7 @@ use Rattle.notation.specs.Scanning.{isComment, skipped, leftIn, skipFrom
 use Rattle.notation.specs.Indicators.{indicated, indicator, choose}
 use Rattle.notation.specs.Numbers.{digitValue, isDigit, numberFrom, digits, makesFloat, isFloating, radixOf, judged, integerToken, integer, otherInteger, decimal, based, afterZero, number}
 use Rattle.notation.specs.Quoted.{utf8Of, escapes, escapedIn, wholeUnit, unit, moveAt, unquote}
-use Rattle.notation.specs.Literals.{literalToken, quotedToken, quoted, isBody, body, after, halfEnd, hexDigit, hexFrom, hexContent, sextet, sextets, lastTwo, lastThree, lastFour, fullFour, base64From, base64Content, contained, encodedLiteral}
+use Rattle.notation.specs.Literals.{literalToken, quotedToken, quoted, isBody, body, after, halfEnd, hexDigit, hexFrom, hexContent, sextetAt, sextets, valued, lastTwo, lastThree, isPadding, lastFour, fullFour, base64From, base64Content, contained, encodedLiteral}
 use Rattle.notation.specs.Words.{same, isFloatWord, isPlainDecimal, simpleBy, simpleToken, value, worded, prefixed, word}
 use Rattle.notation.specs.Cutting.{startsWith, afterMinus, openingToken, cutBy, cut, place, placed, next}
 use Rattle.notation.specs.Form.{then, strayIndicator, strayClosing, stray, strays, shapeNumber, closingRule, widthRule, contains, embeds, tagRule, afterTag, inside, literalItem, beginning, oneRule, addItem, afterItem, itemsRule, afterValue, afterKey, pairsRule, addChunk, afterChunk, isWanted, chunkRule, chunksRule, rules, obey, readsWithin, reads as readsBy}
@@ -361,5 +361,5 @@ pub examples : List Example
 examples = numbers ++ indicators ++ words ++ literals ++ quotes ++ comments ++ form ++ oneItem ++ printed ++ places
 
 pub examples-hold : L.map (λ (e : Example). answer (e .question)) examples ≡ L.map (λ (e : Example). e .expected) examples
-unfolding examples numbers indicators words literals quotes comments form oneItem printed reads refuses readsItem refusesItem stands lacks places spanned prints answer bytesOf bytesOfItem printedOf bind verdictOf argumentBytes limit fits shortest information bigEndian valueFrom count count₂ levels majorNumber majorOf initial head informationOf isFloat isAllowed isIndefinite taking started argued headBy nextHead encodeString openingHead closingBreak enclosed encodeChunks encode isIn rows followIn follow areIn sequenceBy firstBadFrom firstBad isUtf8 elementSize chunksLength divides isTypedArray mayTag isText isSimple stepAt severalBy severalWithin several contentAt chunkBy bytesChunk entryAt extent tagged elements entries bytesChunks itemBy itemWith item decode classNumber classRows classIn classOf is isWord isComment skipped leftIn skipFrom skip run whether expect indicated indicator choose digitValue isDigit numberFrom digits makesFloat isFloating radixOf judged integerToken integer otherInteger decimal based afterZero number utf8Of escapes escapedIn wholeUnit unit moveAt unquote literalToken quotedToken quoted isBody body after halfEnd hexDigit hexFrom hexContent sextet sextets lastTwo lastThree lastFour fullFour base64From base64Content contained encodedLiteral same isFloatWord isPlainDecimal simpleBy simpleToken value worded prefixed word startsWith afterMinus openingToken cutBy cut place placed next then strayIndicator strayClosing stray strays shapeNumber closingRule widthRule contains embeds tagRule afterTag inside literalItem beginning oneRule addItem afterItem itemsRule afterValue afterKey pairsRule addChunk afterChunk isWanted chunkRule chunksRule rules obey readsWithin readsBy marked checked sequence readText outside alone single readItem decimalWithin decimalOf hexDigitOf hexByteOf hexOf escapeOf escapedOf widthName indicatorOf printString printChunks printChunked blankBehind sizeOf printSimple printInt printItem printText separated past toElement toValue into toward levelsAt around spanOf spanAt
+unfolding examples numbers indicators words literals quotes comments form oneItem printed reads refuses readsItem refusesItem stands lacks places spanned prints answer bytesOf bytesOfItem printedOf bind verdictOf argumentBytes limit fits shortest information bigEndian valueFrom count count₂ levels majorNumber majorOf initial head informationOf isFloat isAllowed isIndefinite taking started argued headBy nextHead encodeString openingHead closingBreak enclosed encodeChunks encode isIn rows followIn follow areIn sequenceBy firstBadFrom firstBad isUtf8 elementSize chunksLength divides isTypedArray mayTag isText isSimple stepAt severalBy severalWithin several contentAt chunkBy bytesChunk entryAt extent tagged elements entries bytesChunks itemBy itemWith item decode classNumber classRows classIn classOf is isWord isComment skipped leftIn skipFrom skip run whether expect indicated indicator choose digitValue isDigit numberFrom digits makesFloat isFloating radixOf judged integerToken integer otherInteger decimal based afterZero number utf8Of escapes escapedIn wholeUnit unit moveAt unquote literalToken quotedToken quoted isBody body after halfEnd hexDigit hexFrom hexContent sextetAt sextets valued lastTwo lastThree isPadding lastFour fullFour base64From base64Content contained encodedLiteral same isFloatWord isPlainDecimal simpleBy simpleToken value worded prefixed word startsWith afterMinus openingToken cutBy cut place placed next then strayIndicator strayClosing stray strays shapeNumber closingRule widthRule contains embeds tagRule afterTag inside literalItem beginning oneRule addItem afterItem itemsRule afterValue afterKey pairsRule addChunk afterChunk isWanted chunkRule chunksRule rules obey readsWithin readsBy marked checked sequence readText outside alone single readItem decimalWithin decimalOf hexDigitOf hexByteOf hexOf escapeOf escapedOf widthName indicatorOf printString printChunks printChunked blankBehind sizeOf printSimple printInt printItem printText separated past toElement toValue into toward levelsAt around spanOf spanAt
 examples-hold = refl
