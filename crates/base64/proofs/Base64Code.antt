@@ -13,10 +13,11 @@ use Rattle.memory.specs.Buffer.{over}
 use Rattle.cbor.proofs.Table.{every, between, byte}
 use Rattle.cbor.proofs.Utf8Laws.{both-true}
 use Rattle.notation.specs.Classes.{blank, is}
-use Rattle.notation.specs.Literals.{Content, standsFor, bad, after, sextet, sextets, lastTwo, lastThree, lastFour, fullFour, base64From, base64Content}
+use Rattle.notation.specs.Literals.{Content, standsFor, bad, after, Sextet, sextet, padding, nonAlphabet, sextetAt, sextets, valued, lastTwo, lastThree, isPadding, lastFour, fullFour, base64From, base64Content}
 use Rattle.literal_body.specs.LiteralAnswers.{decodedBy, Decodes, Put, Fills}
-use Rattle.base64.specs.Base64Answers.{sign, lettered, Letter, waits, waitingOf, Pushed, allSextets, firstByte, secondOf, thirdOf, base64Bytes, flowing, Steps, fullSize, lastTwoSize, lastThreeSize, lastFourSize, Last}
+use Rattle.base64.specs.Base64Answers.{sextetNumber, sextetOf, sign, lettered, Letter, waits, waitingOf, Pushed, allSextets, firstByte, secondOf, thirdOf, base64Bytes, flowing, Steps, fullSize, lastTwoSize, lastThreeSize, lastFourSize, Last}
 use Rattle.base64.specs.declared.Group.{Group}
+use Rattle.notation.proofs.SoundContent.{Fits, sextet-fits}
 use Rattle.literal_body.proofs.LiteralCode.{take-none, front-part, part-end, put-none, put-more, after-nil, after-after, decodes, content-is}
 
 -- LETTERS
@@ -52,82 +53,88 @@ module _ {b : ℕ} where
 pub ruleset sign-ways = (sign-plus, sign-minus, sign-slash, sign-underscore, sign-equals, sign-none)
 
 -- between two bounds
-a-sign : {b r : ℕ} (lo hi : ℕ) → lo ≤ b → b < hi → T (every (λ k x. eqb (sign k) (sextet k)) lo (replicate (hi - lo) 0)) → r ≡ sign b → r ≡ sextet b
-a-sign {b} lo hi p q t e = e ∙ eqb→eq (sign b) (sextet b) (between (λ k. eqb (sign k) (sextet k)) lo hi t b p q)
+a-sign : {b r : ℕ} (lo hi : ℕ) → lo ≤ b → b < hi → T (every (λ k x. eqb (sign k) (sextetNumber (sextetAt k))) lo (replicate (hi - lo) 0)) → r ≡ sign b → r ≡ sextetNumber (sextetAt b)
+a-sign {b} lo hi p q t e = e ∙ eqb→eq (sign b) (sextetNumber (sextetAt b)) (between (λ k. eqb (sign k) (sextetNumber (sextetAt k))) lo hi t b p q)
 
 module _ {b : ℕ} where
-  pub sextet-below : {r : ℕ} → b < 0x30 → r ≡ sign b → r ≡ sextet b
-  unfolding sign sextet isIn
+  pub sextet-below : {r : ℕ} → b < 0x30 → r ≡ sign b → r ≡ sextetNumber (sextetAt b)
+  unfolding sign sextetAt sextetNumber isIn
   sextet-below h e = a-sign 0 0x30 (omega arith) h tt e
 
-  pub sextet-digit : 0x30 ≤ b → b < 0x3a → b + 4 ≡ sextet b
-  unfolding sextet isIn
-  sextet-digit l h = eqb→eq (b + 4) (sextet b) (between (λ k. eqb (k + 4) (sextet k)) 0x30 0x3a tt b l h)
+  pub sextet-digit : 0x30 ≤ b → b < 0x3a → b + 4 ≡ sextetNumber (sextetAt b)
+  unfolding sextetAt sextetNumber isIn
+  sextet-digit l h = eqb→eq (b + 4) (sextetNumber (sextetAt b)) (between (λ k. eqb (k + 4) (sextetNumber (sextetAt k))) 0x30 0x3a tt b l h)
 
-  pub sextet-between : {r : ℕ} → 0x3a ≤ b → b < 0x41 → r ≡ sign b → r ≡ sextet b
-  unfolding sign sextet isIn
+  pub sextet-between : {r : ℕ} → 0x3a ≤ b → b < 0x41 → r ≡ sign b → r ≡ sextetNumber (sextetAt b)
+  unfolding sign sextetAt sextetNumber isIn
   sextet-between l h e = a-sign 0x3a 0x41 l h tt e
 
-  pub sextet-upper : 0x41 ≤ b → b < 0x5b → b - 0x41 ≡ sextet b
-  unfolding sextet isIn
-  sextet-upper l h = eqb→eq (b - 0x41) (sextet b) (between (λ k. eqb (k - 0x41) (sextet k)) 0x41 0x5b tt b l h)
+  pub sextet-upper : 0x41 ≤ b → b < 0x5b → b - 0x41 ≡ sextetNumber (sextetAt b)
+  unfolding sextetAt sextetNumber isIn
+  sextet-upper l h = eqb→eq (b - 0x41) (sextetNumber (sextetAt b)) (between (λ k. eqb (k - 0x41) (sextetNumber (sextetAt k))) 0x41 0x5b tt b l h)
 
-  pub sextet-beyond : {r : ℕ} → 0x5b ≤ b → b < 0x61 → r ≡ sign b → r ≡ sextet b
-  unfolding sign sextet isIn
+  pub sextet-beyond : {r : ℕ} → 0x5b ≤ b → b < 0x61 → r ≡ sign b → r ≡ sextetNumber (sextetAt b)
+  unfolding sign sextetAt sextetNumber isIn
   sextet-beyond l h e = a-sign 0x5b 0x61 l h tt e
 
-  pub sextet-lower : 0x61 ≤ b → b < 0x7b → b - 0x47 ≡ sextet b
-  unfolding sextet isIn
-  sextet-lower l h = eqb→eq (b - 0x47) (sextet b) (between (λ k. eqb (k - 0x47) (sextet k)) 0x61 0x7b tt b l h)
+  pub sextet-lower : 0x61 ≤ b → b < 0x7b → b - 0x47 ≡ sextetNumber (sextetAt b)
+  unfolding sextetAt sextetNumber isIn
+  sextet-lower l h = eqb→eq (b - 0x47) (sextetNumber (sextetAt b)) (between (λ k. eqb (k - 0x47) (sextetNumber (sextetAt k))) 0x61 0x7b tt b l h)
 
-  pub sextet-above : {r : ℕ} → 0x7b ≤ b → b < 256 → r ≡ sign b → r ≡ sextet b
-  unfolding sign sextet isIn
+  pub sextet-above : {r : ℕ} → 0x7b ≤ b → b < 256 → r ≡ sign b → r ≡ sextetNumber (sextetAt b)
+  unfolding sign sextetAt sextetNumber isIn
   sextet-above l h e = a-sign 0x7b 256 l h tt e
 
 pub ruleset sextet-ways = (sextet-below, sextet-digit, sextet-between, sextet-upper, sextet-beyond, sextet-lower, sextet-above)
 
-sextet-most : (b : ℕ) → b < 256 → sextet b ≤ 65
-unfolding sextet isIn
-sextet-most b h = leb→le (sextet b) 65 (byte (λ k. leb (sextet k) 65) tt b h)
+sextet-most : (b : ℕ) → b < 256 → sextetNumber (sextetAt b) ≤ 65
+unfolding sextetAt sextetNumber isIn
+sextet-most b h = leb→le (sextetNumber (sextetAt b)) 65 (byte (λ k. leb (sextetNumber (sextetAt k)) 65) tt b h)
+
+sextet-back : (x : Sextet) → Fits x → sextetOf (sextetNumber x) ≡ x
+unfolding sextetOf sextetNumber
+sextet-back (sextet v) f = rw (le-leb v 63 f, sextetOf)
+sextet-back padding f = refl
+sextet-back nonAlphabet f = refl
 
 module _ (b : ℕ) {t : Bool} (x : t ≡ is blank b) where
   pub letter-blank : t ≡ true → Letter b 66
   unfolding sextets lettered
   letter-blank e = record { is = λ s. rw (sym x ∙ e, sextets) }
 
-  pub letter-other : {v : ℕ} → b < 256 → t ≡ false → v ≡ sextet b → Letter b v
+  pub letter-other : {v : ℕ} → b < 256 → t ≡ false → v ≡ sextetNumber (sextetAt b) → Letter b v
   unfolding sextets lettered
   letter-other {v} u e d =
       let n : v ≡ 66 → ⊥ = omega (arith, sextet-most b u) in
-      record { is = λ s. (rw (sym x ∙ e, sextets)) ∙ ap (λ (k : ℕ). k ∷ sextets s) (sym d) ∙ sym (rw (ne-eqb v 66 n, lettered)) }
+      record { is = λ s. (rw (sym x ∙ e, sextets)) ∙ ap (λ (k : Sextet). k ∷ sextets s) (sym (ap sextetOf d ∙ sextet-back (sextetAt b) (sextet-fits b))) ∙ sym (rw (ne-eqb v 66 n, lettered)) }
 
 pub ruleset letter-ways = (letter-blank, letter-other)
 
-lettered-on : (x : ℕ) (s : List ℕ) → (x ≡ 66 → ⊥) → lettered x s ≡ x ∷ s
+lettered-on : (x : ℕ) (s : List Sextet) → (x ≡ 66 → ⊥) → lettered x s ≡ sextetOf x ∷ s
 unfolding lettered
 lettered-on x s n = rw (ne-eqb x 66 n, lettered)
 
 -- GROUPS
 
-counted : (g : Group) (n : ℕ) → g .count ≡ n → waitingOf g ≡ waits n (g .a) (g .b) (g .c) (g .d)
+counted : (g : Group) (n : ℕ) → g .count ≡ n → waitingOf g ≡ waits n (sextetOf (g .a)) (sextetOf (g .b)) (sextetOf (g .c)) (sextetOf (g .d))
 unfolding waitingOf
-counted g n e = ap (λ (k : ℕ). waits k (g .a) (g .b) (g .c) (g .d)) e
+counted g n e = ap (λ (k : ℕ). waits k (sextetOf (g .a)) (sextetOf (g .b)) (sextetOf (g .c)) (sextetOf (g .d))) e
 
 module _ (g : Group) (x : ℕ) where
   pub push-first : {r : Group} → g .count ≡ 0 → r ≡ record { count = 1; a = x; b = 0; c = 0; d = 0; flows = 0 } → Pushed g x r
   unfolding waitingOf waits
   push-first e p =
-      subst⁻¹ (Pushed g x) p (record { is = λ h. sym (ap (λ (u : List ℕ). u ++ (x ∷ [])) (counted g 0 e)); count = λ h. omega arith; flows = refl })
+      subst⁻¹ (Pushed g x) p (record { is = λ h. sym (ap (λ (u : List Sextet). u ++ (sextetOf x ∷ [])) (counted g 0 e)); count = λ h. omega arith; flows = refl })
 
   pub push-second : {r : Group} → g .count ≡ 1 → r ≡ record { count = 2; a = g .a; b = x; c = 0; d = 0; flows = 0 } → Pushed g x r
   unfolding waitingOf waits
   push-second e p =
-      subst⁻¹ (Pushed g x) p (record { is = λ h. sym (ap (λ (u : List ℕ). u ++ (x ∷ [])) (counted g 1 e)); count = λ h. omega arith; flows = refl })
+      subst⁻¹ (Pushed g x) p (record { is = λ h. sym (ap (λ (u : List Sextet). u ++ (sextetOf x ∷ [])) (counted g 1 e)); count = λ h. omega arith; flows = refl })
 
   pub push-third : {r : Group} → g .count ≡ 2 → r ≡ record { count = 3; a = g .a; b = g .b; c = x; d = 0; flows = 0 } → Pushed g x r
   unfolding waitingOf waits
   push-third e p =
-      subst⁻¹ (Pushed g x) p (record { is = λ h. sym (ap (λ (u : List ℕ). u ++ (x ∷ [])) (counted g 2 e)); count = λ h. omega arith; flows = refl })
+      subst⁻¹ (Pushed g x) p (record { is = λ h. sym (ap (λ (u : List Sextet). u ++ (sextetOf x ∷ [])) (counted g 2 e)); count = λ h. omega arith; flows = refl })
 
   pub push-fourth : {r : Group} → (g .count ≡ 0 → ⊥) → (g .count ≡ 1 → ⊥) → (g .count ≡ 2 → ⊥)
       → r ≡ record { count = 4; a = g .a; b = g .b; c = g .c; d = x; flows = 0 } → Pushed g x r
@@ -135,7 +142,7 @@ module _ (g : Group) (x : ℕ) where
   push-fourth n₀ n₁ n₂ p =
       subst⁻¹ (Pushed g x) p
       (record {
-        is = λ h. let e : g .count ≡ 3 = omega arith in sym (ap (λ (u : List ℕ). u ++ (x ∷ [])) (counted g 3 e));
+        is = λ h. let e : g .count ≡ 3 = omega arith in sym (ap (λ (u : List Sextet). u ++ (sextetOf x ∷ [])) (counted g 3 e));
         count = λ h. omega arith;
         flows = refl;
       })
@@ -253,10 +260,39 @@ flow-none : (g : Group) (c : Content) → flowing 0 g c ≡ c
 unfolding flowing
 flow-none g c = after-nil c
 
+-- letters by their numbers
+module _ (n : ℕ) (k : ℕ → Content) where
+  valued-is : valued (sextetOf n) k ≡ elim (leb n 63) [ true ↦ k n | false ↦ bad ]
+  unfolding valued sextetOf
+  valued-is = go (leb n 63) (eqb n 64)
+    where
+      go : (t u : Bool) → valued (elim t [ true ↦ sextet n | false ↦ elim u [ true ↦ padding | false ↦ nonAlphabet ] ]) k ≡ elim t [ true ↦ k n | false ↦ bad ]
+      go true u = refl
+      go false true = refl
+      go false false = refl
+
+  valued-and : (t : Bool) (r : Content) → k n ≡ elim t [ true ↦ r | false ↦ bad ] → valued (sextetOf n) k ≡ elim (leb n 63 && t) [ true ↦ r | false ↦ bad ]
+  valued-and t r e = valued-is ∙ go (leb n 63)
+    where
+      go : (u : Bool) → _≡_ {A = Content} (elim u [ true ↦ k n | false ↦ bad ]) (elim (u && t) [ true ↦ r | false ↦ bad ])
+      go true = e
+      go false = refl
+
+padding-is : (n : ℕ) → isPadding (sextetOf n) ≡ eqb n 64
+unfolding isPadding sextetOf
+padding-is n = go (leb n 63) refl (eqb n 64) refl
+  where
+    go : (t : Bool) → leb n 63 ≡ t → (u : Bool) → eqb n 64 ≡ u → isPadding (elim t [ true ↦ sextet n | false ↦ elim u [ true ↦ padding | false ↦ nonAlphabet ] ]) ≡ u
+    go true e u f = sym (ne-eqb n 64 (λ z. omega (arith, leb-true n 63 e))) ∙ f
+    go false e true f = refl
+    go false e false f = refl
+
 -- four letters with what follows
-full-is : (g : Group) (k : Content) → fullFour (g .a) (g .b) (g .c) (g .d) k ≡ flowing (fullSize g) g k
+full-is : (g : Group) (k : Content) → fullFour (sextetOf (g .a)) (sextetOf (g .b)) (sextetOf (g .c)) (sextetOf (g .d)) k ≡ flowing (fullSize g) g k
 unfolding fullFour fullSize allSextets flowing base64Bytes firstByte secondOf thirdOf
-full-is g k = go (leb (g .a) 63 && (leb (g .b) 63 && (leb (g .c) 63 && leb (g .d) 63))) refl
+full-is g k =
+    valued-and (g .a) _ _ _ (valued-and (g .b) _ _ _ (valued-and (g .c) _ _ _ (valued-is (g .d) _)))
+    ∙ go (leb (g .a) 63 && (leb (g .b) 63 && (leb (g .c) 63 && leb (g .d) 63))) refl
   where
     go : (t : Bool) → leb (g .a) 63 && (leb (g .b) 63 && (leb (g .c) 63 && leb (g .d) 63)) ≡ t
         → _≡_ {A = Content} (elim t [ true ↦ after ((g .a * 4 + g .b / 16) ∷ (g .b % 16 * 16 + g .c / 4) ∷ (g .c % 4 * 64 + g .d) ∷ []) k | false ↦ bad ])
@@ -275,9 +311,9 @@ full-is g k = go (leb (g .a) 63 && (leb (g .b) 63 && (leb (g .c) 63 && leb (g .d
         let e₃ : g .c % 4 * 64 + g .d ≡ thirdOf g = omega arith in
         λ j. after (e₁ j ∷ e₂ j ∷ e₃ j ∷ []) k
 
-two-is : (g : Group) → lastTwo (g .a) (g .b) ≡ flowing (lastTwoSize (g .a) (g .b)) g (standsFor [])
+two-is : (g : Group) → lastTwo (sextetOf (g .a)) (sextetOf (g .b)) ≡ flowing (lastTwoSize (g .a) (g .b)) g (standsFor [])
 unfolding lastTwo lastTwoSize flowing base64Bytes firstByte after
-two-is g = go (leb (g .a) 63 && (leb (g .b) 63 && eqb (g .b % 16) 0)) refl
+two-is g = valued-and (g .a) _ _ _ (valued-and (g .b) _ _ _ refl) ∙ go (leb (g .a) 63 && (leb (g .b) 63 && eqb (g .b % 16) 0)) refl
   where
     go : (t : Bool) → leb (g .a) 63 && (leb (g .b) 63 && eqb (g .b % 16) 0) ≡ t
         → _≡_ {A = Content} (elim t [ true ↦ standsFor ((g .a * 4 + g .b / 16) ∷ []) | false ↦ bad ]) (flowing (elim t [ true ↦ 1 | false ↦ 4 ]) g (standsFor []))
@@ -290,9 +326,9 @@ two-is g = go (leb (g .a) 63 && (leb (g .b) 63 && eqb (g .b % 16) 0)) refl
         let e₁ : g .a * 4 + g .b / 16 ≡ firstByte g = omega arith in
         λ j. standsFor (e₁ j ∷ [])
 
-three-is : (g : Group) → lastThree (g .a) (g .b) (g .c) ≡ flowing (lastThreeSize (g .a) (g .b) (g .c)) g (standsFor [])
+three-is : (g : Group) → lastThree (sextetOf (g .a)) (sextetOf (g .b)) (sextetOf (g .c)) ≡ flowing (lastThreeSize (g .a) (g .b) (g .c)) g (standsFor [])
 unfolding lastThree lastThreeSize flowing base64Bytes firstByte secondOf after
-three-is g = go (leb (g .a) 63 && (leb (g .b) 63 && (leb (g .c) 63 && eqb (g .c % 4) 0))) refl
+three-is g = valued-and (g .a) _ _ _ (valued-and (g .b) _ _ _ (valued-and (g .c) _ _ _ refl)) ∙ go (leb (g .a) 63 && (leb (g .b) 63 && (leb (g .c) 63 && eqb (g .c % 4) 0))) refl
   where
     go : (t : Bool) → leb (g .a) 63 && (leb (g .b) 63 && (leb (g .c) 63 && eqb (g .c % 4) 0)) ≡ t
         → _≡_ {A = Content} (elim t [ true ↦ standsFor ((g .a * 4 + g .b / 16) ∷ (g .b % 16 * 16 + g .c / 4) ∷ []) | false ↦ bad ])
@@ -309,13 +345,18 @@ three-is g = go (leb (g .a) 63 && (leb (g .b) 63 && (leb (g .c) 63 && eqb (g .c 
         let e₂ : g .b % 16 * 16 + g .c / 4 ≡ secondOf g = omega arith in
         λ j. standsFor (e₁ j ∷ e₂ j ∷ [])
 
-four-is : (g : Group) → base64From (g .a ∷ g .b ∷ g .c ∷ g .d ∷ []) ≡ flowing (lastFourSize g) g (standsFor [])
+four-is : (g : Group) → base64From (sextetOf (g .a) ∷ sextetOf (g .b) ∷ sextetOf (g .c) ∷ sextetOf (g .d) ∷ []) ≡ flowing (lastFourSize g) g (standsFor [])
 unfolding base64From lastFour lastFourSize
-four-is g = go (eqb (g .d) 64) (eqb (g .c) 64)
+four-is g = (λ j. ends (padding-is (g .d) j) (padding-is (g .c) j)) ∙ go (eqb (g .d) 64) (eqb (g .c) 64)
   where
-    go : (t u : Bool) → _≡_ {A = Content}
-        (elim t [ true ↦ elim u [ true ↦ lastTwo (g .a) (g .b) | false ↦ lastThree (g .a) (g .b) (g .c) ] | false ↦ fullFour (g .a) (g .b) (g .c) (g .d) (standsFor []) ])
-        (flowing (elim t [ true ↦ elim u [ true ↦ lastTwoSize (g .a) (g .b) | false ↦ lastThreeSize (g .a) (g .b) (g .c) ] | false ↦ fullSize g ]) g (standsFor []))
+    ends : Bool → Bool → Content
+    ends t u =
+        elim t [
+          | true ↦ elim u [ true ↦ lastTwo (sextetOf (g .a)) (sextetOf (g .b)) | false ↦ lastThree (sextetOf (g .a)) (sextetOf (g .b)) (sextetOf (g .c)) ]
+          | false ↦ fullFour (sextetOf (g .a)) (sextetOf (g .b)) (sextetOf (g .c)) (sextetOf (g .d)) (standsFor [])
+        ]
+
+    go : (t u : Bool) → ends t u ≡ flowing (elim t [ true ↦ elim u [ true ↦ lastTwoSize (g .a) (g .b) | false ↦ lastThreeSize (g .a) (g .b) (g .c) ] | false ↦ fullSize g ]) g (standsFor [])
     go true true = two-is g
     go true false = three-is g
     go false u = full-is g (standsFor [])
@@ -343,7 +384,7 @@ four-most g =
     (picked (λ (k : ℕ). k ≤ 4) (eqb (g .c) 64) _ _ (two-most (g .a) (g .b)) (three-most (g .a) (g .b) (g .c))) (full-most g)
 
 module _ (g : Group) where
-  last-by : (n : ℕ) → g .count ≡ n → base64From (waitingOf g) ≡ base64From (waits n (g .a) (g .b) (g .c) (g .d))
+  last-by : (n : ℕ) → g .count ≡ n → base64From (waitingOf g) ≡ base64From (waits n (sextetOf (g .a)) (sextetOf (g .b)) (sextetOf (g .c)) (sextetOf (g .d)))
   last-by n e = ap base64From (counted g n e)
 
   pub last-none : g .count ≡ 0 → Last g 0
@@ -383,22 +424,22 @@ module _ (g : Group) (b : ℕ) {x : ℕ} (y : Letter b x) where
       subst⁻¹ (Steps g b) p
       (record {
         is = λ h s.
-            ap (λ (u : List ℕ). base64From (waitingOf g ++ u)) (y .is s ∙ ap (λ (k : ℕ). lettered k (sextets s)) e) ∙ sym (flow-none g (base64From (waitingOf g ++ sextets s)));
+            ap (λ (u : List Sextet). base64From (waitingOf g ++ u)) (y .is s ∙ ap (λ (k : ℕ). lettered k (sextets s)) e) ∙ sym (flow-none g (base64From (waitingOf g ++ sextets s)));
         most = omega arith;
         count = λ h. h;
         short = λ h k. omega arith;
       })
 
   module _ (n : x ≡ 66 → ⊥) where
-    joined : (s : List ℕ) → base64From (waitingOf g ++ sextets (b ∷ s)) ≡ base64From (waitingOf g ++ (x ∷ sextets s))
-    joined s = ap (λ (u : List ℕ). base64From (waitingOf g ++ u)) (y .is s ∙ lettered-on x (sextets s) n)
+    joined : (s : List ℕ) → base64From (waitingOf g ++ sextets (b ∷ s)) ≡ base64From (waitingOf g ++ (sextetOf x ∷ sextets s))
+    joined s = ap (λ (u : List Sextet). base64From (waitingOf g ++ u)) (y .is s ∙ lettered-on x (sextets s) n)
 
     pub step-push : {r : Group} → g .count < 4 → Pushed g x r → Steps g b r
     step-push {r} h z =
         record {
           is = λ k s.
               joined s
-              ∙ ap base64From (sym (append-assoc (waitingOf g) (x ∷ []) (sextets s)) ∙ ap (λ (u : List ℕ). u ++ sextets s) (sym (z .is h)))
+              ∙ ap base64From (sym (append-assoc (waitingOf g) (sextetOf x ∷ []) (sextets s)) ∙ ap (λ (u : List Sextet). u ++ sextets s) (sym (z .is h)))
               ∙ sym (flow-none g (base64From (waitingOf r ++ sextets s)))
               ∙ ap (λ (m : ℕ). flowing m g (base64From (waitingOf r ++ sextets s))) (sym (z .flows));
           most = omega (arith, z .flows);
@@ -413,9 +454,9 @@ module _ (g : Group) (b : ℕ) {x : ℕ} (y : Letter b x) where
           is = λ k s.
               let e : g .count ≡ 4 = omega arith in
               joined s
-              ∙ ap (λ (u : List ℕ). base64From (u ++ (x ∷ sextets s))) (counted g 4 e)
-              ∙ full-is g (base64From (x ∷ sextets s))
-              ∙ ap (λ (z : ℕ). flowing z g (base64From (x ∷ sextets s))) (sym p);
+              ∙ ap (λ (u : List Sextet). base64From (u ++ (sextetOf x ∷ sextets s))) (counted g 4 e)
+              ∙ full-is g (base64From (sextetOf x ∷ sextets s))
+              ∙ ap (λ (z : ℕ). flowing z g (base64From (sextetOf x ∷ sextets s))) (sym p);
           most = omega (arith, full-most g);
           count = λ k. omega arith;
           short = λ k l. omega arith;
@@ -517,7 +558,7 @@ module _ {s : List ℕ} {at end i stop : ℕ} {g : Group} {done : List ℕ} (inv
         let l′ : min end (length s) ≤ i = omega arith in
         inv .left
         ∙ ap (λ (u : List ℕ). after done (base64From (waitingOf g ++ sextets u))) (part-end s i end l′)
-        ∙ ap (λ (u : List ℕ). after done (base64From u)) (append-nil (waitingOf g))
+        ∙ ap (λ (u : List Sextet). after done (base64From u)) (append-nil (waitingOf g))
         ∙ ap (after done) (x .is (inv .count))
 
     run-none : 3 < n → base64Content (take (end - at) (drop at s)) ≡ bad

@@ -5,33 +5,42 @@ use mathlib.Core.List.{List, [], _∷_, _++_}
 use mathlib.Core.Bool.{Bool, true, false, _&&_, _||_}
 use lib.Dec.{eqb, leb, ltb}
 use lib.ListN.{take}
-use Rattle.notation.specs.Literals.{Content, standsFor, bad, after, sextets, base64From}
+use Rattle.notation.specs.Literals.{Content, standsFor, bad, after, Sextet, sextet, padding, nonAlphabet, sextets, base64From}
 use Rattle.base64.specs.declared.Group.{Group}
 
--- the sextet of what is no letter and no digit
+-- the number of a sextet, and the sextet of a number
+unfoldable pub sextetNumber : Sextet → ℕ
+sextetNumber (sextet v) = v
+sextetNumber padding = 64
+sextetNumber nonAlphabet = 65
+
+unfoldable pub sextetOf : ℕ → Sextet
+sextetOf n = elim (leb n 63) [ true ↦ sextet n | false ↦ elim (eqb n 64) [ true ↦ padding | false ↦ nonAlphabet ] ]
+
+-- the number of what is no letter and no digit
 unfoldable pub sign : ℕ → ℕ
 sign b = elim (eqb b 0x2b || eqb b 0x2d) [ true ↦ 62 | false ↦ elim (eqb b 0x2f || eqb b 0x5f) [ true ↦ 63 | false ↦ elim (eqb b 0x3d) [ true ↦ 64 | false ↦ 65 ] ] ]
 
 -- a letter before others; 66 is a blank
-unfoldable pub lettered : ℕ → List ℕ → List ℕ
-lettered x s = elim (eqb x 66) [ true ↦ s | false ↦ x ∷ s ]
+unfoldable pub lettered : ℕ → List Sextet → List Sextet
+lettered x s = elim (eqb x 66) [ true ↦ s | false ↦ sextetOf x ∷ s ]
 
 pub record Letter (b r : ℕ) : Type 0 where
   pub is : (s : List ℕ) → sextets (b ∷ s) ≡ lettered r (sextets s)
 
 -- the letters that wait
-unfoldable pub waits : ℕ → ℕ → ℕ → ℕ → ℕ → List ℕ
+unfoldable pub waits : ℕ → Sextet → Sextet → Sextet → Sextet → List Sextet
 waits zero a b c d = []
 waits (suc zero) a b c d = a ∷ []
 waits (suc (suc zero)) a b c d = a ∷ b ∷ []
 waits (suc (suc (suc zero))) a b c d = a ∷ b ∷ c ∷ []
 waits (suc (suc (suc (suc k)))) a b c d = a ∷ b ∷ c ∷ d ∷ []
 
-unfoldable pub waitingOf : Group → List ℕ
-waitingOf g = waits (g .count) (g .a) (g .b) (g .c) (g .d)
+unfoldable pub waitingOf : Group → List Sextet
+waitingOf g = waits (g .count) (sextetOf (g .a)) (sextetOf (g .b)) (sextetOf (g .c)) (sextetOf (g .d))
 
 pub record Pushed (g : Group) (x : ℕ) (r : Group) : Type 0 where
-  pub is : g .count < 4 → waitingOf r ≡ waitingOf g ++ (x ∷ [])
+  pub is : g .count < 4 → waitingOf r ≡ waitingOf g ++ (sextetOf x ∷ [])
   pub count : g .count < 4 → r .count ≡ g .count + 1
   pub flows : r .flows ≡ 0
 

@@ -6,9 +6,9 @@ use literal_body::put;
 ghost use mathlib.Core.Path.{_≡_};
 ghost use Prim.Native.Nat.{_-_};
 ghost use lib.ListN.{take, drop};
-ghost use Rattle.notation.specs.Literals.{sextet, base64Content};
+ghost use Rattle.notation.specs.Literals.{sextetAt, base64Content};
 ghost use Rattle.literal_body.specs.LiteralAnswers.{Decodes, Fills, Put};
-ghost use Rattle.base64.specs.Base64Answers.{sign, Letter, Pushed, allSextets, firstByte, secondOf, thirdOf, base64Bytes, Steps, Last, lastTwoSize, lastThreeSize, lastFourSize, fullSize};
+ghost use Rattle.base64.specs.Base64Answers.{sextetNumber, sign, Letter, Pushed, allSextets, firstByte, secondOf, thirdOf, base64Bytes, Steps, Last, lastTwoSize, lastThreeSize, lastFourSize, fullSize};
 
 // Up to four letters that wait for the next one, and how many bytes those before them made; 4: they make none.
 struct Group {
@@ -35,7 +35,7 @@ fn sign_value(b: u8) -> u8
 }
 
 fn sextet_value(b: u8) -> u8
-    ensures { λ r. ⌜ r ≡ sextet b ⌝ }
+    ensures { λ r. ⌜ r ≡ sextetNumber (sextetAt b) ⌝ }
 {
     if b < 0x30 {
         return sign_value(b);

@@ -2,7 +2,7 @@
 -- more than its text; a tag fits its head; and a refusal has a number from 1 to 17.
 -- Assumes nothing.
 use mathlib.Core.Path.{_≡_, refl, _∙_}
-use mathlib.Core.Bool.{Bool, _&&_}
+use mathlib.Core.Bool.{Bool, true, false, _&&_}
 use mathlib.Core.List.{List, [], _∷_, _++_}
 use Prim.Native.Nat.{ℕ, zero, suc, _+_, _-_, _*_, _≤_, _<_, min}
 use native.Mathlib.Omega.{arith}
@@ -18,8 +18,8 @@ use Rattle.cbor.proofs.DecodeEncode.{shortest-simple}
 use Rattle.notation.specs.Classes.{Class, other, blank, digit, letter, underscore, minus, dot, quote, apostrophe, slash, hash, comma, colon, openParen, closeParen, openBracket, closeBracket, openBrace, closeBrace, less, greater, endMark, classOf, is, isWord}
 use Rattle.notation.specs.Scanning.{skip, fault, run, whether, expect}
 use Rattle.notation.specs.Indicators.{Indicator, absent, indefinitely, unknown, wide, indicator, Chosen, chosen, misfit, choose}
-use Rattle.notation.specs.Numbers.{digitValue, isDigit, numberFrom, digits, isFloating, radixOf, judged, integerToken, integer, otherInteger, decimal, based, afterZero, number}
-use Rattle.notation.specs.Quoted.{utf8Of, Quoting, character, escape, unicode, paired, Move, gives, closed, wrong, Escape, escapes, escapedIn, wholeUnit, unit, moveAt, unquote}
+use Rattle.notation.specs.Numbers.{digitValue, isDigit, numberFrom, digits, isFloating, Radix, inRadix, noRadix, radixOf, judged, integerToken, integer, otherInteger, decimal, based, afterZero, number}
+use Rattle.notation.specs.Quoted.{utf8Of, Before, noSurrogate, highSurrogate, Quoting, character, escape, unicode, paired, Move, gives, closed, wrong, Escape, escapes, escapedIn, wholeUnit, unit, moveAt, unquote}
 use Rattle.notation.specs.Literals.{literalToken, quotedToken, quoted, isBody, body, Content, standsFor, bad, hexContent, base64Content, contained, encodedLiteral}
 use Rattle.notation.specs.Words.{same, falseWord, trueWord, nullWord, undefinedWord, simpleWord, infinityWord, hexPrefix, base64Prefix, isFloatWord, isPlainDecimal, simpleBy, simpleToken, value, worded, prefixed, word}
 use Rattle.notation.specs.Tokens.{Opener, bracket, brace, tagging, embedding, Beginning, leaf, literal, chunking, opens, Token, begins, closes, aComma, aColon}
@@ -144,7 +144,12 @@ module _ (n : ℕ) where
   unfolding afterZero
   zero-keeps g [] l = decimal-keeps g 0 [] l
   zero-keeps g (c ∷ []) l = decimal-keeps g 0 (c ∷ []) l
-  zero-keeps g (c ∷ d ∷ s) l = tested (Keeps (Fine n)) (isDigit (radixOf c) d) _ _ (λ e. based-keeps g (radixOf c) (digitValue d) s (omega arith)) (λ e. decimal-keeps g 0 (c ∷ d ∷ s) l)
+  zero-keeps g (c ∷ d ∷ s) l = go (radixOf c)
+    where
+      go : (x : Radix)
+          → Keeps {A = Token} (Fine n) (elim x [ inRadix m ↦ elim (isDigit m d) [ true ↦ based g m (digitValue d) s | false ↦ decimal g 0 (c ∷ d ∷ s) ] | noRadix ↦ decimal g 0 (c ∷ d ∷ s) ])
+      go (inRadix m) = tested (Keeps (Fine n)) (isDigit m d) _ _ (λ e. based-keeps g m (digitValue d) s (omega arith)) (λ e. decimal-keeps g 0 (c ∷ d ∷ s) l)
+      go noRadix = decimal-keeps g 0 (c ∷ d ∷ s) l
 
   number-keeps : (g : Sign) (b : ℕ) (s : List ℕ) → length s ≤ n → Keeps (Fine n) (number g b s)
   unfolding number
@@ -176,13 +181,13 @@ unfolding escapedIn credit
 escaped-paid [] b = tt
 escaped-paid (e ∷ es) b = tested (Paid 2) (eqb b (e .letter)) _ _ (λ q. omega arith) (λ q. escaped-paid es b)
 
-whole-paid : (h c : ℕ) → Paid 4 (wholeUnit h c)
+whole-paid : (h : Before) (c : ℕ) → Paid 4 (wholeUnit h c)
 unfolding wholeUnit credit
-whole-paid zero c =
+whole-paid noSurrogate c =
     tested (Paid 4) (isIn (0xd800 to 0xdbff) c) _ _ (λ e. omega arith) (λ e. tested (Paid 4) (isIn (0xdc00 to 0xdfff) c) _ _ (λ e. tt) (λ e. omega (arith, point-short c)))
-whole-paid (suc h) c = tested (Paid 4) (isIn (0xdc00 to 0xdfff) c) _ _ (λ e. omega (arith, point-short (0x10000 + (suc h - 0xd800) * 0x400 + (c - 0xdc00)))) (λ e. tt)
+whole-paid (highSurrogate h) c = tested (Paid 4) (isIn (0xdc00 to 0xdfff) c) _ _ (λ e. omega (arith, point-short (0x10000 + (h - 0xd800) * 0x400 + (c - 0xdc00)))) (λ e. tt)
 
-unit-paid : (k c h : ℕ) → Paid (credit (unicode k 0 0) + 1) (unit (k - 1) c h)
+unit-paid : (k c : ℕ) (h : Before) → Paid (credit (unicode k 0 noSurrogate) + 1) (unit (k - 1) c h)
 unfolding unit credit
 unit-paid zero c h = whole-paid h c
 unit-paid (suc zero) c h = whole-paid h c
@@ -195,8 +200,8 @@ move-paid : (q : ℕ) (k : Quoting) (b : ℕ) → Paid (credit k + 1) (moveAt q 
 unfolding moveAt credit
 move-paid q character b =
     tested (Paid 1) (eqb b q) _ _ (λ e. tt) (λ e. tested (Paid 1) (eqb b 0x5c) _ _ (λ e. omega arith) (λ e. tested (Paid 1) (leb 0x20 b && leb b 0xff) _ _ (λ e. omega arith) (λ e. tt)))
-move-paid q (escape zero) b = tested (Paid 2) (eqb b q) _ _ (λ e. omega arith) (λ e. tested (Paid 2) (eqb b 0x75) _ _ (λ e. omega arith) (λ e. escaped-paid escapes b))
-move-paid q (escape (suc h)) b = tested (Paid 2) (eqb b 0x75) _ _ (λ e. omega arith) (λ e. tt)
+move-paid q (escape noSurrogate) b = tested (Paid 2) (eqb b q) _ _ (λ e. omega arith) (λ e. tested (Paid 2) (eqb b 0x75) _ _ (λ e. omega arith) (λ e. escaped-paid escapes b))
+move-paid q (escape (highSurrogate h)) b = tested (Paid 2) (eqb b 0x75) _ _ (λ e. omega arith) (λ e. tt)
 move-paid q (unicode k c h) b = tested (Paid (min 3 (6 - k) + 1)) (isDigit 16 b) _ _ (λ e. unit-paid k (c * 16 + digitValue b) h) (λ e. tt)
 move-paid q (paired h) b = tested (Paid 1) (eqb b 0x5c) _ _ (λ e. omega arith) (λ e. tt)
 

@@ -12,10 +12,10 @@ use Rattle.memory.specs.Buffer.{over}
 use Rattle.notation.specs.Classes.{blank, is}
 use Rattle.notation.specs.Numbers.{digitValue, isDigit}
 use Rattle.notation.specs.Literals.{Content, standsFor, bad, after, Commenting, noComment, inSlash, inHash, Half, noHalf, high, halfEnd, hexDigit, hexFrom, hexContent}
-use Rattle.literal_body.specs.LiteralAnswers.{decodedBy, Decodes, Put, Fills, few}
+use Rattle.literal_body.specs.LiteralAnswers.{digitNumber, decodedBy, Decodes, Put, Fills, few}
 use Rattle.hex.specs.HexAnswers.{commentingOf, halfOf, hexNext, HexMoved, hexEndedBy, HexEnded}
 use Rattle.hex.specs.declared.HexStep.{HexStep}
-use Rattle.literal_body.proofs.LiteralCode.{slash-is, hash-is, front-part, part-end, put-none, put-more, after-nil, after-after, content-is, decodes}
+use Rattle.literal_body.proofs.LiteralCode.{slash-is, hash-is, digit-yes, digit-no, digit-number, front-part, part-end, put-none, put-more, after-nil, after-after, content-is, decodes}
 
 -- CONTENT
 
@@ -83,29 +83,31 @@ module _ (m h b : ℕ) where
         unfolding commentingOf hexFrom
         hex-hash q₂ p = stay m h b 2 h refl p (λ s. rw (commenting m n₁ n₂, sym x ∙ q, slash-is b u ∙ ne-eqb b 0x2f q₁, hash-is b u ∙ eq-eqb b 0x23 q₂, hexFrom))
 
-        module _ (q₂ : b ≡ 0x23 → ⊥) {v : ℕ} (d : v ≡ digitValue b) where
+        module _ (q₂ : b ≡ 0x23 → ⊥) {v : ℕ} (d : v ≡ digitNumber b) where
           digit : (s : List ℕ) → hexFrom (commentingOf m) (halfOf h) (b ∷ s)
               ≡ elim (isDigit 16 b) [ true ↦ hexDigit (halfOf h) (digitValue b) (λ h′. hexFrom noComment h′ s) | false ↦ bad ]
           unfolding hexFrom
           digit s = rw (commenting m n₁ n₂, sym x ∙ q, slash-is b u ∙ ne-eqb b 0x2f q₁, hash-is b u ∙ ne-eqb b 0x23 q₂, hexFrom)
 
           pub hex-wrong : {r : HexStep} → 16 ≤ v → r ≡ record { mode = 3; half = h; count = 0; byte = 0 } → HexMoved m h b r
-          unfolding hexNext isDigit
+          unfolding hexNext
           hex-wrong l p =
-              let l′ : 16 ≤ digitValue b = omega arith in
-              subst⁻¹ (HexMoved m h b) p (record { is = λ s. digit s ∙ rw (le-ltb (digitValue b) 16 l′, isDigit); most = omega arith })
+              let l′ : 16 ≤ digitNumber b = omega arith in
+              subst⁻¹ (HexMoved m h b) p (record { is = λ s. digit s ∙ rw (digit-no 16 b l′); most = omega arith })
 
           module _ (l : v < 16) where
             isIt : isDigit 16 b ≡ true
-            unfolding isDigit
-            isIt = let l′ : digitValue b < 16 = omega arith in lt-ltb (digitValue b) 16 l′
+            isIt = let l′ : digitNumber b < 16 = omega arith in digit-yes 16 b l′ (omega arith)
+
+            value : v ≡ digitValue b
+            value = d ∙ digit-number 16 b isIt
 
             pub hex-high : {r : HexStep} → 16 ≤ h → r ≡ record { mode = 0; half = v; count = 0; byte = 0 } → HexMoved m h b r
             unfolding commentingOf hexDigit
             hex-high g p =
                 stay m h b 0 v refl p
                 (λ s. digit s ∙ rw isIt
-                (ap (λ (x : Half). hexDigit x (digitValue b) (λ h′. hexFrom noComment h′ s)) (half-none h g) ∙ ap (λ (x : Half). hexFrom noComment x s) (ap high (sym d) ∙ sym (half-high v l))))
+                (ap (λ (x : Half). hexDigit x (digitValue b) (λ h′. hexFrom noComment h′ s)) (half-none h g) ∙ ap (λ (x : Half). hexFrom noComment x s) (ap high (sym value) ∙ sym (half-high v l))))
 
             pub hex-low : h < 16 → HexMoved m h b (record { mode = 0; half = 16; count = 1; byte = h * 16 + v })
             unfolding commentingOf hexDigit hexNext few
@@ -113,7 +115,7 @@ module _ (m h b : ℕ) where
                 record {
                   is = λ s. digit s ∙ rw isIt
                       (ap (λ (x : Half). hexDigit x (digitValue b) (λ h′. hexFrom noComment h′ s)) (half-high h g)
-                      ∙ (λ j. after ((h * 16 + sym d j) ∷ []) (hexFrom noComment (sym (half-none 16 (omega arith)) j) s)));
+                      ∙ (λ j. after ((h * 16 + sym value j) ∷ []) (hexFrom noComment (sym (half-none 16 (omega arith)) j) s)));
                   most = omega arith;
                 }
 

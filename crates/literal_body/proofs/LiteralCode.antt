@@ -7,21 +7,21 @@ use Prim.Native.Nat.{ℕ, zero, suc, _+_, _-_, _≤_, _<_, min}
 use native.Mathlib.Numerals.{add-one}
 use native.Mathlib.Nat.{add-zero}
 use native.Mathlib.Omega.{arith}
-use lib.Dec.{T, leb, eqb, eqb→eq}
+use lib.Dec.{T, leb, ltb, eqb, eqb→eq}
 use lib.ListN.{length, take, drop, set, getD, replicate, length-append, length-set, drop-of-length-le}
 use lib.Seq.{drop-cons, drop-at, take-at}
-use borrow.Author.Tests.{le-leb, lt-leb, eq-eqb, ne-eqb, eqb-true, leb-true, leb-false}
+use borrow.Author.Tests.{le-leb, lt-leb, lt-ltb, le-ltb, eq-eqb, ne-eqb, eqb-true, leb-true, leb-false}
 use Rattle.cbor.specs.Refusals.{Result, ok, refuse, bind, noToken}
 use Rattle.cbor.specs.Utf8.{isIn}
 use Rattle.memory.specs.Buffer.{over}
 use Rattle.memory.proofs.Buffer.{over-nil, over-one, over-more}
 use Rattle.cbor.proofs.Table.{every, between, byte}
 use Rattle.notation.specs.Classes.{blank, slash, hash, classNumber, classRows, classIn, classOf, is}
-use Rattle.notation.specs.Numbers.{digitValue}
+use Rattle.notation.specs.Numbers.{Digit, worth, noDigit, digitAt, isDigit, digitValue}
 use Rattle.notation.specs.Scanning.{fault}
 use Rattle.notation.specs.Literals.{isBody, body, Content, standsFor, bad, after}
 use Rattle.notation.specs.Reading.{marked}
-use Rattle.literal_body.specs.LiteralAnswers.{scannedBy, Raw, decodedBy, Decodes, Put, bodyByte, BodyByte, few}
+use Rattle.literal_body.specs.LiteralAnswers.{digitNumber, scannedBy, Raw, decodedBy, Decodes, Put, bodyByte, BodyByte, few}
 use Rattle.literal_body.specs.declared.LiteralScan.{LiteralScan}
 
 -- BYTES
@@ -82,42 +82,68 @@ pub ruleset blank-ways = (blank-tab, blank-line, blank-return, blank-space, blan
 
 -- the value of a digit, between two bounds: none, or counted from a base
 module _ {b : ℕ} (lo hi : ℕ) (p : lo ≤ b) (q : b < hi) where
-  no-digit : T (every (λ k x. eqb 99 (digitValue k)) lo (replicate (hi - lo) 0)) → 99 ≡ digitValue b
-  no-digit t = eqb→eq 99 (digitValue b) (between (λ k. eqb 99 (digitValue k)) lo hi t b p q)
+  no-digit : T (every (λ k x. eqb 99 (digitNumber k)) lo (replicate (hi - lo) 0)) → 99 ≡ digitNumber b
+  no-digit t = eqb→eq 99 (digitNumber b) (between (λ k. eqb 99 (digitNumber k)) lo hi t b p q)
 
-  a-digit : (z : ℕ) → T (every (λ k x. eqb (k - z) (digitValue k)) lo (replicate (hi - lo) 0)) → b - z ≡ digitValue b
-  a-digit z t = eqb→eq (b - z) (digitValue b) (between (λ k. eqb (k - z) (digitValue k)) lo hi t b p q)
+  a-digit : (z : ℕ) → T (every (λ k x. eqb (k - z) (digitNumber k)) lo (replicate (hi - lo) 0)) → b - z ≡ digitNumber b
+  a-digit z t = eqb→eq (b - z) (digitNumber b) (between (λ k. eqb (k - z) (digitNumber k)) lo hi t b p q)
 
 module _ {b : ℕ} where
-  pub digit-below : b < 0x30 → 99 ≡ digitValue b
-  unfolding digitValue isIn
+  pub digit-below : b < 0x30 → 99 ≡ digitNumber b
+  unfolding digitNumber isIn
   digit-below h = no-digit 0 0x30 (omega arith) h tt
 
-  pub digit-decimal : 0x30 ≤ b → b < 0x3a → b - 0x30 ≡ digitValue b
-  unfolding digitValue isIn
+  pub digit-decimal : 0x30 ≤ b → b < 0x3a → b - 0x30 ≡ digitNumber b
+  unfolding digitNumber isIn
   digit-decimal l h = a-digit 0x30 0x3a l h 0x30 tt
 
-  pub digit-between : 0x3a ≤ b → b < 0x41 → 99 ≡ digitValue b
-  unfolding digitValue isIn
+  pub digit-between : 0x3a ≤ b → b < 0x41 → 99 ≡ digitNumber b
+  unfolding digitNumber isIn
   digit-between l h = no-digit 0x3a 0x41 l h tt
 
-  pub digit-upper : 0x41 ≤ b → b < 0x47 → b - 0x37 ≡ digitValue b
-  unfolding digitValue isIn
+  pub digit-upper : 0x41 ≤ b → b < 0x47 → b - 0x37 ≡ digitNumber b
+  unfolding digitNumber isIn
   digit-upper l h = a-digit 0x41 0x47 l h 0x37 tt
 
-  pub digit-beyond : 0x47 ≤ b → b < 0x61 → 99 ≡ digitValue b
-  unfolding digitValue isIn
+  pub digit-beyond : 0x47 ≤ b → b < 0x61 → 99 ≡ digitNumber b
+  unfolding digitNumber isIn
   digit-beyond l h = no-digit 0x47 0x61 l h tt
 
-  pub digit-lower : 0x61 ≤ b → b < 0x67 → b - 0x57 ≡ digitValue b
-  unfolding digitValue isIn
+  pub digit-lower : 0x61 ≤ b → b < 0x67 → b - 0x57 ≡ digitNumber b
+  unfolding digitNumber isIn
   digit-lower l h = a-digit 0x61 0x67 l h 0x57 tt
 
-  pub digit-above : 0x67 ≤ b → b < 256 → 99 ≡ digitValue b
-  unfolding digitValue isIn
+  pub digit-above : 0x67 ≤ b → b < 256 → 99 ≡ digitNumber b
+  unfolding digitNumber isIn
   digit-above l h = no-digit 0x67 256 l h tt
 
 pub ruleset digit-ways = (digit-below, digit-decimal, digit-between, digit-upper, digit-beyond, digit-lower, digit-above)
+
+-- a number below the radix is that of a digit, and then its value
+module _ (radix b : ℕ) where
+  pub digit-yes : digitNumber b < radix → radix ≤ 99 → isDigit radix b ≡ true
+  unfolding digitNumber isDigit
+  digit-yes = go (digitAt b)
+    where
+      go : (d : Digit) → elim d [ worth v ↦ v | noDigit ↦ 99 ] < radix → radix ≤ 99 → _≡_ {A = Bool} (elim d [ worth v ↦ ltb v radix | noDigit ↦ false ]) true
+      go (worth v) l h = lt-ltb v radix l
+      go noDigit l h = absurd (omega arith)
+
+  pub digit-no : radix ≤ digitNumber b → isDigit radix b ≡ false
+  unfolding digitNumber isDigit
+  digit-no = go (digitAt b)
+    where
+      go : (d : Digit) → radix ≤ elim d [ worth v ↦ v | noDigit ↦ 99 ] → _≡_ {A = Bool} (elim d [ worth v ↦ ltb v radix | noDigit ↦ false ]) false
+      go (worth v) l = le-ltb v radix l
+      go noDigit l = refl
+
+  pub digit-number : isDigit radix b ≡ true → digitNumber b ≡ digitValue b
+  unfolding digitNumber isDigit digitValue
+  digit-number = go (digitAt b)
+    where
+      go : (d : Digit) → _≡_ {A = Bool} (elim d [ worth v ↦ ltb v radix | noDigit ↦ false ]) true → _≡_ {A = ℕ} (elim d [ worth v ↦ v | noDigit ↦ 99 ]) (elim d [ worth v ↦ v | noDigit ↦ 0 ])
+      go (worth v) e = refl
+      go noDigit e = let z : _≡_ {A = ℕ} 0 1 = cc in absurd (omega arith)
 
 -- PLACES IN A TEXT
 

@@ -7,9 +7,14 @@ use lib.Dec.{eqb, ltb}
 use lib.ListN.{length, take, drop}
 use Rattle.cbor.specs.Refusals.{Result, ok, refuse}
 use Rattle.memory.specs.Buffer.{over}
+use Rattle.notation.specs.Numbers.{worth, noDigit, digitAt}
 use Rattle.notation.specs.Reading.{marked}
 use Rattle.notation.specs.Literals.{isBody, Content, standsFor, bad}
 use Rattle.literal_body.specs.declared.LiteralScan.{LiteralScan}
+
+-- the number of a digit: its value, 99 where there is none
+unfoldable pub digitNumber : ℕ → ℕ
+digitNumber b = elim (digitAt b) [ worth v ↦ v | noDigit ↦ 99 ]
 
 -- SCANS
 

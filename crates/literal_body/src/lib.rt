@@ -5,10 +5,9 @@ ghost use mathlib.Core.Bool.{true, false};
 ghost use Prim.Native.Nat.{min};
 ghost use lib.ListN.{drop};
 ghost use Rattle.notation.specs.Classes.{blank, is};
-ghost use Rattle.notation.specs.Numbers.{digitValue};
 ghost use Rattle.notation.specs.Literals.{body};
 ghost use Rattle.notation.specs.Reading.{marked};
-ghost use Rattle.literal_body.specs.LiteralAnswers.{Raw, Put, BodyByte, few};
+ghost use Rattle.literal_body.specs.LiteralAnswers.{digitNumber, Raw, Put, BodyByte, few};
 
 // What a scan found: where the text goes on, and how many bytes the content has.
 pub struct LiteralScan {
@@ -40,7 +39,7 @@ pub fn is_blank(b: u8) -> bool
 
 // The value of a hexadecimal digit; 99: none.
 pub fn hex_value(b: u8) -> u8
-    ensures { λ r. ⌜ r ≡ digitValue b ⌝ }
+    ensures { λ r. ⌜ r ≡ digitNumber b ⌝ }
 {
     if b < 0x30 {
         return 99;

@@ -1,11 +1,9 @@
 -- Indicators, integers and tag openings read well.
-use Prim.Native.Nat.{ℕ, zero, suc, _≤_}
-use native.Mathlib.Omega.{arith}
-use mathlib.Core.Path.{_≡_, refl, sym}
+use Prim.Native.Nat.{ℕ, zero, suc}
+use mathlib.Core.Path.{_≡_, refl, sym, ap, _∙_}
 use mathlib.Core.Bool.{Bool, true, false}
 use mathlib.Core.List.{List, [], _∷_, _++_}
 use lib.Dec.{leb, eqb}
-use borrow.Author.Tests.{le-ltb}
 use Rattle.cbor.specs.Refusals.{Result, ok, refuse, bind, noToken, float, outOfRange, badIndicator}
 use Rattle.cbor.specs.Widths.{Width, w8, limit}
 use Rattle.cbor.specs.Items.{Sign, unsigned, negative}
@@ -14,9 +12,9 @@ use Rattle.cbor.specs.Utf8.{isIn}
 use Rattle.notation.specs.Scanning.{run, whether}
 use Rattle.notation.specs.Indicators.{Indicator, absent, indicated, indicator, Chosen, chosen, misfit, choose}
 use Rattle.notation.specs.Tokens.{Token, begins, opens, tagging}
-use Rattle.notation.specs.Numbers.{digitValue, isDigit, numberFrom, digits, makesFloat, isFloating, radixOf, judged, integerToken, integer, otherInteger, decimal, based, afterZero, number}
+use Rattle.notation.specs.Numbers.{digitValue, isDigit, numberFrom, digits, makesFloat, isFloating, Radix, inRadix, noRadix, radixOf, judged, integerToken, integer, otherInteger, decimal, based, afterZero, number}
 use Rattle.notation.proofs.Good.{Stop, stop-nil, stop-at, Like, Good, good-cons}
-use Rattle.notation.proofs.ScanningElements.{clash, word-on, digit-on, float-on, off, radix-small, radix-none}
+use Rattle.notation.proofs.ScanningElements.{clash, word-on, digit-on, float-on, off, radix-none}
 use Rattle.notation.proofs.ScanningSteps.{Sure, sure-ok, sure-refuse, sure-if, sure-then, good-as, like-nil, like-cons, sure-unless, run-sure, whether-sure}
 
 -- INDICATORS
@@ -28,15 +26,15 @@ indicator-sure =
     (sure-then (run isWord) (λ w u. ok (indicated w) u) (run-sure isWord word-on) (λ w. sure-ok (indicated w))) (sure-ok absent))
 
 -- DIGITS, and whether they belong to a float
-module _ (radix : ℕ) (small : radix ≤ 99) where
+module _ (radix : ℕ) where
   pub digits-sure : (v : ℕ) → Sure (digits radix v)
   unfolding digits
-  digits-sure v = sure-then (run (isDigit radix)) (λ w r. ok (numberFrom radix v w) r) (run-sure (isDigit radix) (digit-on radix small)) (λ w. sure-ok (numberFrom radix v w))
+  digits-sure v = sure-then (run (isDigit radix)) (λ w r. ok (numberFrom radix v w) r) (run-sure (isDigit radix) (digit-on radix)) (λ w. sure-ok (numberFrom radix v w))
 
   floating-stop : (u : List ℕ) → Stop u → isFloating radix u ≡ false
   unfolding isFloating
   floating-stop u stop-nil = refl
-  floating-stop u (stop-at {b} h) = rw (off (isDigit radix) (digit-on radix small) b h, isFloating) (off (makesFloat radix) (float-on radix) b h)
+  floating-stop u (stop-at {b} h) = rw (off (isDigit radix) (digit-on radix) b h, isFloating) (off (makesFloat radix) (float-on radix) b h)
 
   pub floating-keeps : (s r : List ℕ) → isFloating radix s ≡ true → isFloating radix (s ++ r) ≡ true
   unfolding isFloating
@@ -94,26 +92,34 @@ decimal-sure unsigned n =
 decimal-sure negative n = other-sure negative n
 
 -- BEHIND A ZERO: whether a radix and a digit of it are next
-based-sure : (g : Sign) (radix v : ℕ) → radix ≤ 99 → Sure (based g radix v)
+based-sure : (g : Sign) (radix v : ℕ) → Sure (based g radix v)
 unfolding based
-based-sure g radix v small =
-    unless-floating radix small (λ s. bind (digits radix v s) (otherInteger g)) (sure-then (digits radix v) (otherInteger g) (digits-sure radix small v) (other-sure g))
+based-sure g radix v =
+    unless-floating radix (λ s. bind (digits radix v s) (otherInteger g)) (sure-then (digits radix v) (otherInteger g) (digits-sure radix v) (other-sure g))
+
+abbrev isDigitOf : Radix → ℕ → Bool
+isDigitOf (inRadix n) d = isDigit n d
+isDigitOf noRadix d = false
 
 isBased : List ℕ → Bool
 isBased [] = false
 isBased (c ∷ []) = false
-isBased (c ∷ d ∷ s) = isDigit (radixOf c) d
+isBased (c ∷ d ∷ s) = isDigitOf (radixOf c) d
 
 based-stop : (u : List ℕ) → Stop u → isBased u ≡ false
-unfolding isBased isDigit
+unfolding isBased
 based-stop [] st = refl
 based-stop (c ∷ []) st = refl
-based-stop (c ∷ d ∷ s) (stop-at h) = rw (radix-none c h) (le-ltb (digitValue d) 0 (omega arith))
+based-stop (c ∷ d ∷ s) (stop-at h) = ap (λ (x : Radix). isDigitOf x d) (radix-none c h)
+
+digit-off : (x : Radix) (b : ℕ) → goesOn b ≡ false → isDigitOf x b ≡ false
+digit-off (inRadix n) b h = off (isDigit n) (digit-on n) b h
+digit-off noRadix b h = refl
 
 digit-stop : (c : ℕ) (u : List ℕ) → Stop u → isBased (c ∷ u) ≡ false
 unfolding isBased
 digit-stop c u stop-nil = refl
-digit-stop c u (stop-at {b} h) = off (isDigit (radixOf c)) (digit-on (radixOf c) (radix-small c)) b h
+digit-stop c u (stop-at {b} h) = digit-off (radixOf c) b h
 
 based-lacks : (s t : List ℕ) → Like s t → isBased s ≡ false → isBased t ≡ false
 unfolding isBased
@@ -126,7 +132,13 @@ zero-plain : (g : Sign) (s : List ℕ) → isBased s ≡ false → afterZero g s
 unfolding isBased afterZero
 zero-plain g [] e = refl
 zero-plain g (c ∷ []) e = refl
-zero-plain g (c ∷ d ∷ s) e = rw (e, afterZero)
+zero-plain g (c ∷ d ∷ s) e = go (radixOf c) e
+  where
+    go : (x : Radix) → isDigitOf x d ≡ false
+        → _≡_ {A = Result Token} (elim x [ inRadix n ↦ elim (isDigit n d) [ true ↦ based g n (digitValue d) s | false ↦ decimal g 0 (c ∷ d ∷ s) ] | noRadix ↦ decimal g 0 (c ∷ d ∷ s) ])
+        (decimal g 0 (c ∷ d ∷ s))
+    go (inRadix n) e = rw e
+    go noRadix e = refl
 
 zero-good : (g : Sign) (s : List ℕ) → isBased s ≡ false → Good (λ p q. afterZero g) s (decimal g 0 s)
 zero-good g s e = good-as (afterZero g) (decimal g 0) s (λ t l. zero-plain g t (based-lacks s t l e)) (decimal g 0 s) (decimal-sure g 0 s)
@@ -135,19 +147,25 @@ zero-sure : (g : Sign) → Sure (afterZero g)
 unfolding afterZero isBased
 zero-sure g [] = zero-good g [] refl
 zero-sure g (c ∷ []) = zero-good g (c ∷ []) refl
-zero-sure g (c ∷ d ∷ s) = go (isDigit (radixOf c) d) refl
+zero-sure g (c ∷ d ∷ s) = go (radixOf c) refl
   where
-    go : (v : Bool) → isDigit (radixOf c) d ≡ v
-        → Good {A = Token} (λ p q. afterZero g) (c ∷ d ∷ s) (elim v [ true ↦ based g (radixOf c) (digitValue d) s | false ↦ decimal g 0 (c ∷ d ∷ s) ])
-    go true e =
-        good-cons (λ p q. afterZero g) (λ p q u. afterZero g (c ∷ u)) c (λ p q u. refl) (d ∷ s) (based g (radixOf c) (digitValue d) s)
-        (good-cons (λ p q u. afterZero g (c ∷ u)) (λ p q. based g (radixOf c) (digitValue d)) d (λ p q u. rw (e, afterZero)) s (based g (radixOf c) (digitValue d) s)
-        (based-sure g (radixOf c) (digitValue d) (radix-small c) s))
-    go false e = zero-good g (c ∷ d ∷ s) e
+    tested : (n : ℕ) → radixOf c ≡ inRadix n → (v : Bool) → isDigit n d ≡ v
+        → Good {A = Token} (λ p q. afterZero g) (c ∷ d ∷ s) (elim v [ true ↦ based g n (digitValue d) s | false ↦ decimal g 0 (c ∷ d ∷ s) ])
+    tested n f true e =
+        good-cons (λ p q. afterZero g) (λ p q u. afterZero g (c ∷ u)) c (λ p q u. refl) (d ∷ s) (based g n (digitValue d) s)
+        (good-cons (λ p q u. afterZero g (c ∷ u)) (λ p q. based g n (digitValue d)) d (λ p q u. rw (f, afterZero) (rw e)) s (based g n (digitValue d) s)
+        (based-sure g n (digitValue d) s))
+    tested n f false e = zero-good g (c ∷ d ∷ s) (ap (λ (x : Radix). isDigitOf x d) f ∙ e)
+
+    go : (x : Radix) → radixOf c ≡ x
+        → Good {A = Token} (λ p q. afterZero g) (c ∷ d ∷ s)
+        (elim x [ inRadix n ↦ elim (isDigit n d) [ true ↦ based g n (digitValue d) s | false ↦ decimal g 0 (c ∷ d ∷ s) ] | noRadix ↦ decimal g 0 (c ∷ d ∷ s) ])
+    go (inRadix n) f = tested n f (isDigit n d) refl
+    go noRadix f = zero-good g (c ∷ d ∷ s) (ap (λ (x : Radix). isDigitOf x d) f)
 
 pub number-sure : (g : Sign) (b : ℕ) → Sure (number g b)
 unfolding number
 number-sure g b =
-    unless-floating 10 (omega arith) (λ s. elim (eqb b 0x30) [ true ↦ afterZero g s | false ↦ bind (digits 10 (digitValue b) s) (decimal g) ])
+    unless-floating 10 (λ s. elim (eqb b 0x30) [ true ↦ afterZero g s | false ↦ bind (digits 10 (digitValue b) s) (decimal g) ])
     (sure-if (eqb b 0x30) (afterZero g) (λ s. bind (digits 10 (digitValue b) s) (decimal g)) (zero-sure g)
-    (sure-then (digits 10 (digitValue b)) (decimal g) (digits-sure 10 (omega arith) (digitValue b)) (decimal-sure g)))
+    (sure-then (digits 10 (digitValue b)) (decimal g) (digits-sure 10 (digitValue b)) (decimal-sure g)))

@@ -1,6 +1,5 @@
 -- Strings and words read well, and so does what stands behind the first element of any token.
 use Prim.Native.Nat.{ℕ}
-use native.Mathlib.Omega.{arith}
 use mathlib.Core.Path.{_≡_, refl, sym}
 use mathlib.Core.Bool.{Bool, true, false}
 use mathlib.Core.List.{List, [], _∷_, _++_}
@@ -104,7 +103,7 @@ simple-sure =
     (λ there r. elim there [ true ↦ bind (run (isDigit 10) r) (λ w u. bind (expect 0x29 unknownWord u) (λ x v. simpleBy w v)) | false ↦ refuse unknownWord 0 ])
     (whether-sure 0x28 refl)
     (λ there. sure-if there (λ r. bind (run (isDigit 10) r) (λ w u. bind (expect 0x29 unknownWord u) (λ x v. simpleBy w v))) (λ r. refuse unknownWord 0)
-    (sure-then (run (isDigit 10)) (λ w u. bind (expect 0x29 unknownWord u) (λ x v. simpleBy w v)) (run-sure (isDigit 10) (digit-on 10 (omega arith)))
+    (sure-then (run (isDigit 10)) (λ w u. bind (expect 0x29 unknownWord u) (λ x v. simpleBy w v)) (run-sure (isDigit 10) (digit-on 10))
     (λ w. sure-then (expect 0x29 unknownWord) (λ x v. simpleBy w v) (expect-sure 0x29 unknownWord refl) (λ x. simpleBy-sure w)))
     (sure-refuse unknownWord 0))
 

@@ -1,6 +1,5 @@
 -- The end mark behind a text changes no token in front of it. Only more is left.
-use Prim.Native.Nat.{ℕ, zero, suc, _≤_}
-use native.Mathlib.Omega.{arith}
+use Prim.Native.Nat.{ℕ, zero, suc}
 use mathlib.Core.Path.{_≡_, refl, ap, _∙_}
 use mathlib.Core.Bool.{Bool, true, false, _&&_}
 use mathlib.Core.List.{List, [], _∷_, _++_}
@@ -15,13 +14,13 @@ use Rattle.notation.specs.Classes.{Class, other, blank, digit, letter, u
 use Rattle.notation.specs.Scanning.{run, whether, expect}
 use Rattle.notation.specs.Indicators.{Indicator, absent, indefinitely, unknown, wide, indicated, indicator, Chosen, chosen, misfit, choose}
 use Rattle.notation.specs.Tokens.{Opener, bracket, brace, tagging, embedding, chunking, opens, angle, square, curly, round, whole, Token, begins, closes, leaf, literal, aComma, aColon}
-use Rattle.notation.specs.Numbers.{digitValue, isDigit, numberFrom, digits, makesFloat, isFloating, radixOf, judged, integerToken, integer, otherInteger, decimal, based, afterZero, number}
-use Rattle.notation.specs.Quoted.{Quoting, character, escape, unicode, paired, Move, gives, closed, wrong, escapes, escapedIn, moveAt, unquote}
+use Rattle.notation.specs.Numbers.{digitValue, isDigit, numberFrom, digits, makesFloat, isFloating, Radix, inRadix, noRadix, radixOf, judged, integerToken, integer, otherInteger, decimal, based, afterZero, number}
+use Rattle.notation.specs.Quoted.{noSurrogate, highSurrogate, Quoting, character, escape, unicode, paired, Move, gives, closed, wrong, escapes, escapedIn, moveAt, unquote}
 use Rattle.notation.specs.Literals.{literalToken, quotedToken, quoted, isBody, body, Content, standsFor, bad, hexContent, base64Content, contained, encodedLiteral}
 use Rattle.notation.specs.Words.{same, falseWord, trueWord, nullWord, undefinedWord, simpleWord, hexPrefix, base64Prefix, infinityWord, isFloatWord, isPlainDecimal, simpleBy, simpleToken, value, worded, prefixed, word}
 use Rattle.notation.specs.Cutting.{startsWith, afterMinus, openingToken, cutBy}
 use Rattle.notation.specs.Reading.{marked}
-use Rattle.notation.proofs.ScanningElements.{off, digit-on, float-on, radix-small}
+use Rattle.notation.proofs.ScanningElements.{off, digit-on, float-on}
 
 -- a token's fault stands where it stood: it has no place yet
 abbrev pub more : {A : Type 0} → Result A → Result A
@@ -89,9 +88,9 @@ mark-off : goesOn 256 ≡ false
 unfolding goesOn isWord is classNumber classOf classIn classRows isIn
 mark-off = refl
 
-module _ (radix : ℕ) (small : radix ≤ 99) where
+module _ (radix : ℕ) where
   no-digit : isDigit radix 256 ≡ false
-  no-digit = off (isDigit radix) (digit-on radix small) 256 mark-off
+  no-digit = off (isDigit radix) (digit-on radix) 256 mark-off
 
   digits-marks : (v : ℕ) → Marks (digits radix v)
   unfolding digits
@@ -137,32 +136,41 @@ decimal-marks unsigned n =
     (judged-marks n (choose i n) (λ w. begins (opens (tagging w n)))) (integer-marks unsigned n i)))
 decimal-marks negative n = other-marks negative n
 
-based-marks : (g : Sign) (radix v : ℕ) → radix ≤ 99 → Marks (based g radix v)
+based-marks : (g : Sign) (radix v : ℕ) → Marks (based g radix v)
 unfolding based
-based-marks g radix v small =
-    unless-floating radix small (λ s. bind (digits radix v s) (otherInteger g)) (marks-then (digits radix v) (otherInteger g) (digits-marks radix small v) (other-marks g))
+based-marks g radix v =
+    unless-floating radix (λ s. bind (digits radix v s) (otherInteger g)) (marks-then (digits radix v) (otherInteger g) (digits-marks radix v) (other-marks g))
 
 zero-marks : (g : Sign) → Marks (afterZero g)
 unfolding afterZero marked
 zero-marks g [] = decimal-marks g 0 []
-zero-marks g (c ∷ []) = rw (no-digit (radixOf c) (radix-small c), afterZero) (decimal-marks g 0 (c ∷ []))
-zero-marks g (c ∷ d ∷ s) =
-    keeps-if (isDigit (radixOf c) d) (based g (radixOf c) (digitValue d)) (λ u. decimal g 0 (c ∷ d ∷ u)) s (based-marks g (radixOf c) (digitValue d) (radix-small c) s)
-    (decimal-marks g 0 (c ∷ d ∷ s))
+zero-marks g (c ∷ []) = go (radixOf c)
+  where
+    go : (x : Radix)
+        → _≡_ {A = Result Token} (elim x [ inRadix n ↦ elim (isDigit n 256) [ true ↦ based g n (digitValue 256) [] | false ↦ decimal g 0 (c ∷ 256 ∷ []) ] | noRadix ↦ decimal g 0 (c ∷ 256 ∷ []) ])
+        (more (decimal g 0 (c ∷ [])))
+    go (inRadix n) = rw (no-digit n) (decimal-marks g 0 (c ∷ []))
+    go noRadix = decimal-marks g 0 (c ∷ [])
+zero-marks g (c ∷ d ∷ s) = go (radixOf c)
+  where
+    go : (x : Radix)
+        → Keeps {A = Token} (λ u. elim x [ inRadix n ↦ elim (isDigit n d) [ true ↦ based g n (digitValue d) u | false ↦ decimal g 0 (c ∷ d ∷ u) ] | noRadix ↦ decimal g 0 (c ∷ d ∷ u) ]) s
+    go (inRadix n) = keeps-if (isDigit n d) (based g n (digitValue d)) (λ u. decimal g 0 (c ∷ d ∷ u)) s (based-marks g n (digitValue d) s) (decimal-marks g 0 (c ∷ d ∷ s))
+    go noRadix = decimal-marks g 0 (c ∷ d ∷ s)
 
 number-marks : (g : Sign) (b : ℕ) → Marks (number g b)
 unfolding number
 number-marks g b =
-    unless-floating 10 (omega arith) (λ s. elim (eqb b 0x30) [ true ↦ afterZero g s | false ↦ bind (digits 10 (digitValue b) s) (decimal g) ])
+    unless-floating 10 (λ s. elim (eqb b 0x30) [ true ↦ afterZero g s | false ↦ bind (digits 10 (digitValue b) s) (decimal g) ])
     (marks-if (eqb b 0x30) (afterZero g) (λ s. bind (digits 10 (digitValue b) s) (decimal g)) (zero-marks g)
-    (marks-then (digits 10 (digitValue b)) (decimal g) (digits-marks 10 (omega arith) (digitValue b)) (decimal-marks g)))
+    (marks-then (digits 10 (digitValue b)) (decimal g) (digits-marks 10 (digitValue b)) (decimal-marks g)))
 
 -- STRINGS: the mark may not stand in one, so that one that does not end is refused alike
 mark-wrong : (q : ℕ) → eqb 256 q ≡ false → (k : Quoting) → moveAt q k 256 ≡ wrong
 unfolding moveAt escapedIn escapes isDigit digitValue isIn
 mark-wrong q h character = rw (h, moveAt)
-mark-wrong q h (escape zero) = rw (h, moveAt)
-mark-wrong q h (escape (suc n)) = refl
+mark-wrong q h (escape noSurrogate) = rw (h, moveAt)
+mark-wrong q h (escape (highSurrogate n)) = refl
 mark-wrong q h (unicode n c u) = refl
 mark-wrong q h (paired n) = refl
 
@@ -230,7 +238,7 @@ simple-marks =
     (λ there r. elim there [ true ↦ bind (run (isDigit 10) r) (λ w u. bind (expect 0x29 unknownWord u) (λ x v. simpleBy w v)) | false ↦ refuse unknownWord 0 ])
     (whether-marks 0x28 refl)
     (λ there. marks-if there (λ r. bind (run (isDigit 10) r) (λ w u. bind (expect 0x29 unknownWord u) (λ x v. simpleBy w v))) (λ r. refuse unknownWord 0)
-    (marks-then (run (isDigit 10)) (λ w u. bind (expect 0x29 unknownWord u) (λ x v. simpleBy w v)) (run-marks (isDigit 10) (no-digit 10 (omega arith)))
+    (marks-then (run (isDigit 10)) (λ w u. bind (expect 0x29 unknownWord u) (λ x v. simpleBy w v)) (run-marks (isDigit 10) (no-digit 10))
     (λ w. marks-then (expect 0x29 unknownWord) (λ x v. simpleBy w v) (expect-marks 0x29 unknownWord refl) (λ x. simpleBy-marks w)))
     (marks-refuse unknownWord 0))
 

@@ -5,7 +5,7 @@ use mathlib.Core.Path.{_≡_, refl, sym, ap, _∙_}
 use mathlib.Core.Bool.{Bool, true, false, _&&_, _||_, false≢true}
 use mathlib.Core.List.{List, [], _∷_, _++_, append-assoc}
 use lib.Dec.{T, leb, ltb, eqb, eqb→eq, lit≤}
-use borrow.Author.Tests.{ltb-true, ltb-false, leb-true, eqb-true, le-ltb, lt-ltb, le-leb, ne-eqb}
+use borrow.Author.Tests.{ltb-true, ltb-false, leb-true, eqb-true, le-leb, ne-eqb}
 use Rattle.cbor.specs.Refusals.{ok, bind}
 use Rattle.cbor.specs.Widths.{Width, w0, w1, w2, w4, w8, argumentBytes, limit, fits, shortest}
 use Rattle.cbor.specs.Items.{Sign, unsigned, negative, int}
@@ -14,11 +14,11 @@ use Rattle.cbor.proofs.Table.{between}
 use Rattle.notation.specs.Classes.{blank, digit, underscore, dot, slash, hash, classNumber, classRows, classIn, classOf, is, isWord, goesOn}
 use Rattle.notation.specs.Scanning.{skipped, skipFrom, skip, run, whether}
 use Rattle.notation.specs.Indicators.{Indicator, absent, wide, indicated, indicator, Chosen, chosen, choose}
-use Rattle.notation.specs.Numbers.{digitValue, isDigit, numberFrom, digits, makesFloat, isFloating, radixOf, judged, integerToken, integer, otherInteger, decimal, afterZero, number}
+use Rattle.notation.specs.Numbers.{worth, noDigit, isDigit, digitValue, numberFrom, digits, makesFloat, isFloating, noRadix, radixOf, judged, integerToken, integer, otherInteger, decimal, afterZero, number}
 use Rattle.notation.specs.Tokens.{Token, begins, leaf, opens, tagging}
 use Rattle.notation.specs.Cutting.{afterMinus, cutBy, cut, placed, next}
 use Rattle.notation.specs.Printing.{decimalWithin, decimalOf, widthName, indicatorOf, printInt}
-use Rattle.notation.proofs.ScanningElements.{off-is}
+use Rattle.notation.proofs.ScanningElements.{digit-cases, off-is}
 use Rattle.notation.proofs.Good.{Stop, stop-nil, stop-at}
 
 -- TESTS AT THE FRONT OF A TEXT: all elements pass one; the first element, if there is one, does not
@@ -86,15 +86,11 @@ stop-extends b e =
     rw (p .0) (either-false (is dot b) _ (q .1) .0)
 
 pub digit-range : (b : ℕ) → isDigit 10 b ≡ true → (0x30 ≤ b) × (b < 0x3a)
-unfolding isDigit digitValue
-digit-range b e = go (isIn (0x30 to 0x39) b) refl (isIn (0x61 to 0x66) b) refl (isIn (0x41 to 0x46) b) refl e
-  where
-    go : (x : Bool) → isIn (0x30 to 0x39) b ≡ x → (y : Bool) → isIn (0x61 to 0x66) b ≡ y → (z : Bool) → isIn (0x41 to 0x46) b ≡ z
-        → ltb (elim x [ true ↦ b - 0x30 | false ↦ elim y [ true ↦ b - 0x57 | false ↦ elim z [ true ↦ b - 0x37 | false ↦ 99 ] ] ]) 10 ≡ true → (0x30 ≤ b) × (b < 0x3a)
-    go true p y q z r e = let i = in-range 0x30 0x39 b p in omega arith
-    go false p true q z r e = let i = in-range 0x61 0x66 b q in let l = ltb-true (b - 0x57) 10 e in absurd (omega arith)
-    go false p false q true r e = let i = in-range 0x41 0x46 b r in let l = ltb-true (b - 0x37) 10 e in absurd (omega arith)
-    go false p false q false r e = absurd (false≢true e)
+unfolding isDigit
+digit-range b =
+    digit-cases (λ d. _≡_ {A = Bool} (elim d [ worth v ↦ ltb v 10 | noDigit ↦ false ]) true → (0x30 ≤ b) × (b < 0x3a)) b
+    (λ p e. let i = in-range 0x30 0x39 b p in omega arith) (λ p e. let i = in-range 0x61 0x66 b p in let l = ltb-true (b - 0x57) 10 e in absurd (omega arith))
+    (λ p e. let i = in-range 0x41 0x46 b p in let l = ltb-true (b - 0x37) 10 e in absurd (omega arith)) (λ e. absurd (false≢true e))
 
 over-digit : (b : ℕ) → extends b ≡ false → isDigit 10 b ≡ false
 unfolding isWord is classNumber classOf classIn classRows isIn
@@ -108,7 +104,7 @@ over-float : (b : ℕ) → extends b ≡ false → makesFloat 10 b ≡ false
 unfolding makesFloat isWord is classNumber classOf classIn classRows isIn
 over-float b e = rw (differs extends b 0x2e e refl, differs extends b 0x65 e refl, differs extends b 0x45 e refl)
 
-over-radix : (b : ℕ) → extends b ≡ false → radixOf b ≡ 0
+over-radix : (b : ℕ) → extends b ≡ false → radixOf b ≡ noRadix
 unfolding radixOf isWord is classNumber classOf classIn classRows isIn
 over-radix b e = rw (differs extends b 0x78 e refl, radixOf) (rw (differs extends b 0x6f e refl) (rw (differs extends b 0x62 e refl)))
 
@@ -128,8 +124,8 @@ unfolding digitValue isIn
 digit-value k h = eqb→eq (digitValue (0x30 + k)) k (between (λ k. eqb (digitValue (0x30 + k)) k) 0 10 tt k (omega arith) h)
 
 digit-is : (k : ℕ) → k < 10 → isDigit 10 (0x30 + k) ≡ true
-unfolding isDigit
-digit-is k h = rw (digit-value k h) (lt-ltb k 10 h)
+unfolding isDigit isIn
+digit-is k h = sure (isDigit 10 (0x30 + k)) (between (λ k. isDigit 10 (0x30 + k)) 0 10 tt k (omega arith) h)
 
 number-snoc : (v : ℕ) (s : List ℕ) (b : ℕ) → numberFrom 10 v (s ++ b ∷ []) ≡ numberFrom 10 v s * 10 + digitValue b
 unfolding numberFrom
@@ -217,12 +213,10 @@ no-float [] (b ∷ s) e h = rw (over-digit b h, isFloating) (over-float b h)
 no-float (b ∷ w) s e h = rw (e .0, isFloating) (no-float w s (e .1) h)
 
 no-radix : (g : Sign) (s : List ℕ) → Halts extends s → afterZero g s ≡ decimal g 0 s
-unfolding afterZero isDigit
+unfolding afterZero
 no-radix g [] h = refl
 no-radix g (c ∷ []) h = refl
-no-radix g (c ∷ d ∷ s) h =
-    let e : isDigit (radixOf c) d ≡ false = rw (over-radix c h) (le-ltb (digitValue d) 0 (omega arith)) in
-    rw (e, afterZero)
+no-radix g (c ∷ d ∷ s) h = rw (over-radix c h, afterZero)
 
 halts-digits : (s : List ℕ) → Halts extends s → Halts (isDigit 10) s
 halts-digits [] h = tt

@@ -18,7 +18,7 @@ use Rattle.notation.specs.Classes.{blank, slash, hash, classNumber, clas
 use Rattle.notation.specs.Scanning.{run, whether}
 use Rattle.notation.specs.Indicators.{Indicator, indicated, indicator, chosen, choose}
 use Rattle.notation.specs.Numbers.{digitValue, isDigit}
-use Rattle.notation.specs.Quoted.{utf8Of, Quoting, character, escape, unicode, gives, escapes, escapedIn, wholeUnit, unit, moveAt, unquote}
+use Rattle.notation.specs.Quoted.{utf8Of, noSurrogate, Quoting, character, escape, unicode, gives, escapes, escapedIn, wholeUnit, unit, moveAt, unquote}
 use Rattle.notation.specs.Literals.{literalToken, quotedToken, quoted, isBody, body, standsFor, after, noComment, noHalf, high, halfEnd, hexDigit, hexFrom, hexContent, contained, encodedLiteral}
 use Rattle.notation.specs.Words.{same, prefixed, word}
 use Rattle.notation.specs.Tokens.{begins, literal}
@@ -116,15 +116,15 @@ module _ (s w r : List ℕ) (e : unquote 0x22 character s ≡ ok w r) where
   escape-quoted c h = go (eqb c 0x22) refl (eqb c 0x5c) refl h
     where
       go : (x : Bool) → eqb c 0x22 ≡ x → (y : Bool) → eqb c 0x5c ≡ y → (x || y) ≡ true → unquote 0x22 character (0x5c ∷ (c ∷ s)) ≡ ok (c ∷ w) r
-      go true p y q h = rw (eqb-true c 0x22 p) (unquote-on character 0x5c (0x22 ∷ s) refl (unquote-on (escape 0) 0x22 s refl e))
-      go false p true q h = rw (eqb-true c 0x5c q) (unquote-on character 0x5c (0x5c ∷ s) refl (unquote-on (escape 0) 0x5c s refl e))
+      go true p y q h = rw (eqb-true c 0x22 p) (unquote-on character 0x5c (0x22 ∷ s) refl (unquote-on (escape noSurrogate) 0x22 s refl e))
+      go false p true q h = rw (eqb-true c 0x5c q) (unquote-on character 0x5c (0x5c ∷ s) refl (unquote-on (escape noSurrogate) 0x5c s refl e))
       go false p false q h = absurd (false≢true h)
 
-  whole-unit : (c : ℕ) → c < 0x20 → wholeUnit 0 c ≡ gives (c ∷ []) character
+  whole-unit : (c : ℕ) → c < 0x20 → wholeUnit noSurrogate c ≡ gives (c ∷ []) character
   unfolding wholeUnit isIn utf8Of
   whole-unit c h = rw (lt-leb 0xd800 c (omega arith), wholeUnit) (rw (lt-leb 0xdc00 c (omega arith)) (rw (lt-ltb c 0x80 (omega arith), utf8Of)))
 
-  last-digit : (c : ℕ) → c < 0x20 → moveAt 0x22 (unicode 1 (0 * 16 + digitValue (hexDigitOf (c / 16))) 0) (hexDigitOf (c % 16)) ≡ gives (c ∷ []) character
+  last-digit : (c : ℕ) → c < 0x20 → moveAt 0x22 (unicode 1 (0 * 16 + digitValue (hexDigitOf (c / 16))) noSurrogate) (hexDigitOf (c % 16)) ≡ gives (c ∷ []) character
   unfolding moveAt unit
   last-digit c h =
       let d = hex-digit (c / 16) (omega arith) in
@@ -132,7 +132,7 @@ module _ (s w r : List ℕ) (e : unquote 0x22 character s ≡ ok w r) where
       let v : (0 * 16 + digitValue (hexDigitOf (c / 16))) * 16 + digitValue (hexDigitOf (c % 16)) ≡ c = rw (d .value, d′ .value) (omega arith) in
       rw (d′ .digit, moveAt) (rw v (whole-unit c h))
 
-  first-digit : (v : ℕ) → v < 16 → moveAt 0x22 (unicode 2 0 0) (hexDigitOf v) ≡ gives [] (unicode 1 (0 * 16 + digitValue (hexDigitOf v)) 0)
+  first-digit : (v : ℕ) → v < 16 → moveAt 0x22 (unicode 2 0 noSurrogate) (hexDigitOf v) ≡ gives [] (unicode 1 (0 * 16 + digitValue (hexDigitOf v)) noSurrogate)
   unfolding moveAt unit
   first-digit v h = rw (hex-digit v h .digit, moveAt)
 
@@ -140,11 +140,11 @@ module _ (s w r : List ℕ) (e : unquote 0x22 character s ≡ ok w r) where
   unfolding hexByteOf moveAt unit digitValue isDigit isIn
   escape-control c h =
       unquote-on character 0x5c (0x75 ∷ (0x30 ∷ (0x30 ∷ (hexByteOf c ++ s)))) refl
-      (unquote-on (escape 0) 0x75 (0x30 ∷ (0x30 ∷ (hexByteOf c ++ s))) refl
-      (unquote-on (unicode 4 0 0) 0x30 (0x30 ∷ (hexByteOf c ++ s)) refl
-      (unquote-on (unicode 3 0 0) 0x30 (hexByteOf c ++ s) refl
-      (unquote-on (unicode 2 0 0) (hexDigitOf (c / 16)) (hexDigitOf (c % 16) ∷ s) (first-digit (c / 16) (omega arith))
-      (unquote-on (unicode 1 (0 * 16 + digitValue (hexDigitOf (c / 16))) 0) (hexDigitOf (c % 16)) s (last-digit c h) e)))))
+      (unquote-on (escape noSurrogate) 0x75 (0x30 ∷ (0x30 ∷ (hexByteOf c ++ s))) refl
+      (unquote-on (unicode 4 0 noSurrogate) 0x30 (0x30 ∷ (hexByteOf c ++ s)) refl
+      (unquote-on (unicode 3 0 noSurrogate) 0x30 (hexByteOf c ++ s) refl
+      (unquote-on (unicode 2 0 noSurrogate) (hexDigitOf (c / 16)) (hexDigitOf (c % 16) ∷ s) (first-digit (c / 16) (omega arith))
+      (unquote-on (unicode 1 (0 * 16 + digitValue (hexDigitOf (c / 16))) noSurrogate) (hexDigitOf (c % 16)) s (last-digit c h) e)))))
 
   escape-plain : (c : ℕ) → (eqb c 0x22 || eqb c 0x5c) ≡ false → 0x20 ≤ c → c < 256 → unquote 0x22 character (c ∷ s) ≡ ok (c ∷ w) r
   unfolding moveAt

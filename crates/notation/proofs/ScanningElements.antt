@@ -1,17 +1,17 @@
 -- Facts about single elements of a text: what can stand inside a token, and what can begin one.
-use Prim.Native.Nat.{ℕ, suc, _-_, _≤_, _<_}
+use Prim.Native.Nat.{ℕ, suc, _-_, _≤_}
 use native.Mathlib.Omega.{arith}
 use mathlib.Core.Path.{_≡_, refl, sym, ap, _∙_}
-use mathlib.Core.Bool.{Bool, true, false, _&&_, _||_}
+use mathlib.Core.Bool.{Bool, true, false, _&&_, _||_, not}
 use mathlib.Core.List.{List, [], _∷_}
-use lib.Dec.{T, leb, ltb, eqb}
+use lib.Dec.{T, ltb, eqb}
 use lib.ListN.{getD, replicate}
-use borrow.Author.Tests.{leb-true, ltb-true, eqb-true}
+use borrow.Author.Tests.{ltb-true, ltb-false, eqb-true}
 use Rattle.cbor.specs.Utf8.{Range, _to_, isIn}
 use Rattle.cbor.proofs.Utf8Laws.{both-true, is-in}
 use Rattle.cbor.proofs.Table.{every, between}
 use Rattle.notation.specs.Classes.{Class, other, blank, digit, letter, underscore, minus, dot, quote, apostrophe, slash, hash, comma, colon, openParen, closeParen, openBracket, closeBracket, openBrace, closeBrace, less, greater, endMark, classNumber, ClassRow, classRows, classIn, classOf, is, isWord, goesOn}
-use Rattle.notation.specs.Numbers.{digitValue, isDigit, makesFloat, radixOf}
+use Rattle.notation.specs.Numbers.{Digit, worth, noDigit, digitAt, isDigit, makesFloat, noRadix, radixOf}
 
 -- TESTS
 pub is-true : (v : Bool) → T v → v ≡ true
@@ -37,16 +37,23 @@ one-on c h b e = rw (eqb-true b c e) h
 range-on : (g : Range) → T (every (λ k x. goesOn k) (g .low) (replicate (suc (g .high) - g .low) 0)) → (b : ℕ) → isIn g b ≡ true → goesOn b ≡ true
 range-on g t b e = let i = is-in g b e in is-true (goesOn b) (between goesOn (g .low) (suc (g .high)) t b (i .0) (omega arith))
 
-pub digit-on : (radix : ℕ) → radix ≤ 99 → (b : ℕ) → isDigit radix b ≡ true → goesOn b ≡ true
-unfolding isDigit digitValue goesOn isWord is classNumber classOf classIn classRows isIn
-digit-on radix h b e = go (isIn (0x30 to 0x39) b) (isIn (0x61 to 0x66) b) (isIn (0x41 to 0x46) b) refl refl refl (ltb-true (digitValue b) radix e)
+-- a fact of a digit in each of its ranges, and of none
+pub digit-cases : (P : Digit → Type 0) (b : ℕ) → (isIn (0x30 to 0x39) b ≡ true → P (worth (b - 0x30))) → (isIn (0x61 to 0x66) b ≡ true → P (worth (b - 0x57)))
+    → (isIn (0x41 to 0x46) b ≡ true → P (worth (b - 0x37))) → P noDigit → P (digitAt b)
+digit-cases P b f g h k = go (isIn (0x30 to 0x39) b) (isIn (0x61 to 0x66) b) (isIn (0x41 to 0x46) b) f g h
   where
-    go : (u v w : Bool) → isIn (0x30 to 0x39) b ≡ u → isIn (0x61 to 0x66) b ≡ v → isIn (0x41 to 0x46) b ≡ w
-        → elim u [ true ↦ b - 0x30 | false ↦ elim v [ true ↦ b - 0x57 | false ↦ elim w [ true ↦ b - 0x37 | false ↦ 99 ] ] ] < radix → goesOn b ≡ true
-    go true v w e₁ e₂ e₃ l = range-on (0x30 to 0x39) tt b e₁
-    go false true w e₁ e₂ e₃ l = range-on (0x61 to 0x66) tt b e₂
-    go false false true e₁ e₂ e₃ l = range-on (0x41 to 0x46) tt b e₃
-    go false false false e₁ e₂ e₃ l = absurd (omega arith)
+    go : (u v w : Bool) → (u ≡ true → P (worth (b - 0x30))) → (v ≡ true → P (worth (b - 0x57))) → (w ≡ true → P (worth (b - 0x37)))
+        → P (elim u [ true ↦ worth (b - 0x30) | false ↦ elim v [ true ↦ worth (b - 0x57) | false ↦ elim w [ true ↦ worth (b - 0x37) | false ↦ noDigit ] ] ])
+    go true v w f g h = f refl
+    go false true w f g h = g refl
+    go false false true f g h = h refl
+    go false false false f g h = k
+
+pub digit-on : (radix b : ℕ) → isDigit radix b ≡ true → goesOn b ≡ true
+unfolding isDigit goesOn isWord is classNumber classOf classIn classRows isIn
+digit-on radix b =
+    digit-cases (λ d. _≡_ {A = Bool} (elim d [ worth v ↦ ltb v radix | noDigit ↦ false ]) true → goesOn b ≡ true) b
+    (λ i e. range-on (0x30 to 0x39) tt b i) (λ i e. range-on (0x61 to 0x66) tt b i) (λ i e. range-on (0x41 to 0x46) tt b i) (λ e. absurd (clash (sym e)))
 
 pub float-on : (radix b : ℕ) → makesFloat radix b ≡ true → goesOn b ≡ true
 unfolding makesFloat goesOn isWord is classNumber classOf classIn classRows isIn
@@ -68,18 +75,7 @@ off test h b g = go (test b) refl
 pub off-is : (c : ℕ) → goesOn c ≡ true → (b : ℕ) → goesOn b ≡ false → eqb b c ≡ false
 off-is c h = off (λ b. eqb b c) (one-on c h)
 
--- RADIXES
-pub radix-small : (c : ℕ) → radixOf c ≤ 99
-unfolding radixOf
-radix-small c = go (eqb c 0x78) (eqb c 0x6f) (eqb c 0x62)
-  where
-    go : (u v w : Bool) → elim u [ true ↦ 16 | false ↦ elim v [ true ↦ 8 | false ↦ elim w [ true ↦ 2 | false ↦ 0 ] ] ] ≤ 99
-    go true v w = omega arith
-    go false true w = omega arith
-    go false false true = omega arith
-    go false false false = omega arith
-
-pub radix-none : (c : ℕ) → goesOn c ≡ false → radixOf c ≡ 0
+pub radix-none : (c : ℕ) → goesOn c ≡ false → radixOf c ≡ noRadix
 unfolding radixOf goesOn isWord is classNumber classOf classIn classRows isIn
 radix-none c h = rw (off-is 0x78 refl c h, radixOf) (rw (off-is 0x6f refl c h) (rw (off-is 0x62 refl c h)))
 
@@ -152,3 +148,14 @@ class-other (w ∷ ws) n b h k = let p = both-true (narrow w) (allNarrow ws) n i
 pub high-other : (b : ℕ) → 128 ≤ b → (b ≡ 256 → ⊥) → classOf b ≡ other
 unfolding classOf classRows
 high-other b = class-other classRows refl b
+
+-- a byte of the class of digits is a decimal digit
+pub class-digit : (b : ℕ) → is digit b ≡ true → isDigit 10 b ≡ true
+unfolding is isDigit classNumber classOf classIn classRows isIn
+class-digit b e = go (ltb b 257) refl
+  where
+    go : (v : Bool) → ltb b 257 ≡ v → isDigit 10 b ≡ true
+    go true l = rw e at (is-true (not (is digit b) || isDigit 10 b) (between (λ k. not (is digit k) || isDigit 10 k) 0 257 tt b (omega arith) (ltb-true b 257 l)))
+    go false l =
+        let h = ltb-false b 257 l in
+        absurd (clash (sym e ∙ ap (λ (k : Class). eqb (classNumber digit) (classNumber k)) (high-other b (omega arith) (λ z. omega arith))))

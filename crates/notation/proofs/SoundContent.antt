@@ -1,18 +1,18 @@
 -- What `h'...'` and `b64'...'` stand for is bytes, no more of them than the literal's text has.
 use Prim.Native.Nat.{ℕ, suc, _+_, _*_, _/_, _%_, _≤_, _<_}
 use native.Mathlib.Omega.{arith}
-use mathlib.Core.Bool.{_&&_}
+use mathlib.Core.Bool.{_||_}
 use mathlib.Core.List.{List, [], _∷_}
-use lib.Dec.{leb, eqb}
+use lib.Dec.{eqb}
 use lib.ListN.{length, length-append}
-use borrow.Author.Tests.{leb-true, ltb-true}
+use Rattle.cbor.specs.Utf8.{_to_, isIn}
 use Rattle.cbor.specs.Valid.{Bytes}
 use Rattle.cbor.proofs.EncodeBytes.{bytes-append}
-use Rattle.cbor.proofs.Utf8Laws.{both-true}
+use Rattle.cbor.proofs.Utf8Laws.{is-in}
 use Rattle.notation.specs.Classes.{blank, slash, hash, is}
 use Rattle.notation.specs.Numbers.{digitValue, isDigit}
-use Rattle.notation.specs.Literals.{Content, standsFor, bad, after, Commenting, noComment, inSlash, inHash, Half, noHalf, high, halfEnd, hexDigit, hexFrom, hexContent, sextets, lastTwo, lastThree, lastFour, fullFour, base64From, base64Content}
-use Rattle.notation.proofs.TextScan.{tested}
+use Rattle.notation.specs.Literals.{Content, standsFor, bad, after, Commenting, noComment, inSlash, inHash, Half, noHalf, high, halfEnd, hexDigit, hexFrom, hexContent, Sextet, sextet, padding, nonAlphabet, sextetAt, sextets, valued, lastTwo, lastThree, isPadding, lastFour, fullFour, base64From, base64Content}
+use Rattle.notation.proofs.TextScan.{tested, digit-less}
 
 abbrev pub Holds : ℕ → Content → Type 0
 Holds n (standsFor c) = Bytes c × (length c ≤ n)
@@ -40,7 +40,7 @@ digit-holds m n g noHalf v k d l ih = ih n (omega arith) (high v) l
 digit-holds m n g (high u) v k d l ih = after-holds m n ((u * 16 + v) ∷ []) (k noHalf) (omega arith, tt) (omega arith) (ih m (omega arith) noHalf tt)
 
 hex-holds : (s : List ℕ) (n : ℕ) → length s ≤ n → (k : Commenting) (h : Half) → Digit h → Holds n (hexFrom k h s)
-unfolding hexFrom isDigit
+unfolding hexFrom
 hex-holds [] n l noComment h d = half-holds n h
 hex-holds [] n l inSlash h d = tt
 hex-holds [] n l inHash h d = tt
@@ -48,7 +48,7 @@ hex-holds (b ∷ s) n l noComment h d =
     tested (Holds n) (is blank b) _ _ (λ e. hex-holds s n (omega arith) noComment h d)
     (λ e. tested (Holds n) (is slash b) _ _ (λ e. hex-holds s n (omega arith) inSlash h d)
     (λ e. tested (Holds n) (is hash b) _ _ (λ e. hex-holds s n (omega arith) inHash h d)
-    (λ e. tested (Holds n) (isDigit 16 b) _ _ (λ e. digit-holds (length s) n l h (digitValue b) _ d (ltb-true (digitValue b) 16 e) (λ m k. hex-holds s m k noComment)) (λ e. tt))))
+    (λ e. tested (Holds n) (isDigit 16 b) _ _ (λ e. digit-holds (length s) n l h (digitValue b) _ d (digit-less 16 b e) (λ m k. hex-holds s m k noComment)) (λ e. tt))))
 hex-holds (b ∷ s) n l inSlash h d = tested (Holds n) (is slash b) _ _ (λ e. hex-holds s n (omega arith) noComment h d) (λ e. hex-holds s n (omega arith) inSlash h d)
 hex-holds (b ∷ s) n l inHash h d = tested (Holds n) (eqb b 0x0a) _ _ (λ e. hex-holds s n (omega arith) noComment h d) (λ e. hex-holds s n (omega arith) inHash h d)
 
@@ -58,61 +58,66 @@ hex-content s = hex-holds s (length s) (omega arith) noComment noHalf tt
 
 -- BASE64
 
-two-holds : (n : ℕ) → 2 ≤ n → (a b : ℕ) → Holds n (lastTwo a b)
+abbrev pub Fits : Sextet → Type 0
+Fits (sextet v) = v ≤ 63
+Fits padding = Unit {0}
+Fits nonAlphabet = Unit {0}
+
+pub sextet-fits : (b : ℕ) → Fits (sextetAt b)
+unfolding sextetAt
+sextet-fits b =
+    tested Fits (isIn (0x41 to 0x5a) b) _ _ (λ e. let i = is-in (0x41 to 0x5a) b e in omega arith)
+    (λ e. tested Fits (isIn (0x61 to 0x7a) b) _ _ (λ e. let i = is-in (0x61 to 0x7a) b e in omega arith)
+    (λ e. tested Fits (isIn (0x30 to 0x39) b) _ _ (λ e. let i = is-in (0x30 to 0x39) b e in omega arith)
+    (λ e. tested Fits (eqb b 0x2b || eqb b 0x2d) _ _ (λ e. omega arith)
+    (λ e. tested Fits (eqb b 0x2f || eqb b 0x5f) _ _ (λ e. omega arith) (λ e. tested Fits (eqb b 0x3d) _ _ (λ e. tt) (λ e. tt))))))
+
+valued-holds : (n : ℕ) (a : Sextet) (k : ℕ → Content) → Fits a → ((v : ℕ) → v ≤ 63 → Holds n (k v)) → Holds n (valued a k)
+unfolding valued
+valued-holds n (sextet v) k f h = h v f
+valued-holds n padding k f h = tt
+valued-holds n nonAlphabet k f h = tt
+
+two-holds : (n : ℕ) → 2 ≤ n → (a b : Sextet) → Fits a → Fits b → Holds n (lastTwo a b)
 unfolding lastTwo Bytes
-two-holds n l a b =
-    tested (Holds n) (leb a 63 && (leb b 63 && eqb (b % 16) 0)) _ _
-    (λ e.
-    let p = both-true (leb a 63) (leb b 63 && eqb (b % 16) 0) e in
-    let x = leb-true a 63 (p .0) in
-    let y = leb-true b 63 (both-true (leb b 63) (eqb (b % 16) 0) (p .1) .0) in
-    ((omega arith, tt), omega arith))
-    (λ e. tt)
+two-holds n l a b x y =
+    valued-holds n a _ x (λ u i. valued-holds n b _ y (λ v j. tested (Holds n) (eqb (v % 16) 0) _ _ (λ e. ((omega arith, tt), omega arith)) (λ e. tt)))
 
-three-holds : (n : ℕ) → 3 ≤ n → (a b c : ℕ) → Holds n (lastThree a b c)
+three-holds : (n : ℕ) → 3 ≤ n → (a b c : Sextet) → Fits a → Fits b → Fits c → Holds n (lastThree a b c)
 unfolding lastThree Bytes
-three-holds n l a b c =
-    tested (Holds n) (leb a 63 && (leb b 63 && (leb c 63 && eqb (c % 4) 0))) _ _
-    (λ e.
-    let p = both-true (leb a 63) (leb b 63 && (leb c 63 && eqb (c % 4) 0)) e in
-    let q = both-true (leb b 63) (leb c 63 && eqb (c % 4) 0) (p .1) in
-    let x = leb-true a 63 (p .0) in
-    let y = leb-true b 63 (q .0) in
-    let z = leb-true c 63 (both-true (leb c 63) (eqb (c % 4) 0) (q .1) .0) in
-    ((omega arith, (omega arith, tt)), omega arith))
-    (λ e. tt)
+three-holds n l a b c x y z =
+    valued-holds n a _ x (λ u i. valued-holds n b _ y (λ v j. valued-holds n c _ z
+    (λ w k. tested (Holds n) (eqb (w % 4) 0) _ _ (λ e. ((omega arith, (omega arith, tt)), omega arith)) (λ e. tt))))
 
-four-holds : (m n : ℕ) → 4 + m ≤ n → (a b c d : ℕ) (k : Content) → Holds m k → Holds n (fullFour a b c d k)
+four-holds : (m n : ℕ) → 4 + m ≤ n → (a b c d : Sextet) (k : Content) → Fits a → Fits b → Fits c → Fits d → Holds m k → Holds n (fullFour a b c d k)
 unfolding fullFour Bytes
-four-holds m n l a b c d k h =
-    tested (Holds n) (leb a 63 && (leb b 63 && (leb c 63 && leb d 63))) _ _
-    (λ e.
-    let p = both-true (leb a 63) (leb b 63 && (leb c 63 && leb d 63)) e in
-    let q = both-true (leb b 63) (leb c 63 && leb d 63) (p .1) in
-    let r = both-true (leb c 63) (leb d 63) (q .1) in
-    let x = leb-true a 63 (p .0) in
-    let y = leb-true b 63 (q .0) in
-    let z = leb-true c 63 (r .0) in
-    let w = leb-true d 63 (r .1) in
-    after-holds m n ((a * 4 + b / 16) ∷ (b % 16 * 16 + c / 4) ∷ (c % 4 * 64 + d) ∷ []) k (omega arith, (omega arith, (omega arith, tt))) (omega arith) h)
-    (λ e. tt)
+four-holds m n l a b c d k x y z t h =
+    valued-holds n a _ x (λ u i. valued-holds n b _ y (λ v j. valued-holds n c _ z (λ w p. valued-holds n d _ t
+    (λ r q. after-holds m n ((u * 4 + v / 16) ∷ (v % 16 * 16 + w / 4) ∷ (w % 4 * 64 + r) ∷ []) k (omega arith, (omega arith, (omega arith, tt))) (omega arith) h))))
 
-base64-holds : (s : List ℕ) (n : ℕ) → length s ≤ n → Holds n (base64From s)
+abbrev AllFit : List Sextet → Type 0
+AllFit [] = Unit {0}
+AllFit (a ∷ s) = Fits a × AllFit s
+
+base64-holds : (s : List Sextet) (n : ℕ) → AllFit s → length s ≤ n → Holds n (base64From s)
 unfolding base64From lastFour Bytes
-base64-holds [] n l = (tt, omega arith)
-base64-holds (a ∷ []) n l = tt
-base64-holds (a ∷ b ∷ []) n l = two-holds n l a b
-base64-holds (a ∷ b ∷ c ∷ []) n l = three-holds n l a b c
-base64-holds (a ∷ b ∷ c ∷ d ∷ []) n l =
-    tested (Holds n) (eqb d 64) _ _ (λ e. tested (Holds n) (eqb c 64) _ _ (λ f. two-holds n (omega arith) a b) (λ f. three-holds n (omega arith) a b c))
-    (λ e. four-holds 0 n l a b c d (standsFor []) (tt, omega arith))
-base64-holds (a ∷ b ∷ c ∷ d ∷ e ∷ s) n l = four-holds (suc (length s)) n (omega arith) a b c d (base64From (e ∷ s)) (base64-holds (e ∷ s) (suc (length s)) (omega arith))
+base64-holds [] n f l = (tt, omega arith)
+base64-holds (a ∷ []) n f l = tt
+base64-holds (a ∷ b ∷ []) n (x, (y, f)) l = two-holds n l a b x y
+base64-holds (a ∷ b ∷ c ∷ []) n (x, (y, (z, f))) l = three-holds n l a b c x y z
+base64-holds (a ∷ b ∷ c ∷ d ∷ []) n (x, (y, (z, (t, f)))) l =
+    tested (Holds n) (isPadding d) _ _ (λ e. tested (Holds n) (isPadding c) _ _ (λ e. two-holds n (omega arith) a b x y) (λ e. three-holds n (omega arith) a b c x y z))
+    (λ e. four-holds 0 n l a b c d (standsFor []) x y z t (tt, omega arith))
+base64-holds (a ∷ b ∷ c ∷ d ∷ e ∷ s) n (x, (y, (z, (t, f)))) l =
+    four-holds (suc (length s)) n (omega arith) a b c d (base64From (e ∷ s)) x y z t (base64-holds (e ∷ s) (suc (length s)) f (omega arith))
 
-sextets-most : (s : List ℕ) → length (sextets s) ≤ length s
+sextets-fit : (s : List ℕ) → AllFit (sextets s) × (length (sextets s) ≤ length s)
 unfolding sextets
-sextets-most [] = omega arith
-sextets-most (b ∷ s) = let h = sextets-most s in tested (λ (u : List ℕ). length u ≤ suc (length s)) (is blank b) _ _ (λ e. omega arith) (λ e. omega arith)
+sextets-fit [] = (tt, omega arith)
+sextets-fit (b ∷ s) =
+    let h = sextets-fit s in
+    tested (λ (u : List Sextet). AllFit u × (length u ≤ suc (length s))) (is blank b) _ _ (λ e. (h .0, omega (arith, h .1))) (λ e. ((sextet-fits b, h .0), omega (arith, h .1)))
 
 pub base64-content : (s : List ℕ) → Holds (length s) (base64Content s)
 unfolding base64Content
-base64-content s = base64-holds (sextets s) (length s) (sextets-most s)
+base64-content s = let h = sextets-fit s in base64-holds (sextets s) (length s) (h .0) (h .1)

@@ -3,12 +3,12 @@
 use Prim.Native.Nat.{ℕ, zero, suc, _+_, _*_, _≤_, _<_}
 use native.Mathlib.Omega.{arith}
 use mathlib.Core.Path.{_≡_, refl}
-use mathlib.Core.Bool.{true}
-use mathlib.Core.Logic.{_⊎_, inl, inr}
+use mathlib.Core.Bool.{true, false}
+use mathlib.Core.Logic.{inl}
 use mathlib.Core.List.{List, [], _∷_}
-use lib.Dec.{leb, ltb, eqb}
+use lib.Dec.{leb, eqb}
 use lib.ListN.{length}
-use borrow.Author.Tests.{leb-true, ltb-true, eqb-true}
+use borrow.Author.Tests.{leb-true, eqb-true}
 use Rattle.cbor.specs.Refusals.{Result, ok, refuse, bind, noToken, unknownWord, badIndicator}
 use Rattle.cbor.specs.Widths.{Width, w0, w1, w2, w4, w8, argumentBytes, limit, fits, shortest}
 use Rattle.cbor.specs.Items.{Sign, unsigned, negative, Kind, byteString, textString, Size, definite, indefinite, levels}
@@ -21,7 +21,7 @@ use Rattle.cbor.proofs.Utf8Text.{Text, text-utf8, text-bytes, text-past, text-t
 use Rattle.notation.specs.Classes.{Class, other, blank, digit, letter, underscore, minus, dot, quote, apostrophe, slash, hash, comma, colon, openParen, closeParen, openBracket, closeBracket, openBrace, closeBrace, less, greater, endMark, classNumber, classOf, is, isWord}
 use Rattle.notation.specs.Scanning.{skip, fault, expect}
 use Rattle.notation.specs.Indicators.{Indicator, absent, indefinitely, unknown, wide, indicator, Chosen, chosen, misfit, choose}
-use Rattle.notation.specs.Numbers.{digitValue, isDigit, numberFrom, digits, isFloating, radixOf, judged, integerToken, integer, otherInteger, decimal, based, afterZero, number}
+use Rattle.notation.specs.Numbers.{digitValue, isDigit, numberFrom, digits, isFloating, Radix, inRadix, noRadix, radixOf, judged, integerToken, integer, otherInteger, decimal, based, afterZero, number}
 use Rattle.notation.specs.Literals.{literalToken, quotedToken, quoted, isBody, body, Content, standsFor, bad, hexContent, base64Content, contained, encodedLiteral}
 use Rattle.notation.specs.Words.{same, falseWord, trueWord, nullWord, undefinedWord, simpleWord, infinityWord, hexPrefix, base64Prefix, isFloatWord, isPlainDecimal, simpleBy, simpleToken, value, worded, prefixed, word}
 use Rattle.notation.specs.Tokens.{Opener, bracket, brace, tagging, embedding, leaf, literal, chunking, opens, Token, begins, closes, aComma, aColon}
@@ -111,15 +111,16 @@ unfolding integerToken Valid encode levels
 int-sound g m w h = ((h, head-most (integers g) w m, refl), refl)
 
 -- a letter that gives a radix is ASCII
-abbrev Radix : ℕ → ℕ → Type 0
-Radix c radix = (radix ≤ 16) × ((radix ≡ 0) ⊎ (c < 128))
+abbrev Gives : ℕ → Radix → Type 0
+Gives c (inRadix n) = c < 128
+Gives c noRadix = Unit {0}
 
-radix-of : (c : ℕ) → Radix c (radixOf c)
+radix-of : (c : ℕ) → Gives c (radixOf c)
 unfolding radixOf
 radix-of c =
-    tested (Radix c) (eqb c 0x78) _ _ (λ e. (omega arith, inr (omega (arith, eqb-true c 0x78 e))))
-    (λ e. tested (Radix c) (eqb c 0x6f) _ _ (λ e. (omega arith, inr (omega (arith, eqb-true c 0x6f e))))
-    (λ e. tested (Radix c) (eqb c 0x62) _ _ (λ e. (omega arith, inr (omega (arith, eqb-true c 0x62 e)))) (λ e. (omega arith, inl refl))))
+    tested (Gives c) (eqb c 0x78) _ _ (λ e. omega (arith, eqb-true c 0x78 e))
+    (λ e. tested (Gives c) (eqb c 0x6f) _ _ (λ e. omega (arith, eqb-true c 0x6f e))
+    (λ e. tested (Gives c) (eqb c 0x62) _ _ (λ e. omega (arith, eqb-true c 0x62 e)) (λ e. tt)))
 
 module _ (n : ℕ) where
   judged-cuts : (m : ℕ) (i : Indicator) (make : Width → Token) → ((w : Width) → m ≤ limit w → TokenSound (make w) × (weight (make w) ≡ 0)) → (r : List ℕ) → Text true [] r → length r ≤ n
@@ -149,32 +150,33 @@ module _ (n : ℕ) where
       (λ tag v x j. tested (Cut n) tag _ _ (λ e. judged-cuts m i (λ w. begins (opens (tagging w m))) (λ w h. (h, refl)) v x j) (λ e. integer-cuts unsigned m i v x j)))
   decimal-cuts negative m s t l = other-cuts negative m s t l
 
-  digits-leaves : (radix v : ℕ) (s : List ℕ) → radix ≤ 16 → Text true [] s → length s ≤ n → Leaves (Upto n) (digits radix v s)
+  digits-leaves : (radix v : ℕ) (s : List ℕ) → Text true [] s → length s ≤ n → Leaves (Upto n) (digits radix v s)
   unfolding digits
-  digits-leaves radix v s h t l = leaves-bind (Upto n) (Upto n) _ _ (run-leaves n (isDigit radix) (digit-alone radix h) s t l) (λ w r u k. (u, k))
+  digits-leaves radix v s t l = leaves-bind (Upto n) (Upto n) _ _ (run-leaves n (isDigit radix) (digit-alone radix) s t l) (λ w r u k. (u, k))
 
-  based-cuts : (g : Sign) (radix v : ℕ) (s : List ℕ) → radix ≤ 16 → Text true [] s → length s ≤ n → Cut n (based g radix v s)
+  based-cuts : (g : Sign) (radix v : ℕ) (s : List ℕ) → Text true [] s → length s ≤ n → Cut n (based g radix v s)
   unfolding based
-  based-cuts g radix v s h t l =
-      tested (Cut n) (isFloating radix s) _ _ (λ e. tt) (λ e. then-cut n _ _ (digits-leaves radix v s h t l) (other-cuts g))
+  based-cuts g radix v s t l =
+      tested (Cut n) (isFloating radix s) _ _ (λ e. tt) (λ e. then-cut n _ _ (digits-leaves radix v s t l) (other-cuts g))
 
   zero-cuts : (g : Sign) (s : List ℕ) → Text true [] s → length s ≤ n → Cut n (afterZero g s)
-  unfolding afterZero isDigit
+  unfolding afterZero
   zero-cuts g [] t l = decimal-cuts g 0 [] t l
   zero-cuts g (c ∷ []) t l = decimal-cuts g 0 (c ∷ []) t l
-  zero-cuts g (c ∷ d ∷ s) t l =
-      tested (Cut n) (isDigit (radixOf c) d) _ _ (λ e. based-cuts g (radixOf c) (digitValue d) s (radix-of c .0) (go e (radix-of c)) (omega arith)) (λ e. decimal-cuts g 0 (c ∷ d ∷ s) t l)
+  zero-cuts g (c ∷ d ∷ s) t l = go (radixOf c) (radix-of c)
     where
-      go : ltb (digitValue d) (radixOf c) ≡ true → Radix c (radixOf c) → Text true [] s
-      go e (k, inl z) = absurd (omega (arith, ltb-true (digitValue d) (radixOf c) e))
-      go e (k, inr a) = text-past (digit-alone (radixOf c) k d e) (text-past (inl a) t .1) .1
+      go : (x : Radix) → Gives c x
+          → Cut n (elim x [ inRadix n ↦ elim (isDigit n d) [ true ↦ based g n (digitValue d) s | false ↦ decimal g 0 (c ∷ d ∷ s) ] | noRadix ↦ decimal g 0 (c ∷ d ∷ s) ])
+      go (inRadix m) a =
+          tested (Cut n) (isDigit m d) _ _ (λ e. based-cuts g m (digitValue d) s (text-past (digit-alone m d e) (text-past (inl a) t .1) .1) (omega arith)) (λ e. decimal-cuts g 0 (c ∷ d ∷ s) t l)
+      go noRadix a = decimal-cuts g 0 (c ∷ d ∷ s) t l
 
   number-cuts : (g : Sign) (b : ℕ) (s : List ℕ) → Text true [] s → length s ≤ n → Cut n (number g b s)
   unfolding number
   number-cuts g b s t l =
       tested (Cut n) (isFloating 10 s) _ _ (λ e. tt)
       (λ e. tested (Cut n) (eqb b 0x30) _ _ (λ e. zero-cuts g s t l)
-      (λ e. then-cut n _ _ (digits-leaves 10 (digitValue b) s (omega arith) t l) (decimal-cuts g)))
+      (λ e. then-cut n _ _ (digits-leaves 10 (digitValue b) s t l) (decimal-cuts g)))
 
 -- STRINGS, read from n, which is not too long
 
@@ -239,7 +241,7 @@ module _ (n : ℕ) (short : n ≤ most) where
   simple-cuts s t l =
       then-cut n _ _ (whether-leaves n 0x28 (omega arith) s t l)
       (λ there r u k. tested (Cut n) there _ _
-      (λ e. then-cut n _ _ (run-leaves n (isDigit 10) (digit-alone 10 (omega arith)) r u k)
+      (λ e. then-cut n _ _ (run-leaves n (isDigit 10) (digit-alone 10) r u k)
       (λ w v x j. then-cut n _ _ (expect-leaves n 0x29 (omega arith) unknownWord v x j)
       (λ o z y i. tested (Cut n) (isPlainDecimal w) _ _
       (λ e. tested (Cut n) (isSimple (numberFrom 10 0 w)) _ _ (λ f. value-cuts (numberFrom 10 0 w) f z y i) (λ f. tt)) (λ e. tt))))

@@ -17,8 +17,8 @@ use Rattle.cbor.proofs.Utf8Laws.{both-true, is-in}
 use Rattle.cbor.proofs.Utf8Text.{Text, text-nil, text-utf8, text-first, text-later, text-append, text-ascii, Alone, text-past, text-step}
 use Rattle.notation.specs.Scanning.{fault}
 use Rattle.notation.specs.Numbers.{digitValue, isDigit}
-use Rattle.notation.specs.Quoted.{utf8Of, Quoting, character, escape, unicode, paired, Move, gives, closed, wrong, Escape, escapes, escapedIn, wholeUnit, unit, moveAt, unquote}
-use Rattle.notation.proofs.TextScan.{tested, Leaves, leaves-bind, digit-alone}
+use Rattle.notation.specs.Quoted.{utf8Of, Before, noSurrogate, highSurrogate, Quoting, character, escape, unicode, paired, Move, gives, closed, wrong, Escape, escapes, escapedIn, wholeUnit, unit, moveAt, unquote}
+use Rattle.notation.proofs.TextScan.{tested, Leaves, leaves-bind, digit-alone, digit-less}
 
 -- A CODE POINT
 
@@ -97,9 +97,12 @@ utf8-of c e h = text-utf8 (utf8-few c e h .0)
 
 -- WHERE IN A STRING: a high surrogate is one, and digits make no more than they can
 
-abbrev High : ℕ → Type 0
-High zero = Unit
-High (suc h) = (0xd800 ≤ suc h) × (suc h ≤ 0xdbff)
+abbrev Surrogate : ℕ → Type 0
+Surrogate h = (0xd800 ≤ h) × (h ≤ 0xdbff)
+
+abbrev High : Before → Type 0
+High noSurrogate = Unit
+High (highSurrogate h) = Surrogate h
 
 -- k digits are still to come
 abbrev Small : ℕ → ℕ → Type 0
@@ -114,11 +117,7 @@ abbrev State : Quoting → Type 0
 State character = Unit
 State (escape h) = High h
 State (unicode k c h) = (1 ≤ k) × Small k c × High h
-State (paired h) = (0xd800 ≤ h) × (h ≤ 0xdbff)
-
-high : (h : ℕ) → 0xd800 ≤ h → h ≤ 0xdbff → High h
-high zero l m = tt
-high (suc h) l m = (l, m)
+State (paired h) = Surrogate h
 
 small-less : (k c v : ℕ) → 1 ≤ k → Small k c → v < 16 → Small (k - 1) (c * 16 + v)
 small-less zero c v o h l = absurd (omega arith)
@@ -166,9 +165,9 @@ module _ (gs : List Range) (b : ℕ) (s : List ℕ) (t : Text true gs (b ∷ s))
   raw : b ≤ 255 → Moves gs s (gives (b ∷ []) character)
   raw h = let p = text-step h t in record { asks = p .asks; rest = p .rest; state = tt; again = p .again; short = omega arith }
 
-  whole-text : Alone b → (h c : ℕ) → High h → c < 0x10000 → Moves gs s (wholeUnit h c)
+  whole-text : Alone b → (h : Before) (c : ℕ) → High h → c < 0x10000 → Moves gs s (wholeUnit h c)
   unfolding wholeUnit
-  whole-text a zero c h l =
+  whole-text a noSurrogate c h l =
       tested (Moves gs s) (isIn (0xd800 to 0xdbff) c) _ _ (λ e. silent a (paired c) (is-in (0xd800 to 0xdbff) c e))
       (λ e. tested (Moves gs s) (isIn (0xdc00 to 0xdfff) c) _ _ (λ f. tt)
       (λ f. plain a (utf8Of c) character (utf8-few c (scalar (outside (0xd800 to 0xdbff) c e) (outside (0xdc00 to 0xdfff) c f)) (omega arith)) tt))
@@ -177,10 +176,10 @@ module _ (gs : List Range) (b : ℕ) (s : List ℕ) (t : Text true gs (b ∷ s))
       scalar (inl x) y = inl x
       scalar (inr x) (inl y) = absurd (omega arith)
       scalar (inr x) (inr y) = inr y
-  whole-text a (suc h) c (l, m) n =
+  whole-text a (highSurrogate h) c (l, m) n =
       tested (Moves gs s) (isIn (0xdc00 to 0xdfff) c) _ _ (λ e. let i = is-in (0xdc00 to 0xdfff) c e in plain a _ character (utf8-few _ (inr (omega arith)) (omega arith)) tt) (λ e. tt)
 
-  unit-text : Alone b → (k c h : ℕ) → Small k c → High h → Moves gs s (unit k c h)
+  unit-text : Alone b → (k c : ℕ) (h : Before) → Small k c → High h → Moves gs s (unit k c h)
   unfolding unit
   unit-text a zero c h l m = whole-text a h c m l
   unit-text a (suc k) c h l m = silent a (unicode (suc k) c h) (omega arith, l, m)
@@ -198,20 +197,20 @@ module _ (gs : List Range) (b : ℕ) (s : List ℕ) (t : Text true gs (b ∷ s))
 
   module _ (q : ℕ) (small : q < 128) where
     move-text : (k : Quoting) → State k → Moves gs s (moveAt q k b)
-    unfolding moveAt isDigit escapes
+    unfolding moveAt escapes
     move-text character h =
         tested (Moves gs s) (eqb b q) _ _ (λ e. text-past (inl (omega (arith, eqb-true b q e))) t)
-        (λ e. tested (Moves gs s) (eqb b 0x5c) _ _ (λ e. silent (inl (omega (arith, eqb-true b 0x5c e))) (escape 0) tt)
+        (λ e. tested (Moves gs s) (eqb b 0x5c) _ _ (λ e. silent (inl (omega (arith, eqb-true b 0x5c e))) (escape noSurrogate) tt)
         (λ e. tested (Moves gs s) (leb 0x20 b && leb b 0xff) _ _ (λ e. raw (leb-true b 0xff (both-true (leb 0x20 b) (leb b 0xff) e .1))) (λ e. tt)))
-    move-text (escape zero) h =
+    move-text (escape noSurrogate) h =
         tested (Moves gs s) (eqb b q) _ _ (λ e. plain (inl (omega (arith, eqb-true b q e))) (q ∷ []) character (text-ascii small text-nil, omega arith) tt)
-        (λ e. tested (Moves gs s) (eqb b 0x75) _ _ (λ e. silent (inl (omega (arith, eqb-true b 0x75 e))) (unicode 4 0 0) (omega arith, omega arith, tt)) (λ e. escaped-text escapes tt))
-    move-text (escape (suc h)) m =
-        tested (Moves gs s) (eqb b 0x75) _ _ (λ e. silent (inl (omega (arith, eqb-true b 0x75 e))) (unicode 4 0 (suc h)) (omega arith, omega arith, m)) (λ e. tt)
+        (λ e. tested (Moves gs s) (eqb b 0x75) _ _ (λ e. silent (inl (omega (arith, eqb-true b 0x75 e))) (unicode 4 0 noSurrogate) (omega arith, omega arith, tt)) (λ e. escaped-text escapes tt))
+    move-text (escape (highSurrogate h)) m =
+        tested (Moves gs s) (eqb b 0x75) _ _ (λ e. silent (inl (omega (arith, eqb-true b 0x75 e))) (unicode 4 0 (highSurrogate h)) (omega arith, omega arith, m)) (λ e. tt)
     move-text (unicode k c h) m =
         tested (Moves gs s) (isDigit 16 b) _ _
-        (λ e. unit-text (digit-alone 16 (omega arith) b e) (k - 1) (c * 16 + digitValue b) h (small-less k c (digitValue b) (m .0) (m .1) (ltb-true (digitValue b) 16 e)) (m .2)) (λ e. tt)
-    move-text (paired h) m = tested (Moves gs s) (eqb b 0x5c) _ _ (λ e. silent (inl (omega (arith, eqb-true b 0x5c e))) (escape h) (high h (m .0) (m .1))) (λ e. tt)
+        (λ e. unit-text (digit-alone 16 b e) (k - 1) (c * 16 + digitValue b) h (small-less k c (digitValue b) (m .0) (m .1) (digit-less 16 b e)) (m .2)) (λ e. tt)
+    move-text (paired h) m = tested (Moves gs s) (eqb b 0x5c) _ _ (λ e. silent (inl (omega (arith, eqb-true b 0x5c e))) (escape (highSurrogate h)) m) (λ e. tt)
 
 -- THE STRING: its content, read where the ranges gs are asked for, and what is left of n
 

@@ -1,11 +1,11 @@
 -- What is scanned from the front of a text in UTF-8 leaves a text in UTF-8: blanks and comments, and the small steps of tokens.
 use Prim.Native.Nat.{ℕ, _≤_, _<_}
 use native.Mathlib.Omega.{arith}
-use mathlib.Core.Path.{_≡_, refl}
+use mathlib.Core.Path.{_≡_, refl, sym}
 use mathlib.Core.Bool.{Bool, true, false, _&&_, _||_}
-use mathlib.Core.Logic.{_⊎_, inl, inr}
+use mathlib.Core.Logic.{inl, inr}
 use mathlib.Core.List.{List, [], _∷_}
-use lib.Dec.{T, leb, eqb, leb→le}
+use lib.Dec.{T, leb, ltb, eqb, leb→le}
 use lib.ListN.{length}
 use borrow.Author.Tests.{eqb-true, ltb-true}
 use Rattle.cbor.specs.Refusals.{Result, ok, refuse, bind}
@@ -16,7 +16,8 @@ use Rattle.cbor.proofs.Utf8Text.{Text, text-nil, Alone, text-past, text-tail}
 use Rattle.notation.specs.Classes.{Class, blank, slash, hash, letter, digit, classNumber, ClassRow, classRows, classIn, classOf, is, isWord}
 use Rattle.notation.specs.Scanning.{isComment, Skipping, between, slashed, hashed, Skipped, skips, stops, skipped, leftIn, skipFrom, skip, run, whether, expect}
 use Rattle.notation.specs.Indicators.{indicator}
-use Rattle.notation.specs.Numbers.{digitValue, isDigit}
+use Rattle.notation.specs.Numbers.{Digit, worth, noDigit, digitAt, isDigit, digitValue}
+use Rattle.notation.proofs.ScanningElements.{clash, digit-cases}
 
 -- a fact of either case of a test is one of the test
 pub tested : {A : Type 0} (P : A → Type 0) (v : Bool) (x y : A) → (v ≡ true → P x) → (v ≡ false → P y) → P (elim v [ true ↦ x | false ↦ y ])
@@ -84,23 +85,20 @@ word-alone b e = go (is letter b) refl (is digit b) refl e
 
 -- DIGITS, which are ASCII
 
-abbrev Low : ℕ → ℕ → Type 0
-Low b v = (v ≡ 99) ⊎ (b < 128)
-
-digit-low : (b : ℕ) → Low b (digitValue b)
-unfolding digitValue
-digit-low b =
-    tested (Low b) (isIn (0x30 to 0x39) b) _ _ (λ e. let i = is-in (0x30 to 0x39) b e in inr (omega arith))
-    (λ e. tested (Low b) (isIn (0x61 to 0x66) b) _ _ (λ e. let i = is-in (0x61 to 0x66) b e in inr (omega arith))
-    (λ e. tested (Low b) (isIn (0x41 to 0x46) b) _ _ (λ e. let i = is-in (0x41 to 0x46) b e in inr (omega arith)) (λ e. inl refl)))
-
-pub digit-alone : (radix : ℕ) → radix ≤ 16 → (b : ℕ) → isDigit radix b ≡ true → Alone b
+pub digit-alone : (radix b : ℕ) → isDigit radix b ≡ true → Alone b
 unfolding isDigit
-digit-alone radix h b e = go (digit-low b)
+digit-alone radix b =
+    digit-cases (λ d. _≡_ {A = Bool} (elim d [ worth v ↦ ltb v radix | noDigit ↦ false ]) true → Alone b) b
+    (λ i e. let k = is-in (0x30 to 0x39) b i in inl (omega arith)) (λ i e. let k = is-in (0x61 to 0x66) b i in inl (omega arith))
+    (λ i e. let k = is-in (0x41 to 0x46) b i in inl (omega arith)) (λ e. absurd (clash (sym e)))
+
+pub digit-less : (radix b : ℕ) → isDigit radix b ≡ true → digitValue b < radix
+unfolding isDigit digitValue
+digit-less radix b = go (digitAt b)
   where
-    go : Low b (digitValue b) → Alone b
-    go (inl d) = absurd (omega (arith, ltb-true (digitValue b) radix e))
-    go (inr l) = inl l
+    go : (d : Digit) → _≡_ {A = Bool} (elim d [ worth v ↦ ltb v radix | noDigit ↦ false ]) true → elim d [ worth v ↦ v | noDigit ↦ 0 ] < radix
+    go (worth v) e = ltb-true v radix e
+    go noDigit e = absurd (clash (sym e))
 
 -- BLANKS AND COMMENTS
 

@@ -20,7 +20,7 @@ use Rattle.notation.specs.Scanning.{isComment, skipped, leftIn, skipFrom
 use Rattle.notation.specs.Indicators.{indicated, indicator, choose}
 use Rattle.notation.specs.Numbers.{digitValue, isDigit, numberFrom, digits, makesFloat, isFloating, radixOf, judged, integerToken, integer, decimal, afterZero, number}
 use Rattle.notation.specs.Quoted.{utf8Of, escapes, escapedIn, wholeUnit, unit, moveAt, unquote}
-use Rattle.notation.specs.Literals.{literalToken, quotedToken, quoted, isBody, body, after, halfEnd, hexDigit, hexFrom, hexContent, sextet, sextets, lastThree, lastFour, base64From, base64Content, contained, encodedLiteral}
+use Rattle.notation.specs.Literals.{literalToken, quotedToken, quoted, isBody, body, after, halfEnd, hexDigit, hexFrom, hexContent, sextetAt, valued, isPadding, sextets, lastThree, lastFour, base64From, base64Content, contained, encodedLiteral}
 use Rattle.notation.specs.Words.{same, isFloatWord, worded, prefixed, word}
 use Rattle.notation.specs.Cutting.{openingToken, cutBy, cut, place, placed, next}
 use Rattle.notation.specs.Form.{then, strayIndicator, strayClosing, stray, strays, shapeNumber, closingRule, widthRule, contains, tagRule, afterTag, inside, literalItem, beginning, oneRule, afterItem, itemsRule, afterChunk, isWanted, chunkRule, chunksRule, rules, obey, readsWithin, reads as readsBy}
@@ -111,5 +111,5 @@ textExamples =
     ∷ []
 
 pub text-examples-hold : L.map (λ (e : TextExample). textAnswerTo (e .question)) textExamples ≡ L.map (λ (e : TextExample). e .expected) textExamples
-unfolding textExamples reads refuses refusesItem prints stands textAnswerTo bytesOfText bytesOfItem printedOf spanned bind verdictOf argumentBytes limit fits shortest information bigEndian valueFrom count levels majorNumber majorOf initial head informationOf isFloat isAllowed taking started argued headBy nextHead encodeString openingHead closingBreak enclosed encode isIn rows followIn follow areIn sequenceBy firstBadFrom firstBad isUtf8 elementSize divides isTypedArray mayTag stepAt severalBy severalWithin several extent elements itemBy itemWith item decode classNumber classRows classIn classOf is isWord isComment skipped leftIn skipFrom skip run whether expect indicated indicator choose digitValue isDigit numberFrom digits makesFloat isFloating radixOf judged integerToken integer decimal afterZero number utf8Of escapes escapedIn wholeUnit unit moveAt unquote literalToken quotedToken quoted isBody body after halfEnd hexDigit hexFrom hexContent sextet sextets lastThree lastFour base64From base64Content contained encodedLiteral same isFloatWord worded prefixed word openingToken cutBy cut place placed next then strayIndicator strayClosing stray strays shapeNumber closingRule widthRule contains tagRule afterTag inside literalItem beginning oneRule afterItem itemsRule afterChunk isWanted chunkRule chunksRule rules obey readsWithin readsBy marked checked sequence readText outside alone single readItem widthName indicatorOf blankBehind sizeOf printItem printText separated past toElement toValue into toward levelsAt around spanOf spanAt
+unfolding textExamples reads refuses refusesItem prints stands textAnswerTo bytesOfText bytesOfItem printedOf spanned bind verdictOf argumentBytes limit fits shortest information bigEndian valueFrom count levels majorNumber majorOf initial head informationOf isFloat isAllowed taking started argued headBy nextHead encodeString openingHead closingBreak enclosed encode isIn rows followIn follow areIn sequenceBy firstBadFrom firstBad isUtf8 elementSize divides isTypedArray mayTag stepAt severalBy severalWithin several extent elements itemBy itemWith item decode classNumber classRows classIn classOf is isWord isComment skipped leftIn skipFrom skip run whether expect indicated indicator choose digitValue isDigit numberFrom digits makesFloat isFloating radixOf judged integerToken integer decimal afterZero number utf8Of escapes escapedIn wholeUnit unit moveAt unquote literalToken quotedToken quoted isBody body after halfEnd hexDigit hexFrom hexContent sextetAt valued isPadding sextets lastThree lastFour base64From base64Content contained encodedLiteral same isFloatWord worded prefixed word openingToken cutBy cut place placed next then strayIndicator strayClosing stray strays shapeNumber closingRule widthRule contains tagRule afterTag inside literalItem beginning oneRule afterItem itemsRule afterChunk isWanted chunkRule chunksRule rules obey readsWithin readsBy marked checked sequence readText outside alone single readItem widthName indicatorOf blankBehind sizeOf printItem printText separated past toElement toValue into toward levelsAt around spanOf spanAt
 text-examples-hold = refl

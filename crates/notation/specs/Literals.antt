@@ -89,47 +89,65 @@ hexFrom inHash h (b ∷ s) = elim (eqb b 0x0a) [ true ↦ hexFrom noComment h s 
 unfoldable pub hexContent : List ℕ → Content
 hexContent s = hexFrom noComment noHalf s
 
--- BASE64: "RFC 4648 alphabets of sections 4 and 5, .. the two mixed too"; 64 stands for `=`, 65 for what is in neither
-unfoldable pub sextet : ℕ → ℕ
-sextet b =
+-- BASE64: "RFC 4648 alphabets of sections 4 and 5, .. the two mixed too": a letter by its value, `=`, or what is in neither
+pub data Sextet : Type 0 where
+  sextet : ℕ → Sextet
+  padding nonAlphabet : Sextet
+
+unfoldable pub sextetAt : ℕ → Sextet
+sextetAt b =
     elim (isIn (0x41 to 0x5a) b) [
-      | true ↦ b - 0x41
+      | true ↦ sextet (b - 0x41)
       | false ↦ elim (isIn (0x61 to 0x7a) b) [
-        | true ↦ b - 0x47
+        | true ↦ sextet (b - 0x47)
         | false ↦ elim (isIn (0x30 to 0x39) b) [
-          | true ↦ b + 4
-          | false ↦ elim (eqb b 0x2b || eqb b 0x2d) [ true ↦ 62 | false ↦ elim (eqb b 0x2f || eqb b 0x5f) [ true ↦ 63 | false ↦ elim (eqb b 0x3d) [ true ↦ 64 | false ↦ 65 ] ] ]
+          | true ↦ sextet (b + 4)
+          | false ↦ elim (eqb b 0x2b || eqb b 0x2d) [
+            | true ↦ sextet 62
+            | false ↦ elim (eqb b 0x2f || eqb b 0x5f) [ true ↦ sextet 63 | false ↦ elim (eqb b 0x3d) [ true ↦ padding | false ↦ nonAlphabet ] ]
+          ]
         ]
       ]
     ]
 
+unfoldable pub isPadding : Sextet → Bool
+isPadding (sextet v) = false
+isPadding padding = true
+isPadding nonAlphabet = false
+
 -- "blanks allowed"
-unfoldable pub sextets : List ℕ → List ℕ
+unfoldable pub sextets : List ℕ → List Sextet
 sextets [] = []
-sextets (b ∷ s) = elim (is blank b) [ true ↦ sextets s | false ↦ sextet b ∷ sextets s ]
+sextets (b ∷ s) = elim (is blank b) [ true ↦ sextets s | false ↦ sextetAt b ∷ sextets s ]
+
+-- where only a letter may stand: what its value makes
+unfoldable pub valued : Sextet → (ℕ → Content) → Content
+valued (sextet v) k = k v
+valued padding k = bad
+valued nonAlphabet k = bad
 
 -- "unused bits zero"
-unfoldable pub lastTwo : ℕ → ℕ → Content
-lastTwo a b = elim (leb a 63 && (leb b 63 && eqb (b % 16) 0)) [ true ↦ standsFor ((a * 4 + b / 16) ∷ []) | false ↦ bad ]
+unfoldable pub lastTwo : Sextet → Sextet → Content
+lastTwo a b = valued a (λ u. valued b (λ v. elim (eqb (v % 16) 0) [ true ↦ standsFor ((u * 4 + v / 16) ∷ []) | false ↦ bad ]))
 
-unfoldable pub lastThree : ℕ → ℕ → ℕ → Content
+unfoldable pub lastThree : Sextet → Sextet → Sextet → Content
 lastThree a b c =
-    elim (leb a 63 && (leb b 63 && (leb c 63 && eqb (c % 4) 0))) [ true ↦ standsFor ((a * 4 + b / 16) ∷ (b % 16 * 16 + c / 4) ∷ []) | false ↦ bad ]
+    valued a (λ u. valued b (λ v. valued c (λ w. elim (eqb (w % 4) 0) [ true ↦ standsFor ((u * 4 + v / 16) ∷ (v % 16 * 16 + w / 4) ∷ []) | false ↦ bad ])))
 
 -- "`=` absent, or at the end the least number that makes the count a multiple of four, no single letter left over"
-unfoldable pub lastFour : ℕ → ℕ → ℕ → Content
-lastFour a b c = elim (eqb c 64) [ true ↦ lastTwo a b | false ↦ lastThree a b c ]
+unfoldable pub lastFour : Sextet → Sextet → Sextet → Content
+lastFour a b c = elim (isPadding c) [ true ↦ lastTwo a b | false ↦ lastThree a b c ]
 
-unfoldable pub fullFour : ℕ → ℕ → ℕ → ℕ → Content → Content
+unfoldable pub fullFour : Sextet → Sextet → Sextet → Sextet → Content → Content
 fullFour a b c d k =
-    elim (leb a 63 && (leb b 63 && (leb c 63 && leb d 63))) [ true ↦ after ((a * 4 + b / 16) ∷ (b % 16 * 16 + c / 4) ∷ (c % 4 * 64 + d) ∷ []) k | false ↦ bad ]
+    valued a (λ u. valued b (λ v. valued c (λ w. valued d (λ x. after ((u * 4 + v / 16) ∷ (v % 16 * 16 + w / 4) ∷ (w % 4 * 64 + x) ∷ []) k))))
 
-unfoldable pub base64From : List ℕ → Content
+unfoldable pub base64From : List Sextet → Content
 base64From [] = standsFor []
 base64From (a ∷ []) = bad
 base64From (a ∷ b ∷ []) = lastTwo a b
 base64From (a ∷ b ∷ c ∷ []) = lastThree a b c
-base64From (a ∷ b ∷ c ∷ d ∷ []) = elim (eqb d 64) [ true ↦ lastFour a b c | false ↦ fullFour a b c d (standsFor []) ]
+base64From (a ∷ b ∷ c ∷ d ∷ []) = elim (isPadding d) [ true ↦ lastFour a b c | false ↦ fullFour a b c d (standsFor []) ]
 base64From (a ∷ b ∷ c ∷ d ∷ e ∷ s) = fullFour a b c d (base64From (e ∷ s))
 
 unfoldable pub base64Content : List ℕ → Content

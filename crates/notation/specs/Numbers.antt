@@ -11,12 +11,25 @@ use Rattle.notation.specs.Scanning.{fault, run, whether}
 use Rattle.notation.specs.Indicators.{Indicator, indicator, Chosen, chosen, misfit, choose}
 use Rattle.notation.specs.Tokens.{Token, begins, leaf, opens, tagging}
 
--- the value of a digit, hexadecimal ones in either case; 99: no digit
-unfoldable pub digitValue : ℕ → ℕ
-digitValue b = elim (isIn (0x30 to 0x39) b) [ true ↦ b - 0x30 | false ↦ elim (isIn (0x61 to 0x66) b) [ true ↦ b - 0x57 | false ↦ elim (isIn (0x41 to 0x46) b) [ true ↦ b - 0x37 | false ↦ 99 ] ] ]
+-- a digit, by its value
+pub data Digit : Type 0 where
+  worth : ℕ → Digit
+  noDigit : Digit
+
+-- "hex in either case"
+abbrev pub digitAt : ℕ → Digit
+digitAt b =
+    elim (isIn (0x30 to 0x39) b) [
+      | true ↦ worth (b - 0x30)
+      | false ↦ elim (isIn (0x61 to 0x66) b) [ true ↦ worth (b - 0x57) | false ↦ elim (isIn (0x41 to 0x46) b) [ true ↦ worth (b - 0x37) | false ↦ noDigit ] ]
+    ]
 
 unfoldable pub isDigit : ℕ → ℕ → Bool
-isDigit radix b = ltb (digitValue b) radix
+isDigit radix b = elim (digitAt b) [ worth v ↦ ltb v radix | noDigit ↦ false ]
+
+-- the value of a digit; of any other byte it is never asked
+unfoldable pub digitValue : ℕ → ℕ
+digitValue b = elim (digitAt b) [ worth v ↦ v | noDigit ↦ 0 ]
 
 -- the number that digits make, behind those already read, which make v: any number of digits
 unfoldable pub numberFrom : ℕ → ℕ → List ℕ → ℕ
@@ -37,9 +50,13 @@ unfoldable pub isFloating : ℕ → List ℕ → Bool
 isFloating radix [] = false
 isFloating radix (b ∷ s) = elim (isDigit radix b) [ true ↦ isFloating radix s | false ↦ makesFloat radix b ]
 
--- the radix that `x`, `o`, `b` behind a zero give; 0: none
-unfoldable pub radixOf : ℕ → ℕ
-radixOf b = elim (eqb b 0x78) [ true ↦ 16 | false ↦ elim (eqb b 0x6f) [ true ↦ 8 | false ↦ elim (eqb b 0x62) [ true ↦ 2 | false ↦ 0 ] ] ]
+-- the radix that `x`, `o`, `b` behind a zero give
+pub data Radix : Type 0 where
+  inRadix : ℕ → Radix
+  noRadix : Radix
+
+unfoldable pub radixOf : ℕ → Radix
+radixOf b = elim (eqb b 0x78) [ true ↦ inRadix 16 | false ↦ elim (eqb b 0x6f) [ true ↦ inRadix 8 | false ↦ elim (eqb b 0x62) [ true ↦ inRadix 2 | false ↦ noRadix ] ] ]
 
 -- an argument n and its indicator: 7, then 9, else what the width makes
 unfoldable pub judged : ℕ → Chosen → (Width → Token) → List ℕ → Result Token
@@ -73,7 +90,11 @@ based g radix v s = elim (isFloating radix s) [ true ↦ fault float | false ↦
 unfoldable pub afterZero : Sign → List ℕ → Result Token
 afterZero g [] = decimal g 0 []
 afterZero g (c ∷ []) = decimal g 0 (c ∷ [])
-afterZero g (c ∷ d ∷ s) = elim (isDigit (radixOf c) d) [ true ↦ based g (radixOf c) (digitValue d) s | false ↦ decimal g 0 (c ∷ d ∷ s) ]
+afterZero g (c ∷ d ∷ s) =
+    elim (radixOf c) [
+      | inRadix n ↦ elim (isDigit n d) [ true ↦ based g n (digitValue d) s | false ↦ decimal g 0 (c ∷ d ∷ s) ]
+      | noRadix ↦ decimal g 0 (c ∷ d ∷ s)
+    ]
 
 -- an integer, or a tag opening, whose first digit is b
 unfoldable pub number : Sign → ℕ → List ℕ → Result Token

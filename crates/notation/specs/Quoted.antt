@@ -22,13 +22,17 @@ utf8Of c =
       ]
     ]
 
+-- whether a high surrogate came before, so that the low one must follow
+pub data Before : Type 0 where
+  noSurrogate : Before
+  highSurrogate : ℕ → Before
+
 -- Where in a quoted string: at a character; behind a backslash; in the digits behind `\u`, with how many are still to come and
--- what those read make; behind a high surrogate, where the low one must follow. The number is that high surrogate, 0 where there
--- is none.
+-- what those read make; behind a high surrogate, which is the number.
 pub data Quoting : Type 0 where
   character : Quoting
-  escape : ℕ → Quoting
-  unicode : ℕ → ℕ → ℕ → Quoting
+  escape : Before → Quoting
+  unicode : ℕ → ℕ → Before → Quoting
   paired : ℕ → Quoting
 
 -- what a byte does there: it stands for bytes, and the string goes on; it closes the string; it may not stand there
@@ -57,11 +61,11 @@ escapedIn [] b = wrong
 escapedIn (e ∷ es) b = elim (eqb b (e .letter)) [ true ↦ gives (e .byte ∷ []) character | false ↦ escapedIn es b ]
 
 -- the code unit behind `\u` is whole: "surrogates only in a right pair"
-unfoldable pub wholeUnit : ℕ → ℕ → Move
-wholeUnit zero c = elim (isIn (0xd800 to 0xdbff) c) [ true ↦ gives [] (paired c) | false ↦ elim (isIn (0xdc00 to 0xdfff) c) [ true ↦ wrong | false ↦ gives (utf8Of c) character ] ]
-wholeUnit (suc h) c = elim (isIn (0xdc00 to 0xdfff) c) [ true ↦ gives (utf8Of (0x10000 + (suc h - 0xd800) * 0x400 + (c - 0xdc00))) character | false ↦ wrong ]
+unfoldable pub wholeUnit : Before → ℕ → Move
+wholeUnit noSurrogate c = elim (isIn (0xd800 to 0xdbff) c) [ true ↦ gives [] (paired c) | false ↦ elim (isIn (0xdc00 to 0xdfff) c) [ true ↦ wrong | false ↦ gives (utf8Of c) character ] ]
+wholeUnit (highSurrogate h) c = elim (isIn (0xdc00 to 0xdfff) c) [ true ↦ gives (utf8Of (0x10000 + (h - 0xd800) * 0x400 + (c - 0xdc00))) character | false ↦ wrong ]
 
-unfoldable pub unit : ℕ → ℕ → ℕ → Move
+unfoldable pub unit : ℕ → ℕ → Before → Move
 unit zero c h = wholeUnit h c
 unit (suc k) c h = gives [] (unicode (suc k) c h)
 
@@ -70,13 +74,13 @@ unfoldable pub moveAt : ℕ → Quoting → ℕ → Move
 moveAt q character b =
     elim (eqb b q) [
       | true ↦ closed
-      | false ↦ elim (eqb b 0x5c) [ true ↦ gives [] (escape 0) | false ↦ elim (leb 0x20 b && leb b 0xff) [ true ↦ gives (b ∷ []) character | false ↦ wrong ] ]
+      | false ↦ elim (eqb b 0x5c) [ true ↦ gives [] (escape noSurrogate) | false ↦ elim (leb 0x20 b && leb b 0xff) [ true ↦ gives (b ∷ []) character | false ↦ wrong ] ]
     ]
-moveAt q (escape zero) b =
-    elim (eqb b q) [ true ↦ gives (q ∷ []) character | false ↦ elim (eqb b 0x75) [ true ↦ gives [] (unicode 4 0 0) | false ↦ escapedIn escapes b ] ]
-moveAt q (escape (suc h)) b = elim (eqb b 0x75) [ true ↦ gives [] (unicode 4 0 (suc h)) | false ↦ wrong ]
+moveAt q (escape noSurrogate) b =
+    elim (eqb b q) [ true ↦ gives (q ∷ []) character | false ↦ elim (eqb b 0x75) [ true ↦ gives [] (unicode 4 0 noSurrogate) | false ↦ escapedIn escapes b ] ]
+moveAt q (escape (highSurrogate h)) b = elim (eqb b 0x75) [ true ↦ gives [] (unicode 4 0 (highSurrogate h)) | false ↦ wrong ]
 moveAt q (unicode k c h) b = elim (isDigit 16 b) [ true ↦ unit (k - 1) (c * 16 + digitValue b) h | false ↦ wrong ]
-moveAt q (paired h) b = elim (eqb b 0x5c) [ true ↦ gives [] (escape h) | false ↦ wrong ]
+moveAt q (paired h) b = elim (eqb b 0x5c) [ true ↦ gives [] (escape (highSurrogate h)) | false ↦ wrong ]
 
 -- the content of a quoted string, up to its closing quote. 3: it does not end, or something may not stand in it
 unfoldable pub unquote : ℕ → Quoting → List ℕ → Result (List ℕ)

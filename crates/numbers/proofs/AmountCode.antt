@@ -6,19 +6,21 @@ use mathlib.Core.Bool.{Bool, true, false, _&&_, _||_}
 use Prim.Native.Nat.{ℕ, zero, suc, _+_, _-_, _*_, _/_, _≤_, _<_, min}
 use native.Mathlib.Nat.{le-div-iff-mul-le, mul-le-mul-left, add-mul, one-mul}
 use native.Mathlib.Omega.{arith}
-use lib.Dec.{leb, ltb, eqb}
+use lib.Dec.{leb, eqb}
 use lib.ListN.{length, drop, getD}
 use mir.Syntax.{w64 as bits64}
 use mir.Val.{Fits}
-use borrow.Author.Tests.{le-leb, lt-leb, leb-true, leb-false, lt-ltb, le-ltb, ne-eqb}
+use borrow.Author.Tests.{le-leb, lt-leb, leb-true, leb-false, ne-eqb}
 use Rattle.cbor.specs.Widths.{w8, limit}
 use Rattle.cbor.specs.Utf8.{isIn}
 use Rattle.notation.specs.Numbers.{digitValue, isDigit, numberFrom, makesFloat, isFloating}
 use Rattle.notation.specs.Reading.{marked}
 use Rattle.scanning.specs.Stands.{span}
+use Rattle.literal_body.specs.LiteralAnswers.{digitNumber}
 use Rattle.numbers.specs.NumberAnswers.{heavy, Counts, Base, Grown, floatAt, ScansDigits, Counted}
 use Rattle.numbers.specs.declared.amount.Amount.{Amount}
 use Rattle.numbers.specs.declared.amount.Digits.{Digits}
+use Rattle.literal_body.proofs.LiteralCode.{digit-yes, digit-no, digit-number}
 use Rattle.scanning.proofs.Marked.{length-marked, at-byte, byte-at, at-end, past-end, span-none, span-more, Running, run-start, run-step, run-stop, run-end}
 
 -- THE LIMIT
@@ -143,16 +145,17 @@ module _ {s : List ℕ} {i radix first : ℕ} where
     pub tally-base : {d : ℕ} → d < radix → Base radix d
     tally-base h = record { least = m .least; most = m .most; digit = h }
 
-    module _ {d : ℕ} (h : at < length s) (e : d ≡ digitValue (getD s at 0)) where
+    module _ {d : ℕ} (h : at < length s) (e : d ≡ digitNumber (getD s at 0)) where
       pub tally-step : {a′ : Amount} → d < radix → Grown a radix d a′ → Tallying s i radix first (at + 1) a′
-      unfolding isDigit isFloating
+      unfolding isFloating
       tally-step {a′} l g =
-          let t : isDigit radix (getD s at 0) ≡ true = lt-ltb (digitValue (getD s at 0)) radix (rw (sym e) l) in
+          let l′ : digitNumber (getD s at 0) < radix = rw (sym e) l in
+          let t = digit-yes radix (getD s at 0) l′ (omega (arith, m .most)) in
           let n = numberFrom radix first (span i at (marked s)) in
           let c : numberFrom radix first (span i (at + 1) (marked s)) ≡ n * radix + d =
           ap (numberFrom radix first) (span-more i at (marked s) (m .running .ahead) (omega (arith, length-marked s)))
           ∙ (number-snoc radix first (span i at (marked s)) (getD (marked s) at 0)
-          ∙ ap (λ (k : ℕ). n * radix + k) (ap digitValue (byte-at s at h) ∙ sym e)) in
+          ∙ ap (λ (k : ℕ). n * radix + k) (ap digitValue (byte-at s at h) ∙ sym (e ∙ digit-number radix (getD s at 0) t))) in
           record {
             running = run-step s (isDigit radix) i (m .running) h t;
             counts = rw c (g .is n (m .counts));
@@ -162,17 +165,17 @@ module _ {s : List ℕ} {i radix first : ℕ} where
           }
 
       pub tally-stop : radix ≤ d → Counted s i radix first (record { amount = a; next = at })
-      unfolding isDigit isFloating floatAt
+      unfolding isFloating floatAt
       tally-stop l =
-          let t : isDigit radix (getD s at 0) ≡ false = le-ltb (digitValue (getD s at 0)) radix (rw (sym e) l) in
+          let l′ : radix ≤ digitNumber (getD s at 0) = rw (sym e) l in
+          let t = digit-no radix (getD s at 0) l′ in
           record { ran = run-stop s (isDigit radix) i (m .running) h t; counts = m .counts; floats = m .floats ∙ (rw (at-byte s at h) (rw (t, isFloating))) }
 
     pub tally-end : length s ≤ at → Counted s i radix first (record { amount = a; next = at })
-    unfolding isDigit isFloating floatAt digitValue isIn
+    unfolding isDigit isFloating floatAt isIn
     tally-end l =
-        let t : ltb 99 radix ≡ false = le-ltb 99 radix (omega (arith, m .most)) in
         let e : at ≡ length s = omega (arith, m .running .inside) in
-        record { ran = run-end s (isDigit radix) i (m .running) l t; counts = m .counts; floats = m .floats ∙ (rw (at-end s at e) (rw (t, isFloating))) }
+        record { ran = run-end s (isDigit radix) i (m .running) l refl; counts = m .counts; floats = m .floats ∙ (rw (at-end s at e)) }
 
 -- FLOATS
 module _ (radix b : ℕ) where

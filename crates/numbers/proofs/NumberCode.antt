@@ -5,28 +5,31 @@ use mathlib.Core.List.{List, [], _∷_}
 use mathlib.Core.Bool.{Bool, true, false}
 use Prim.Native.Nat.{ℕ, zero, suc, _+_, _-_, _*_, _≤_, _<_, min}
 use native.Mathlib.Omega.{arith}
-use lib.Dec.{leb, ltb, eqb}
+use lib.Dec.{leb, eqb}
 use lib.ListN.{length, drop, getD}
-use borrow.Author.Tests.{le-leb, lt-leb, lt-ltb, le-ltb, ne-eqb, leb-true, leb-false}
+use borrow.Author.Tests.{le-leb, lt-leb, ne-eqb, leb-true, leb-false}
 use Rattle.cbor.specs.Refusals.{Result, ok, refuse, bind, float}
 use Rattle.cbor.specs.Widths.{Width, w8, limit}
 use Rattle.cbor.specs.Items.{Sign, unsigned, negative}
 use Rattle.cbor.specs.Utf8.{_to_, isIn}
 use Rattle.notation.specs.Indicators.{Indicator, indicator, Chosen, chosen, choose}
-use Rattle.notation.specs.Numbers.{digitValue, isDigit, numberFrom, digits, radixOf, judged, integerToken, integer, otherInteger, decimal, based, afterZero, number}
+use Rattle.notation.specs.Numbers.{worth, noDigit, isDigit, digitValue, numberFrom, digits, Radix, inRadix, noRadix, radixOf, judged, integerToken, integer, otherInteger, decimal, based, afterZero, number}
 use Rattle.notation.specs.Tokens.{Token, begins, opens, tagging}
 use Rattle.notation.specs.Reading.{marked}
 use Rattle.scanning.specs.Stands.{span}
 use Rattle.scanning.specs.ScanAnswers.{Peeked}
+use Rattle.literal_body.specs.LiteralAnswers.{digitNumber}
 use Rattle.token.specs.TokenAnswers.{indicatorNumber, itemCode, openCode, beginCode, codeOf, itemMark, openMark, beginMark, markOf, itemNumber, openNumber, beginNumber, numberOf, BeginsAs, Written, Shown, Says, Refused, TokenMade}
-use Rattle.numbers.specs.NumberAnswers.{heavy, Counts, floatAt, ScansDigits, Counted, Indicated, chooseBy, chosenNumber, Limited, Makes, Judging, Integral, Decimals, Prefixed}
+use Rattle.numbers.specs.NumberAnswers.{heavy, Counts, floatAt, ScansDigits, Counted, Indicated, chooseBy, chosenNumber, Limited, Makes, Judging, Integral, Decimals, DigitAt, radixNumber, Prefixed}
 use Rattle.cbor.specs.Flags.{signOf}
 use Rattle.numbers.specs.declared.amount.Amount.{Amount}
 use Rattle.numbers.specs.declared.amount.Digits.{Digits}
 use Rattle.numbers.specs.declared.indicator.Mark.{Mark}
 use Rattle.token.specs.declared.Token.{Token as Cut}
 use Rattle.cbor.proofs.Utf8Laws.{is-in}
-use Rattle.notation.proofs.ScanningElements.{clash}
+use Rattle.notation.proofs.ScanningElements.{clash, digit-cases}
+use Rattle.notation.proofs.TextScan.{tested, digit-less}
+use Rattle.literal_body.proofs.LiteralCode.{digit-yes, digit-no, digit-number}
 use Rattle.scanning.proofs.Marked.{at-byte, at-end, past-end, here}
 use Rattle.scanning.proofs.ScanCode.{whether-yes, whether-no}
 use Rattle.numbers.proofs.IndicatorCode.{choose-is, chosen-none, chosen-some}
@@ -179,41 +182,55 @@ pub ruleset decimal-ways = (decimal-minus, decimal-tag, decimal-plain)
 
 -- RADIXES
 module _ (b : ℕ) where
-  pub radix-x : b ≡ 0x78 → 16 ≡ radixOf b
-  unfolding radixOf
+  pub radix-x : b ≡ 0x78 → 16 ≡ radixNumber (radixOf b)
+  unfolding radixOf radixNumber
   radix-x e = rw e
 
-  pub radix-o : b ≡ 0x6f → 8 ≡ radixOf b
-  unfolding radixOf
+  pub radix-o : b ≡ 0x6f → 8 ≡ radixNumber (radixOf b)
+  unfolding radixOf radixNumber
   radix-o e = rw e
 
-  pub radix-b : b ≡ 0x62 → 2 ≡ radixOf b
-  unfolding radixOf
+  pub radix-b : b ≡ 0x62 → 2 ≡ radixNumber (radixOf b)
+  unfolding radixOf radixNumber
   radix-b e = rw e
 
-  pub radix-none : (b ≡ 0x78 → ⊥) → (b ≡ 0x6f → ⊥) → (b ≡ 0x62 → ⊥) → 0 ≡ radixOf b
-  unfolding radixOf
-  radix-none n₁ n₂ n₃ = simp (radixOf, ne-eqb b 0x78 n₁, ne-eqb b 0x6f n₂, ne-eqb b 0x62 n₃)
+  pub radix-none : (b ≡ 0x78 → ⊥) → (b ≡ 0x6f → ⊥) → (b ≡ 0x62 → ⊥) → 0 ≡ radixNumber (radixOf b)
+  unfolding radixOf radixNumber
+  radix-none n₁ n₂ n₃ = simp (radixOf, radixNumber, ne-eqb b 0x78 n₁, ne-eqb b 0x6f n₂, ne-eqb b 0x62 n₃)
 
-  radix-bounds : (radixOf b ≤ 16) × ((radixOf b ≡ 0 → ⊥) → 2 ≤ radixOf b)
-  unfolding radixOf
-  radix-bounds = go (eqb b 0x78) (eqb b 0x6f) (eqb b 0x62)
-    where
-      go : (u v w : Bool) → (elim u [ true ↦ 16 | false ↦ elim v [ true ↦ 8 | false ↦ elim w [ true ↦ 2 | false ↦ 0 ] ] ] ≤ 16)
-          × (((_≡_ {A = ℕ} (elim u [ true ↦ 16 | false ↦ elim v [ true ↦ 8 | false ↦ elim w [ true ↦ 2 | false ↦ 0 ] ] ]) 0) → ⊥) → 2 ≤ elim u [ true ↦ 16 | false ↦ elim v [ true ↦ 8 | false ↦ elim w [ true ↦ 2 | false ↦ 0 ] ] ])
-      go true v w = (omega arith, λ n. omega arith)
-      go false true w = (omega arith, λ n. omega arith)
-      go false false true = (omega arith, λ n. omega arith)
-      go false false false = (omega arith, λ n. absurd (n refl))
+  radix-bounds : (radixNumber (radixOf b) ≤ 16) × ((radixNumber (radixOf b) ≡ 0 → ⊥) → 2 ≤ radixNumber (radixOf b))
+  unfolding radixOf radixNumber
+  radix-bounds =
+      let P : Radix → Type 0 = λ x. (radixNumber x ≤ 16) × ((radixNumber x ≡ 0 → ⊥) → 2 ≤ radixNumber x) in
+      tested P (eqb b 0x78) _ _ (λ e. (omega arith, λ n. omega arith))
+      (λ e. tested P (eqb b 0x6f) _ _ (λ e. (omega arith, λ n. omega arith))
+      (λ e. tested P (eqb b 0x62) _ _ (λ e. (omega arith, λ n. omega arith)) (λ e. (omega arith, λ n. absurd (n refl)))))
 
 pub ruleset radix-ways = (radix-x, radix-o, radix-b, radix-none)
 
 no-prefix : {s : List ℕ} {at : ℕ} → ((g : Sign) → afterZero g (drop at (marked s)) ≡ decimal g 0 (drop at (marked s))) → Prefixed s at 0
 no-prefix h = record { none = λ e. h; some = λ n. absurd (n refl); inside = λ n. absurd (n refl); least = λ n. absurd (n refl); most = omega arith }
 
-zero-none : (g : Sign) (c d : ℕ) (r : List ℕ) → isDigit (radixOf c) d ≡ false → afterZero g (c ∷ d ∷ r) ≡ decimal g 0 (c ∷ d ∷ r)
-unfolding afterZero
-zero-none g c d r h = rw (h, afterZero)
+module _ (g : Sign) (c d : ℕ) (r : List ℕ) where
+  abbrev zeroBy : Radix → Result Token
+  zeroBy (inRadix n) = elim (isDigit n d) [ true ↦ based g n (digitValue d) r | false ↦ decimal g 0 (c ∷ d ∷ r) ]
+  zeroBy noRadix = decimal g 0 (c ∷ d ∷ r)
+
+  zero-none : isDigit (radixNumber (radixOf c)) d ≡ false → afterZero g (c ∷ d ∷ r) ≡ decimal g 0 (c ∷ d ∷ r)
+  unfolding afterZero radixNumber
+  zero-none = go (radixOf c)
+    where
+      go : (x : Radix) → isDigit (radixNumber x) d ≡ false → zeroBy x ≡ decimal g 0 (c ∷ d ∷ r)
+      go (inRadix n) e = rw (e, zeroBy)
+      go noRadix e = refl
+
+  zero-some : isDigit (radixNumber (radixOf c)) d ≡ true → afterZero g (c ∷ d ∷ r) ≡ based g (radixNumber (radixOf c)) (digitValue d) r
+  unfolding afterZero radixNumber
+  zero-some = go (radixOf c)
+    where
+      go : (x : Radix) → isDigit (radixNumber x) d ≡ true → zeroBy x ≡ based g (radixNumber x) (digitValue d) r
+      go (inRadix n) e = rw (e, zeroBy)
+      go noRadix e = absurd (omega (arith, digit-less 0 d e))
 
 pub prefix-past : (s : List ℕ) (at : ℕ) → length s ≤ at → Prefixed s at 0
 unfolding afterZero
@@ -224,55 +241,49 @@ prefix-past s at h = no-prefix (λ g. go g (leb at (length s)) refl)
     go g false q = rw (past-end s at (leb-false at (length s) q))
 
 pub prefix-last : (s : List ℕ) (at : ℕ) → at < length s → length s - at < 2 → Prefixed s at 0
-unfolding isDigit digitValue isIn
+unfolding isDigit isIn
 prefix-last s at l h =
     let f : at + 1 ≡ length s = omega arith in
     let c = getD s at 0 in
-    let d : isDigit (radixOf c) 256 ≡ false = le-ltb 99 (radixOf c) (omega (arith, radix-bounds c .0)) in
+    let d : isDigit (radixNumber (radixOf c)) 256 ≡ false = refl in
     let e : drop at (marked s) ≡ c ∷ 256 ∷ [] = at-byte s at l ∙ ap (λ (r : List ℕ). c ∷ r) (at-end s (at + 1) f) in
     no-prefix (λ g. rw e (zero-none g c 256 [] d))
 
-module _ (s : List ℕ) (at radix v : ℕ) (l : at < length s) (h : 2 ≤ length s - at) (e : radix ≡ radixOf (getD s at 0)) (f : v ≡ digitValue (getD s (at + 1) 0)) where
+module _ (s : List ℕ) (at radix v : ℕ) (l : at < length s) (h : 2 ≤ length s - at) (e : radix ≡ radixNumber (radixOf (getD s at 0))) (f : v ≡ digitNumber (getD s (at + 1) 0)) where
   two : drop at (marked s) ≡ getD s at 0 ∷ getD s (at + 1) 0 ∷ drop (at + 2) (marked s)
   two =
       let q : at + 1 + 1 ≡ at + 2 = omega arith in
       at-byte s at l ∙ ap (λ (r : List ℕ). getD s at 0 ∷ r) (at-byte s (at + 1) (omega arith) ∙ ap (λ (k : ℕ). getD s (at + 1) 0 ∷ drop k (marked s)) q)
 
   pub prefix-some : v < radix → Prefixed s at radix
-  unfolding afterZero isDigit
   prefix-some k =
       let c = getD s at 0 in
       let d = getD s (at + 1) 0 in
-      let t : isDigit (radixOf c) d ≡ true = lt-ltb (digitValue d) (radixOf c) (omega (arith, e, f)) in
+      let l′ : digitNumber d < radixNumber (radixOf c) = omega (arith, e, f) in
+      let t = digit-yes (radixNumber (radixOf c)) d l′ (omega (arith, radix-bounds c .0)) in
       record {
         none = λ z. absurd (omega arith);
-        some = λ n g. rw two (rw (t, afterZero) (ap (λ (k : ℕ). based g k (digitValue d) (drop (at + 2) (marked s))) (sym e)));
+        some = λ n g. rw two (zero-some g c d (drop (at + 2) (marked s)) t ∙ (λ j. based g (sym e j) (sym (digit-number (radixNumber (radixOf c)) d t) j) (drop (at + 2) (marked s))));
         inside = λ n. omega arith;
         least = λ n. rw e (radix-bounds c .1 (λ z. n (e ∙ z)));
         most = rw e (radix-bounds c .0);
       }
 
   pub prefix-none : radix ≤ v → Prefixed s at 0
-  unfolding isDigit
   prefix-none k =
       let c = getD s at 0 in
       let d = getD s (at + 1) 0 in
-      let t : isDigit (radixOf c) d ≡ false = le-ltb (digitValue d) (radixOf c) (omega (arith, e, f)) in
-      no-prefix (λ g. rw two (zero-none g c d (drop (at + 2) (marked s)) t))
+      let l′ : radixNumber (radixOf c) ≤ digitNumber d = omega (arith, e, f) in
+      no-prefix (λ g. rw two (zero-none g c d (drop (at + 2) (marked s)) (digit-no (radixNumber (radixOf c)) d l′)))
 
 pub ruleset prefix-ways = (prefix-past, prefix-last, prefix-some, prefix-none)
 
 -- BEHIND A ZERO
-pub digit-most : (b : ℕ) → digitValue b ≤ 99
-unfolding digitValue
-digit-most b = go (isIn (0x30 to 0x39) b) refl (isIn (0x61 to 0x66) b) refl (isIn (0x41 to 0x46) b) refl
-  where
-    go : (u : Bool) → isIn (0x30 to 0x39) b ≡ u → (v : Bool) → isIn (0x61 to 0x66) b ≡ v → (w : Bool) → isIn (0x41 to 0x46) b ≡ w
-        → elim u [ true ↦ b - 0x30 | false ↦ elim v [ true ↦ b - 0x57 | false ↦ elim w [ true ↦ b - 0x37 | false ↦ 99 ] ] ] ≤ 99
-    go true e v f w g = omega (arith, is-in (0x30 to 0x39) b e .1)
-    go false e true f w g = omega (arith, is-in (0x61 to 0x66) b f .1)
-    go false e false f true g = omega (arith, is-in (0x41 to 0x46) b g .1)
-    go false e false f false g = omega arith
+pub digit-most : (b : ℕ) → digitNumber b ≤ 99
+unfolding digitNumber
+digit-most b =
+    digit-cases (λ d. elim d [ worth v ↦ v | noDigit ↦ 99 ] ≤ 99) b (λ e. omega (arith, is-in (0x30 to 0x39) b e .1)) (λ e. omega (arith, is-in (0x61 to 0x66) b e .1))
+    (λ e. omega (arith, is-in (0x41 to 0x46) b e .1)) (omega arith)
 
 -- digits with what stands behind them
 module _ {s : List ℕ} {at radix v : ℕ} {d : Digits} (c : Counted s at radix v d) where
@@ -287,10 +298,10 @@ module _ {s : List ℕ} {at radix : ℕ} (p : Prefixed s at radix) (n : radix �
   pub zero-index : at + 1 < length s
   zero-index = omega (arith, p .inside n)
 
-  pub zero-scans : {v : ℕ} → v ≡ digitValue (getD s (at + 1) 0) → ScansDigits s (at + 2) radix v
+  pub zero-scans : {v : ℕ} → v ≡ digitNumber (getD s (at + 1) 0) → ScansDigits s (at + 2) radix v
   zero-scans e = record { inside = p .inside n; least = p .least n; most = p .most; start = rw e (digit-most (getD s (at + 1) 0)) }
 
-zero-is : {s : List ℕ} {at radix v : ℕ} {d : Digits} (minus b : Bool) → Prefixed s at radix → (radix ≡ 0 → ⊥) → v ≡ digitValue (getD s (at + 1) 0) → Counted s (at + 2) radix v d
+zero-is : {s : List ℕ} {at radix v : ℕ} {d : Digits} (minus b : Bool) → Prefixed s at radix → (radix ≡ 0 → ⊥) → v ≡ digitNumber (getD s (at + 1) 0) → Counted s (at + 2) radix v d
     → b ≡ floatAt radix (drop (d .next) (marked s))
     → afterZero (signOf minus) (drop at (marked s)) ≡ elim b [ true ↦ refuse float 0 | false ↦ bind (digits radix v (drop (at + 2) (marked s))) (otherInteger (signOf minus)) ]
 unfolding based
@@ -302,7 +313,7 @@ module _ {s : List ℕ} {at place radix : ℕ} {t : Cut} (minus : Bool) (p : Pre
   unfolding heavy
   zero-decimal e h = says-as (p .none e (signOf minus)) (h .is 0 (record { is = omega arith; small = omega arith }))
 
-  module _ (n : radix ≡ 0 → ⊥) {v : ℕ} (e : v ≡ digitValue (getD s (at + 1) 0)) {d : Digits} (c : Counted s (at + 2) radix v d) (b : Bool) (f : b ≡ floatAt radix (drop (d .next) (marked s))) where
+  module _ (n : radix ≡ 0 → ⊥) {v : ℕ} (e : v ≡ digitNumber (getD s (at + 1) 0)) {d : Digits} (c : Counted s (at + 2) radix v d) (b : Bool) (f : b ≡ floatAt radix (drop (d .next) (marked s))) where
     pub zero-float : b ≡ true → Refused 6 place t → Says s place t (afterZero (signOf minus) (drop at (marked s)))
     zero-float g r = says-as (zero-is minus b p n e c f ∙ rw g) (says-refuse 0 r)
 
@@ -313,10 +324,10 @@ module _ {s : List ℕ} {at place radix : ℕ} {t : Cut} (minus : Bool) (p : Pre
 pub ruleset zero-ways = (zero-decimal, zero-float, zero-integer)
 
 -- NUMBERS
-pub number-scans : (s : List ℕ) (at : ℕ) {v : ℕ} → v ≡ digitValue (getD s at 0) → at < length s → ScansDigits s (at + 1) 10 v
-number-scans s at e h = record { inside = omega arith; least = omega arith; most = omega arith; start = rw e (digit-most (getD s at 0)) }
+pub number-scans : (s : List ℕ) (at : ℕ) {v : ℕ} → v ≡ digitNumber (getD s at 0) → DigitAt s at → ScansDigits s (at + 1) 10 v
+number-scans s at e h = record { inside = omega (arith, h .inside); least = omega arith; most = omega arith; start = rw e (digit-most (getD s at 0)) }
 
-module _ {s : List ℕ} (at : ℕ) {place : ℕ} {t : Cut} (minus : Bool) {v : ℕ} (e : v ≡ digitValue (getD s at 0)) where
+module _ {s : List ℕ} (at : ℕ) {place : ℕ} {t : Cut} (minus : Bool) {v : ℕ} (e : v ≡ digitNumber (getD s at 0)) where
   module _ {d : Digits} (c : Counted s (at + 1) 10 v d) (b : Bool) (f : b ≡ floatAt 10 (drop (d .next) (marked s))) where
     pub number-float : b ≡ true → Refused 6 place t → Says s place t (number (signOf minus) (getD s at 0) (drop (at + 1) (marked s)))
     unfolding number
@@ -326,9 +337,10 @@ module _ {s : List ℕ} (at : ℕ) {place : ℕ} {t : Cut} (minus : Bool) {v : �
     unfolding number
     number-zero g z h = says-as (rw (c .floats ∙ (sym f ∙ g), number) (rw z)) h
 
-    pub number-decimal : b ≡ false → (getD s at 0 ≡ 0x30 → ⊥) → Decimals s place (d .next) minus (d .amount) t → Says s place t (number (signOf minus) (getD s at 0) (drop (at + 1) (marked s)))
+    pub number-decimal : DigitAt s at → b ≡ false → (getD s at 0 ≡ 0x30 → ⊥) → Decimals s place (d .next) minus (d .amount) t → Says s place t (number (signOf minus) (getD s at 0) (drop (at + 1) (marked s)))
     unfolding number bind
-    number-decimal g z h =
-        says-as (rw (c .floats ∙ (sym f ∙ g), number) (rw (ne-eqb (getD s at 0) 0x30 z) (rw (sym e) (rw (digits-is c))))) (h .is (value-of c) (c .counts))
+    number-decimal x g z h =
+        let i : digitValue (getD s at 0) ≡ v = sym (e ∙ digit-number 10 (getD s at 0) (x .digit)) in
+        says-as (rw (c .floats ∙ (sym f ∙ g), number) (rw (ne-eqb (getD s at 0) 0x30 z) (rw i (rw (digits-is c))))) (h .is (value-of c) (c .counts))
 
 pub ruleset number-ways = (number-float, number-zero, number-decimal)

@@ -4,17 +4,18 @@ use mathlib.Core.Path.{_≡_}
 use mathlib.Core.Bool.{Bool, true, false}
 use mathlib.Core.List.{List, [], _∷_}
 use lib.Dec.{leb, eqb}
-use lib.ListN.{length, drop}
+use lib.ListN.{length, drop, getD}
 use Rattle.cbor.specs.Refusals.{ok}
 use Rattle.cbor.specs.Widths.{Width, w0, w1, w2, w4, w8, limit, shortest}
 use Rattle.cbor.specs.Flags.{signOf}
 use Rattle.cbor.specs.Items.{Sign}
 use Rattle.notation.specs.Indicators.{Indicator, indicator, Chosen, chosen, misfit, choose}
-use Rattle.notation.specs.Numbers.{digitValue, isDigit, numberFrom, makesFloat, isFloating, judged, integer, decimal, based, afterZero}
+use Rattle.notation.specs.Numbers.{isDigit, numberFrom, makesFloat, isFloating, Radix, inRadix, noRadix, judged, integer, decimal, based, afterZero}
 use Rattle.notation.specs.Tokens.{Token}
 use Rattle.notation.specs.Reading.{marked}
 use Rattle.scanning.specs.Stands.{span}
 use Rattle.scanning.specs.ScanAnswers.{Ran}
+use Rattle.literal_body.specs.LiteralAnswers.{digitNumber}
 use Rattle.token.specs.TokenAnswers.{widthNumber, indicatorNumber, codeOf, markOf, numberOf, Written, Says}
 use Rattle.numbers.specs.declared.amount.Amount.{Amount}
 use Rattle.numbers.specs.declared.amount.Digits.{Digits}
@@ -98,10 +99,20 @@ pub record Integral (minus : Bool) (a : Amount) (m : Mark) (place : ℕ) (t : Cu
 pub record Decimals (s : List ℕ) (place at : ℕ) (minus : Bool) (a : Amount) (t : Cut) : Type 0 where
   pub is : (n : ℕ) → Counts a n → Says s place t (decimal (signOf minus) n (drop at (marked s)))
 
+-- a decimal digit stands there
+pub record DigitAt (s : List ℕ) (at : ℕ) : Type 0 where
+  pub inside : at < length s
+  pub digit : isDigit 10 (getD s at 0) ≡ true
+
+-- the number of a radix, 0 where there is none
+unfoldable pub radixNumber : Radix → ℕ
+radixNumber (inRadix n) = n
+radixNumber noRadix = 0
+
 -- the radix behind a zero, with a digit of it; 0: none
 pub record Prefixed (s : List ℕ) (at radix : ℕ) : Type 0 where
   pub none : radix ≡ 0 → (g : Sign) → afterZero g (drop at (marked s)) ≡ decimal g 0 (drop at (marked s))
-  pub some : (radix ≡ 0 → ⊥) → (g : Sign) → afterZero g (drop at (marked s)) ≡ based g radix (digitValue (lib.ListN.getD s (at + 1) 0)) (drop (at + 2) (marked s))
+  pub some : (radix ≡ 0 → ⊥) → (g : Sign) → afterZero g (drop at (marked s)) ≡ based g radix (digitNumber (getD s (at + 1) 0)) (drop (at + 2) (marked s))
   pub inside : (radix ≡ 0 → ⊥) → at + 2 ≤ length s
   pub least : (radix ≡ 0 → ⊥) → 2 ≤ radix
   pub most : radix ≤ 16

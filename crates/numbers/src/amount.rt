@@ -5,8 +5,9 @@ ghost use Prim.Native.Nat.{_+_, _*_};
 ghost use lib.Dec.{leb};
 ghost use lib.ListN.{drop};
 ghost use Rattle.cbor.specs.Widths.{w8, limit};
-ghost use Rattle.notation.specs.Numbers.{digitValue, makesFloat};
+ghost use Rattle.notation.specs.Numbers.{makesFloat};
 ghost use Rattle.notation.specs.Reading.{marked};
+ghost use Rattle.literal_body.specs.LiteralAnswers.{digitNumber};
 ghost use Rattle.numbers.specs.NumberAnswers.{Base, Grown, floatAt, ScansDigits, Counted};
 
 // A number: value, or 2^64 + value if over, which is then 0 or 1, and 1 stands for all that are larger.
@@ -22,7 +23,7 @@ pub struct Digits {
 
 // The value of a digit, hexadecimal ones in either case; 99: no digit.
 pub(crate) fn digit_value(b: u8) -> u64
-    ensures { λ r. ⌜ r ≡ digitValue b ⌝ }
+    ensures { λ r. ⌜ r ≡ digitNumber b ⌝ }
 {
     hex_value(b) as u64
 }

@@ -12,12 +12,12 @@ use token::made;
 use token::refuse;
 ghost use mathlib.Core.Path.{_≡_};
 ghost use mathlib.Core.Bool.{true};
-ghost use Prim.Native.Nat.{_+_, _≤_, _<_};
+ghost use Prim.Native.Nat.{_+_, _≤_};
 ghost use lib.ListN.{length, drop, getD};
 ghost use Rattle.notation.specs.Numbers.{afterZero, number, radixOf};
 ghost use Rattle.notation.specs.Reading.{marked};
 ghost use Rattle.token.specs.TokenAnswers.{Says};
-ghost use Rattle.numbers.specs.NumberAnswers.{Judging, Integral, Decimals, Prefixed};
+ghost use Rattle.numbers.specs.NumberAnswers.{Judging, Integral, Decimals, DigitAt, radixNumber, Prefixed};
 ghost use Rattle.cbor.specs.Flags.{signOf};
 
 // An argument and its indicator: 7, then 9, else the token of a code.
@@ -78,7 +78,7 @@ fn decimal(text: &[u8], place: usize, at: usize, minus: bool, a: Amount) -> Toke
 }
 
 fn radix_of(b: u8) -> u64
-    ensures { λ r. ⌜ r ≡ radixOf b ⌝ }
+    ensures { λ r. ⌜ r ≡ radixNumber (radixOf b) ⌝ }
 {
     match b {
         0x78 => 16,
@@ -134,7 +134,7 @@ fn after_zero(text: &[u8], place: usize, at: usize, minus: bool) -> Token
 
 // The integer, or the opening of a tag, whose first digit stands at a place.
 pub fn number(text: &[u8], place: usize, at: usize, minus: bool) -> Token
-    requires { ⌜ at < length (now text) ⌝ }
+    requires { ⌜ DigitAt (now text) at ⌝ }
     ensures { λ r. ⌜ Says (now (text .entry)) place r (number (signOf minus) (getD (now (text .entry)) at 0) (drop (at + 1) (marked (now (text .entry))))) ⌝ }
 {
     let b = text[at];

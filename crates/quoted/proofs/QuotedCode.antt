@@ -9,21 +9,28 @@ use lib.Dec.{eqb}
 use lib.ListN.{length}
 use borrow.Author.Tests.{le-leb, lt-leb, eq-eqb, ne-eqb, lt-ltb, le-ltb}
 use Rattle.cbor.specs.Utf8.{_to_, isIn}
-use Rattle.notation.specs.Numbers.{digitValue, isDigit}
-use Rattle.notation.specs.Quoted.{utf8Of, character, escape, unicode, paired, Move, gives, closed, wrong, Escape, escapes, escapedIn, wholeUnit, unit, moveAt}
-use Rattle.literal_body.specs.LiteralAnswers.{Put}
-use Rattle.quoted.specs.QuotedAnswers.{quotingOf, emitted, moveOf, roomOf, High, Sound, UnitDigits, Whole, Emits, Goes, Sized, escapedAs, Escaped, Tail}
+use Rattle.notation.specs.Quoted.{utf8Of, Before, noSurrogate, highSurrogate, character, escape, unicode, paired, Move, gives, closed, wrong, Escape, escapes, escapedIn, wholeUnit, unit, moveAt}
+use Rattle.literal_body.specs.LiteralAnswers.{digitNumber, Put}
+use Rattle.quoted.specs.QuotedAnswers.{beforeOf, quotingOf, emitted, moveOf, roomOf, Surrogate, High, Sound, UnitDigits, Whole, Emits, Goes, Sized, escapedAs, Escaped, Tail}
 use Rattle.quoted.specs.declared.QuotedStep.{QuotedStep}
-use Rattle.literal_body.proofs.LiteralCode.{put-none, put-more}
+use Rattle.literal_body.proofs.LiteralCode.{digit-yes, digit-no, digit-number, put-none, put-more}
 
 -- WAYS TO MOVE
+
+before-high : (h : ℕ) → 0xd800 ≤ h → beforeOf h ≡ highSurrogate h
+unfolding beforeOf
+before-high zero l = absurd (omega arith)
+before-high (suc h) l = refl
 
 no-high : High 0
 no-high = record { top = omega arith; none = λ h. refl }
 
+surrogate-high : {h : ℕ} → Surrogate h → High h
+surrogate-high x = record { top = x .top; none = λ z. absurd (omega (arith, x .from)) }
+
 pub at-start : Sound 0 0 0
 unfolding roomOf
-at-start = record { most = omega arith; unit = omega arith; small = omega arith; high = no-high }
+at-start = record { most = omega arith; unit = omega arith; small = omega arith; high = no-high; pair = λ z. absurd (omega arith) }
 
 module _ {m : Move} {r : QuotedStep} where
   -- nothing is given, and the string goes on at another place
@@ -47,7 +54,7 @@ module _ {m : Move} {r : QuotedStep} where
   unfolding moveOf
   is-wrong e q = subst⁻¹ (Goes m) e (record { is = q; sound = at-start; emits = record { byte = λ z. omega arith; point = omega arith }; most = omega arith })
 
-quoting-digits : (m u h : ℕ) → (m ≡ 0 → ⊥) → (m ≡ 5 → ⊥) → (m ≡ 6 → ⊥) → quotingOf m u h ≡ unicode m u h
+quoting-digits : (m u h : ℕ) → (m ≡ 0 → ⊥) → (m ≡ 5 → ⊥) → (m ≡ 6 → ⊥) → quotingOf m u h ≡ unicode m u (beforeOf h)
 unfolding quotingOf
 quoting-digits m u h n₀ n₅ n₆ = simp (quotingOf, ne-eqb m 0 n₀, ne-eqb m 5 n₅, ne-eqb m 6 n₆)
 
@@ -60,9 +67,9 @@ module _ (q b : ℕ) where
 
   module _ (n : b ≡ q → ⊥) where
     pub character-backslash : {r : QuotedStep} → b ≡ 0x5c → r ≡ record { kind = 0; value = 0; mode = 5; unit = 0; high = 0 } → Goes (moveAt q character b) r
-    unfolding moveAt quotingOf roomOf
+    unfolding moveAt quotingOf beforeOf roomOf
     character-backslash e p =
-        goes-on 5 0 0 p (record { most = omega arith; unit = omega arith; small = omega arith; high = no-high }) (simp (moveAt, ne-eqb b q n, eq-eqb b 0x5c e))
+        goes-on 5 0 0 p (record { most = omega arith; unit = omega arith; small = omega arith; high = no-high; pair = λ z. absurd (omega arith) }) (simp (moveAt, ne-eqb b q n, eq-eqb b 0x5c e))
 
     module _ (n₂ : b ≡ 0x5c → ⊥) where
       pub character-low : {r : QuotedStep} → b < 0x20 → r ≡ record { kind = 4; value = 0; mode = 0; unit = 0; high = 0 } → Goes (moveAt q character b) r
@@ -129,48 +136,48 @@ pub ruleset escaped-ways = (escaped-backslash, escaped-slash, escaped-b, escaped
 
 four-start : {h : ℕ} → High h → Sound 4 0 h
 unfolding roomOf
-four-start x = record { most = omega arith; unit = omega arith; small = omega arith; high = x }
+four-start x = record { most = omega arith; unit = omega arith; small = omega arith; high = x; pair = λ z. absurd (omega arith) }
 
--- a surrogate is no 0
-escape-high : (q h b : ℕ) → 0xd800 ≤ h → moveAt q (escape h) b ≡ elim (eqb b 0x75) [ true ↦ gives [] (unicode 4 0 h) | false ↦ wrong ]
-unfolding moveAt
+escape-high : (q h b : ℕ) → 0xd800 ≤ h → moveAt q (escape (beforeOf h)) b ≡ elim (eqb b 0x75) [ true ↦ gives [] (unicode 4 0 (beforeOf h)) | false ↦ wrong ]
+unfolding moveAt beforeOf
 escape-high q zero b l = absurd (omega arith)
 escape-high q (suc h) b l = refl
 
-escape-none : (q h b : ℕ) → h ≡ 0 → moveAt q (escape h) b ≡ moveAt q (escape 0) b
-escape-none q h b e = ap (λ (x : ℕ). moveAt q (escape x) b) e
+escape-none : (q h b : ℕ) → h ≡ 0 → moveAt q (escape (beforeOf h)) b ≡ moveAt q (escape noSurrogate) b
+unfolding beforeOf
+escape-none q h b e = ap (λ (x : ℕ). moveAt q (escape (beforeOf x)) b) e
 
 module _ (q h b : ℕ) (x : High h) where
-  pub escape-low : {r : QuotedStep} → 0xd800 ≤ h → b ≡ 0x75 → r ≡ record { kind = 0; value = 0; mode = 4; unit = 0; high = h } → Goes (moveAt q (escape h) b) r
+  pub escape-low : {r : QuotedStep} → 0xd800 ≤ h → b ≡ 0x75 → r ≡ record { kind = 0; value = 0; mode = 4; unit = 0; high = h } → Goes (moveAt q (escape (beforeOf h)) b) r
   unfolding quotingOf
   escape-low l e p = goes-on 4 0 h p (four-start x) (escape-high q h b l ∙ rw e)
 
-  pub escape-lone : {r : QuotedStep} → 0xd800 ≤ h → (b ≡ 0x75 → ⊥) → r ≡ record { kind = 4; value = 0; mode = 0; unit = 0; high = 0 } → Goes (moveAt q (escape h) b) r
+  pub escape-lone : {r : QuotedStep} → 0xd800 ≤ h → (b ≡ 0x75 → ⊥) → r ≡ record { kind = 4; value = 0; mode = 0; unit = 0; high = 0 } → Goes (moveAt q (escape (beforeOf h)) b) r
   escape-lone l n p = is-wrong p (escape-high q h b l ∙ rw (ne-eqb b 0x75 n))
 
   module _ (l : h < 0xd800) where
-    none-is : moveAt q (escape h) b ≡ moveAt q (escape 0) b
+    none-is : moveAt q (escape (beforeOf h)) b ≡ moveAt q (escape noSurrogate) b
     none-is = escape-none q h b (x .none l)
 
-    pub escape-quote : {r : QuotedStep} → q < 256 → b ≡ q → r ≡ record { kind = 1; value = q; mode = 0; unit = 0; high = 0 } → Goes (moveAt q (escape h) b) r
+    pub escape-quote : {r : QuotedStep} → q < 256 → b ≡ q → r ≡ record { kind = 1; value = q; mode = 0; unit = 0; high = 0 } → Goes (moveAt q (escape (beforeOf h)) b) r
     unfolding moveAt
     escape-quote u e p = give-byte q p u (none-is ∙ rw (eq-eqb b q e, moveAt))
 
     module _ (n : b ≡ q → ⊥) where
-      pub escape-unicode : {r : QuotedStep} → b ≡ 0x75 → r ≡ record { kind = 0; value = 0; mode = 4; unit = 0; high = 0 } → Goes (moveAt q (escape h) b) r
-      unfolding moveAt quotingOf
+      pub escape-unicode : {r : QuotedStep} → b ≡ 0x75 → r ≡ record { kind = 0; value = 0; mode = 4; unit = 0; high = 0 } → Goes (moveAt q (escape (beforeOf h)) b) r
+      unfolding moveAt quotingOf beforeOf
       escape-unicode e p = goes-on 4 0 0 p (four-start no-high) (none-is ∙ simp (moveAt, ne-eqb b q n, eq-eqb b 0x75 e))
 
       module _ {v : ℕ} (n₂ : b ≡ 0x75 → ⊥) (y : Escaped b v) where
-        letter : moveAt q (escape h) b ≡ escapedAs v
+        letter : moveAt q (escape (beforeOf h)) b ≡ escapedAs v
         unfolding moveAt
         letter = none-is ∙ (simp (moveAt, ne-eqb b q n, ne-eqb b 0x75 n₂)) ∙ y .is
 
-        pub escape-wrong : {r : QuotedStep} → v ≡ 0 → r ≡ record { kind = 4; value = 0; mode = 0; unit = 0; high = 0 } → Goes (moveAt q (escape h) b) r
+        pub escape-wrong : {r : QuotedStep} → v ≡ 0 → r ≡ record { kind = 4; value = 0; mode = 0; unit = 0; high = 0 } → Goes (moveAt q (escape (beforeOf h)) b) r
         unfolding escapedAs
         escape-wrong e p = is-wrong p (letter ∙ rw (eq-eqb v 0 e, escapedAs))
 
-        pub escape-letter : {r : QuotedStep} → (v ≡ 0 → ⊥) → r ≡ record { kind = 1; value = v; mode = 0; unit = 0; high = 0 } → Goes (moveAt q (escape h) b) r
+        pub escape-letter : {r : QuotedStep} → (v ≡ 0 → ⊥) → r ≡ record { kind = 1; value = v; mode = 0; unit = 0; high = 0 } → Goes (moveAt q (escape (beforeOf h)) b) r
         unfolding escapedAs
         escape-letter e p = give-byte v p (y .byte) (letter ∙ rw (ne-eqb v 0 e, escapedAs))
 
@@ -179,10 +186,11 @@ pub ruleset escape-ways = (escape-low, escape-lone, escape-quote, escape-unicode
 -- BEHIND A HIGH SURROGATE
 
 module _ (h b : ℕ) where
-  pub pair-backslash : {r : QuotedStep} → High h → b ≡ 0x5c → r ≡ record { kind = 0; value = 0; mode = 5; unit = 0; high = h } → Goes (moveAt 0 (paired h) b) r
+  pub pair-backslash : {r : QuotedStep} → Surrogate h → b ≡ 0x5c → r ≡ record { kind = 0; value = 0; mode = 5; unit = 0; high = h } → Goes (moveAt 0 (paired h) b) r
   unfolding moveAt quotingOf roomOf
   pair-backslash x e p =
-      goes-on 5 0 h p (record { most = omega arith; unit = omega arith; small = omega arith; high = x }) (rw (eq-eqb b 0x5c e, moveAt))
+      goes-on 5 0 h p (record { most = omega arith; unit = omega arith; small = omega arith; high = surrogate-high x; pair = λ z. absurd (omega arith) })
+      ((rw (eq-eqb b 0x5c e, moveAt)) ∙ ap (λ (y : Before). gives [] (escape y)) (sym (before-high h (x .from))))
 
   pub pair-wrong : {r : QuotedStep} → (b ≡ 0x5c → ⊥) → r ≡ record { kind = 4; value = 0; mode = 0; unit = 0; high = 0 } → Goes (moveAt 0 (paired h) b) r
   unfolding moveAt
@@ -205,37 +213,37 @@ unfolding isIn
 above-range l h c p q = rw (le-leb l c p, lt-leb c h q)
 
 -- behind a high surrogate
-whole-high : (h c : ℕ) → 0xd800 ≤ h → wholeUnit h c ≡ elim (isIn (0xdc00 to 0xdfff) c) [ true ↦ gives (utf8Of (0x10000 + (h - 0xd800) * 0x400 + (c - 0xdc00))) character | false ↦ wrong ]
+whole-high : (h c : ℕ) → 0xd800 ≤ h → wholeUnit (beforeOf h) c ≡ elim (isIn (0xdc00 to 0xdfff) c) [ true ↦ gives (utf8Of (0x10000 + (h - 0xd800) * 0x400 + (c - 0xdc00))) character | false ↦ wrong ]
 unfolding wholeUnit
-whole-high zero c l = absurd (omega arith)
-whole-high (suc h) c l = refl
+whole-high h c l = rw (before-high h l)
 
 -- behind none
 wholeBy : Bool → Bool → ℕ → Move
 wholeBy t u c = elim t [ true ↦ gives [] (paired c) | false ↦ elim u [ true ↦ wrong | false ↦ gives (utf8Of c) character ] ]
 
-whole-zero : (c : ℕ) (t u : Bool) → isIn (0xd800 to 0xdbff) c ≡ t → isIn (0xdc00 to 0xdfff) c ≡ u → wholeUnit 0 c ≡ wholeBy t u c
+whole-zero : (c : ℕ) (t u : Bool) → isIn (0xd800 to 0xdbff) c ≡ t → isIn (0xdc00 to 0xdfff) c ≡ u → wholeUnit noSurrogate c ≡ wholeBy t u c
 unfolding wholeUnit wholeBy
 whole-zero c t u e f = λ j. wholeBy (e j) (f j) c
 
 module _ (h u : ℕ) (x : Whole u h) where
   module _ (l : 0xd800 ≤ h) where
-    pub whole-below : {r : QuotedStep} → u < 0xdc00 → r ≡ record { kind = 4; value = 0; mode = 0; unit = 0; high = 0 } → Goes (wholeUnit h u) r
+    pub whole-below : {r : QuotedStep} → u < 0xdc00 → r ≡ record { kind = 4; value = 0; mode = 0; unit = 0; high = 0 } → Goes (wholeUnit (beforeOf h) u) r
     whole-below a p = is-wrong p (whole-high h u l ∙ rw (below-range 0xdc00 0xdfff u a))
 
-    pub whole-above : {r : QuotedStep} → 0xdc00 ≤ u → 0xdfff < u → r ≡ record { kind = 4; value = 0; mode = 0; unit = 0; high = 0 } → Goes (wholeUnit h u) r
+    pub whole-above : {r : QuotedStep} → 0xdc00 ≤ u → 0xdfff < u → r ≡ record { kind = 4; value = 0; mode = 0; unit = 0; high = 0 } → Goes (wholeUnit (beforeOf h) u) r
     whole-above a a₂ p = is-wrong p (whole-high h u l ∙ rw (above-range 0xdc00 0xdfff u a a₂))
 
-    pub whole-pair : {r : QuotedStep} → 0xdc00 ≤ u → u ≤ 0xdfff → r ≡ record { kind = 2; value = 0x10000 + (h - 0xd800) * 0x400 + (u - 0xdc00); mode = 0; unit = 0; high = 0 } → Goes (wholeUnit h u) r
+    pub whole-pair : {r : QuotedStep} → 0xdc00 ≤ u → u ≤ 0xdfff → r ≡ record { kind = 2; value = 0x10000 + (h - 0xd800) * 0x400 + (u - 0xdc00); mode = 0; unit = 0; high = 0 } → Goes (wholeUnit (beforeOf h) u) r
     whole-pair a a₂ p =
         let f : 0x10000 + (h - 0xd800) * 0x400 + (u - 0xdc00) < 0x110000 = omega (arith, x .high .top) in
         give-point _ p f (whole-high h u l ∙ rw (in-range 0xdc00 0xdfff u a a₂))
 
   module _ (l : h < 0xd800) where
-    alone : wholeUnit h u ≡ wholeUnit 0 u
-    alone = ap (λ (k : ℕ). wholeUnit k u) (x .high .none l)
+    alone : wholeUnit (beforeOf h) u ≡ wholeUnit noSurrogate u
+    unfolding beforeOf
+    alone = ap (λ (k : ℕ). wholeUnit (beforeOf k) u) (x .high .none l)
 
-    pub whole-low : {r : QuotedStep} → u < 0xd800 → r ≡ record { kind = 2; value = u; mode = 0; unit = 0; high = 0 } → Goes (wholeUnit h u) r
+    pub whole-low : {r : QuotedStep} → u < 0xd800 → r ≡ record { kind = 2; value = u; mode = 0; unit = 0; high = 0 } → Goes (wholeUnit (beforeOf h) u) r
     unfolding wholeBy
     whole-low a p =
         let a₂ : u < 0xdc00 = omega arith in
@@ -243,22 +251,22 @@ module _ (h u : ℕ) (x : Whole u h) where
         give-point u p f (alone ∙ whole-zero u false false (below-range 0xd800 0xdbff u a) (below-range 0xdc00 0xdfff u a₂))
 
     module _ (g : 0xd800 ≤ u) where
-      pub whole-first : {r : QuotedStep} → u < 0xdc00 → r ≡ record { kind = 0; value = 0; mode = 6; unit = 0; high = u } → Goes (wholeUnit h u) r
+      pub whole-first : {r : QuotedStep} → u < 0xdc00 → r ≡ record { kind = 0; value = 0; mode = 6; unit = 0; high = u } → Goes (wholeUnit (beforeOf h) u) r
       unfolding wholeBy quotingOf roomOf
       whole-first a p =
           let a₂ : u ≤ 0xdbff = omega arith in
-          let y : High u = record { top = a₂; none = λ z. absurd (omega arith) } in
-          goes-on 6 0 u p (record { most = omega arith; unit = omega arith; small = omega arith; high = y }) (alone ∙ whole-zero u true _ (in-range 0xd800 0xdbff u g a₂) refl)
+          let y : Surrogate u = record { from = g; top = a₂ } in
+          goes-on 6 0 u p (record { most = omega arith; unit = omega arith; small = omega arith; high = surrogate-high y; pair = λ z. y }) (alone ∙ whole-zero u true _ (in-range 0xd800 0xdbff u g a₂) refl)
 
       module _ (a : 0xdc00 ≤ u) where
         not-first : isIn (0xd800 to 0xdbff) u ≡ false
         not-first = let a₂ : 0xdbff < u = omega arith in above-range 0xd800 0xdbff u g a₂
 
-        pub whole-lone : {r : QuotedStep} → u < 0xe000 → r ≡ record { kind = 4; value = 0; mode = 0; unit = 0; high = 0 } → Goes (wholeUnit h u) r
+        pub whole-lone : {r : QuotedStep} → u < 0xe000 → r ≡ record { kind = 4; value = 0; mode = 0; unit = 0; high = 0 } → Goes (wholeUnit (beforeOf h) u) r
         unfolding wholeBy
         whole-lone a₂ p = let a₃ : u ≤ 0xdfff = omega arith in is-wrong p (alone ∙ whole-zero u false true not-first (in-range 0xdc00 0xdfff u a a₃))
 
-        pub whole-top : {r : QuotedStep} → 0xe000 ≤ u → r ≡ record { kind = 2; value = u; mode = 0; unit = 0; high = 0 } → Goes (wholeUnit h u) r
+        pub whole-top : {r : QuotedStep} → 0xe000 ≤ u → r ≡ record { kind = 2; value = u; mode = 0; unit = 0; high = 0 } → Goes (wholeUnit (beforeOf h) u) r
         unfolding wholeBy
         whole-top a₂ p =
             let a₃ : 0xdfff < u = omega arith in
@@ -285,22 +293,23 @@ room-small (suc (suc zero)) u l h = omega arith
 room-small (suc (suc (suc zero))) u l h = omega arith
 room-small (suc (suc (suc (suc m)))) u l h = omega arith
 
-unit-on : (k c h : ℕ) → 1 ≤ k → unit k c h ≡ gives [] (unicode k c h)
+unit-on : (k c : ℕ) (h : Before) → 1 ≤ k → unit k c h ≡ gives [] (unicode k c h)
 unfolding unit
 unit-on zero c h l = absurd (omega arith)
 unit-on (suc k) c h l = refl
 
-module _ (m u h b : ℕ) (x : UnitDigits m u h) {v : ℕ} (d : v ≡ digitValue b) where
-  pub digit-wrong : {r : QuotedStep} → 16 ≤ v → r ≡ record { kind = 4; value = 0; mode = 0; unit = 0; high = 0 } → Goes (moveAt 0 (unicode m u h) b) r
-  unfolding moveAt isDigit
-  digit-wrong l p = let l′ : 16 ≤ digitValue b = omega arith in is-wrong p (rw (le-ltb (digitValue b) 16 l′, moveAt))
+module _ (m u h b : ℕ) (x : UnitDigits m u h) {v : ℕ} (d : v ≡ digitNumber b) where
+  pub digit-wrong : {r : QuotedStep} → 16 ≤ v → r ≡ record { kind = 4; value = 0; mode = 0; unit = 0; high = 0 } → Goes (moveAt 0 (unicode m u (beforeOf h)) b) r
+  unfolding moveAt
+  digit-wrong l p = let l′ : 16 ≤ digitNumber b = omega arith in is-wrong p (rw (digit-no 16 b l′, moveAt))
 
   module _ (l : v < 16) where
-    digit-is : moveAt 0 (unicode m u h) b ≡ unit (m - 1) (u * 16 + v) h
-    unfolding moveAt isDigit
+    digit-is : moveAt 0 (unicode m u (beforeOf h)) b ≡ unit (m - 1) (u * 16 + v) (beforeOf h)
+    unfolding moveAt
     digit-is =
-        let l′ : digitValue b < 16 = omega arith in
-        (rw (lt-ltb (digitValue b) 16 l′, moveAt)) ∙ ap (λ (k : ℕ). unit (m - 1) (u * 16 + k) h) (sym d)
+        let l′ : digitNumber b < 16 = omega arith in
+        let t = digit-yes 16 b l′ (omega arith) in
+        (rw (t, moveAt)) ∙ ap (λ (k : ℕ). unit (m - 1) (u * 16 + k) (beforeOf h)) (sym (d ∙ digit-number 16 b t))
 
     digit-room : u * 16 + v < roomOf (m - 1)
     digit-room =
@@ -312,29 +321,32 @@ module _ (m u h b : ℕ) (x : UnitDigits m u h) {v : ℕ} (d : v ≡ digitValue 
     unfolding roomOf
     digit-whole-room e = record { unit = omega (arith, x .small); high = x .high }
 
-    pub digit-last : {r : QuotedStep} → m ≡ 1 → Goes (wholeUnit h (u * 16 + v)) r → Goes (moveAt 0 (unicode m u h) b) r
+    pub digit-last : {r : QuotedStep} → m ≡ 1 → Goes (wholeUnit (beforeOf h) (u * 16 + v)) r → Goes (moveAt 0 (unicode m u (beforeOf h)) b) r
     unfolding unit
     digit-last {r} e y = subst⁻¹ (λ (k : Move). Goes k r) (digit-is ∙ rw e) y
 
-    pub digit-more : (m ≡ 1 → ⊥) → Goes (moveAt 0 (unicode m u h) b) (record { kind = 0; value = 0; mode = m - 1; unit = u * 16 + v; high = h })
+    pub digit-more : (m ≡ 1 → ⊥) → Goes (moveAt 0 (unicode m u (beforeOf h)) b) (record { kind = 0; value = 0; mode = m - 1; unit = u * 16 + v; high = h })
     digit-more n =
         let z : 1 ≤ m - 1 = omega (arith, x .least) in
         let n₀ : m - 1 ≡ 0 → ⊥ = omega arith in
         let n₅ : m - 1 ≡ 5 → ⊥ = omega (arith, x .most) in
         let n₆ : m - 1 ≡ 6 → ⊥ = omega (arith, x .most) in
-        let s : Sound (m - 1) (u * 16 + v) h = record { most = omega (arith, x .most); unit = digit-room; small = room-small (m - 1) (u * 16 + v) z digit-room; high = x .high } in
-        goes-on (m - 1) (u * 16 + v) h refl s (digit-is ∙ unit-on (m - 1) (u * 16 + v) h z ∙ ap (gives []) (sym (quoting-digits (m - 1) (u * 16 + v) h n₀ n₅ n₆)))
+        let s : Sound (m - 1) (u * 16 + v) h = record { most = omega (arith, x .most); unit = digit-room; small = room-small (m - 1) (u * 16 + v) z digit-room; high = x .high; pair = λ e. absurd (n₆ e) } in
+        goes-on (m - 1) (u * 16 + v) h refl s (digit-is ∙ unit-on (m - 1) (u * 16 + v) (beforeOf h) z ∙ ap (gives []) (sym (quoting-digits (m - 1) (u * 16 + v) h n₀ n₅ n₆)))
 
 pub ruleset digit-move-ways = (digit-wrong, digit-last, digit-more)
 
 -- ANY PLACE
+
+pub step-surrogate : {m u h : ℕ} → Sound m u h → m ≡ 6 → Surrogate h
+step-surrogate x e = x .pair e
 
 module _ (q m u h b : ℕ) {r : QuotedStep} where
   pub step-character : m ≡ 0 → Goes (moveAt q character b) r → Goes (moveAt q (quotingOf m u h) b) r
   unfolding quotingOf
   step-character e y = rw e y
 
-  pub step-escape : m ≡ 5 → Goes (moveAt q (escape h) b) r → Goes (moveAt q (quotingOf m u h) b) r
+  pub step-escape : m ≡ 5 → Goes (moveAt q (escape (beforeOf h)) b) r → Goes (moveAt q (quotingOf m u h) b) r
   unfolding quotingOf
   step-escape e y = rw e y
 
@@ -342,7 +354,7 @@ module _ (q m u h b : ℕ) {r : QuotedStep} where
   unfolding quotingOf moveAt
   step-pair e y = rw e y
 
-  pub step-digit : (m ≡ 0 → ⊥) → (m ≡ 5 → ⊥) → (m ≡ 6 → ⊥) → Goes (moveAt 0 (unicode m u h) b) r → Goes (moveAt q (quotingOf m u h) b) r
+  pub step-digit : (m ≡ 0 → ⊥) → (m ≡ 5 → ⊥) → (m ≡ 6 → ⊥) → Goes (moveAt 0 (unicode m u (beforeOf h)) b) r → Goes (moveAt q (quotingOf m u h) b) r
   unfolding moveAt
   step-digit n₀ n₅ n₆ y = rw (quoting-digits m u h n₀ n₅ n₆) y
 

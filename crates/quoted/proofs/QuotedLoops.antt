@@ -14,7 +14,7 @@ use Rattle.cbor.specs.Utf8.{_to_, isIn}
 use Rattle.notation.specs.Scanning.{fault}
 use Rattle.notation.specs.Numbers.{digitValue, isDigit}
 use Rattle.notation.specs.Reading.{marked}
-use Rattle.notation.specs.Quoted.{utf8Of, Quoting, character, escape, unicode, paired, Move, gives, closed, wrong, Escape, escapes, escapedIn, wholeUnit, unit, moveAt, unquote}
+use Rattle.notation.specs.Quoted.{utf8Of, Before, noSurrogate, highSurrogate, Quoting, character, escape, unicode, paired, Move, gives, closed, wrong, Escape, escapes, escapedIn, wholeUnit, unit, moveAt, unquote}
 use Rattle.literal_body.specs.LiteralAnswers.{scannedBy, Scans, Put, Quotes}
 use Rattle.quoted.specs.QuotedAnswers.{quotingOf, emitted, moveOf, Sound, Goes, Sized}
 use Rattle.quoted.specs.declared.QuotedStep.{QuotedStep}
@@ -47,15 +47,15 @@ unfolding escapedIn
 escaped-costs [] b = tt
 escaped-costs (e ∷ es) b = tested (Costs 0) (eqb b (e .letter)) _ _ (λ p. omega arith) (λ p. escaped-costs es b)
 
-whole-costs : (h c n : ℕ) → 3 ≤ n → Costs n (wholeUnit h c)
+whole-costs : (h : Before) (c n : ℕ) → 3 ≤ n → Costs n (wholeUnit h c)
 unfolding wholeUnit
-whole-costs zero c n l =
+whole-costs noSurrogate c n l =
     tested (Costs n) (isIn (0xd800 to 0xdbff) c) _ _ (λ p. omega arith)
     (λ p. tested (Costs n) (isIn (0xdc00 to 0xdfff) c) _ _ (λ q. tt) (λ q. omega (arith, utf8-most c)))
-whole-costs (suc h) c n l =
-    tested (Costs n) (isIn (0xdc00 to 0xdfff) c) _ _ (λ p. omega (arith, utf8-most (0x10000 + (suc h - 0xd800) * 0x400 + (c - 0xdc00)))) (λ p. tt)
+whole-costs (highSurrogate h) c n l =
+    tested (Costs n) (isIn (0xdc00 to 0xdfff) c) _ _ (λ p. omega (arith, utf8-most (0x10000 + (h - 0xd800) * 0x400 + (c - 0xdc00)))) (λ p. tt)
 
-unit-costs : (k c h : ℕ) → Costs (4 - k) (unit (k - 1) c h)
+unit-costs : (k c : ℕ) (h : Before) → Costs (4 - k) (unit (k - 1) c h)
 unfolding unit
 unit-costs zero c h = whole-costs h c 4 (omega arith)
 unit-costs (suc zero) c h = whole-costs h c 3 (omega arith)
@@ -66,9 +66,9 @@ unfolding moveAt
 move-costs q character b =
     tested (Costs 0) (eqb b q) _ _ (λ p. tt)
     (λ p. tested (Costs 0) (eqb b 0x5c) _ _ (λ r. omega arith) (λ r. tested (Costs 0) (leb 0x20 b && leb b 0xff) _ _ (λ t. omega arith) (λ t. tt)))
-move-costs q (escape zero) b =
+move-costs q (escape noSurrogate) b =
     tested (Costs 0) (eqb b q) _ _ (λ p. omega arith) (λ p. tested (Costs 0) (eqb b 0x75) _ _ (λ r. omega arith) (λ r. escaped-costs escapes b))
-move-costs q (escape (suc h)) b = tested (Costs 0) (eqb b 0x75) _ _ (λ r. omega arith) (λ r. tt)
+move-costs q (escape (highSurrogate h)) b = tested (Costs 0) (eqb b 0x75) _ _ (λ r. omega arith) (λ r. tt)
 move-costs q (unicode k c h) b = tested (Costs (4 - k)) (isDigit 16 b) _ _ (λ p. unit-costs k (c * 16 + digitValue b) h) (λ p. tt)
 move-costs q (paired h) b = tested (Costs 0) (eqb b 0x5c) _ _ (λ r. omega arith) (λ r. tt)
 
@@ -104,8 +104,8 @@ move-gives r n₃ n₄ = simp (moveOf, ne-eqb (r .kind) 3 n₃, ne-eqb (r .kind)
 mark-wrong : (q : ℕ) (k : Quoting) → q < 256 → moveAt q k 256 ≡ wrong
 unfolding moveAt escapedIn escapes isDigit digitValue isIn
 mark-wrong q character h = let n : 256 ≡ q → ⊥ = omega arith in rw (ne-eqb 256 q n, moveAt)
-mark-wrong q (escape zero) h = let n : 256 ≡ q → ⊥ = omega arith in rw (ne-eqb 256 q n, moveAt)
-mark-wrong q (escape (suc k)) h = refl
+mark-wrong q (escape noSurrogate) h = let n : 256 ≡ q → ⊥ = omega arith in rw (ne-eqb 256 q n, moveAt)
+mark-wrong q (escape (highSurrogate k)) h = refl
 mark-wrong q (unicode k c u) h = refl
 mark-wrong q (paired k) h = refl
 

@@ -5,13 +5,18 @@ use mathlib.Core.List.{List, [], _∷_}
 use mathlib.Core.Bool.{true, false}
 use lib.Dec.{eqb}
 use lib.ListN.{length}
-use Rattle.notation.specs.Quoted.{utf8Of, Quoting, character, escape, unicode, paired, Move, gives, closed, wrong, escapes, escapedIn}
+use Rattle.notation.specs.Quoted.{utf8Of, Before, noSurrogate, highSurrogate, Quoting, character, escape, unicode, paired, Move, gives, closed, wrong, escapes, escapedIn}
 use Rattle.quoted.specs.declared.QuotedStep.{QuotedStep}
+
+-- the surrogate that a number stands for; 0: none
+unfoldable pub beforeOf : ℕ → Before
+beforeOf zero = noSurrogate
+beforeOf (suc h) = highSurrogate (suc h)
 
 -- the place that a mode, what digits make, and a high surrogate stand for
 unfoldable pub quotingOf : ℕ → ℕ → ℕ → Quoting
 quotingOf m u h =
-    elim (eqb m 0) [ true ↦ character | false ↦ elim (eqb m 5) [ true ↦ escape h | false ↦ elim (eqb m 6) [ true ↦ paired h | false ↦ unicode m u h ] ] ]
+    elim (eqb m 0) [ true ↦ character | false ↦ elim (eqb m 5) [ true ↦ escape (beforeOf h) | false ↦ elim (eqb m 6) [ true ↦ paired h | false ↦ unicode m u (beforeOf h) ] ] ]
 
 -- the bytes that a kind gives: none, a byte, or a code point
 unfoldable pub emitted : ℕ → ℕ → List ℕ
@@ -34,6 +39,11 @@ roomOf (suc (suc zero)) = 0x100
 roomOf (suc (suc (suc zero))) = 0x10
 roomOf (suc (suc (suc (suc k)))) = 1
 
+-- a high surrogate
+pub record Surrogate (h : ℕ) : Type 0 where
+  pub from : 0xd800 ≤ h
+  pub top : h ≤ 0xdbff
+
 -- 0 or a high surrogate
 pub record High (h : ℕ) : Type 0 where
   pub top : h ≤ 0xdbff
@@ -44,6 +54,7 @@ pub record Sound (m u h : ℕ) : Type 0 where
   pub unit : u < roomOf m
   pub small : u < 0x1000
   pub high : High h
+  pub pair : m ≡ 6 → Surrogate h
 
 -- in the digits
 pub record UnitDigits (m u h : ℕ) : Type 0 where

@@ -9,7 +9,7 @@ ghost use lib.ListN.{drop};
 ghost use Rattle.notation.specs.Quoted.{utf8Of, character, escape, unicode, paired, wholeUnit, moveAt, unquote};
 ghost use Rattle.notation.specs.Reading.{marked};
 ghost use Rattle.literal_body.specs.LiteralAnswers.{Scans, Quotes, Put};
-ghost use Rattle.quoted.specs.QuotedAnswers.{quotingOf, emitted, High, Sound, UnitDigits, Whole, Emits, Goes, Sized, Escaped, Tail};
+ghost use Rattle.quoted.specs.QuotedAnswers.{beforeOf, quotingOf, emitted, Surrogate, High, Sound, UnitDigits, Whole, Emits, Goes, Sized, Escaped, Tail};
 
 // What a byte does. Kind 0: it gives nothing; 1: the byte `value`; 2: the code point `value`; 3: it closes the string; 4: it may
 // not stand there. Then where the string goes on. Mode 0: at a character; 1 to 4: that many digits of \u are still to come;
@@ -79,7 +79,7 @@ fn at_character(quote: u8, b: u8) -> QuotedStep
 
 fn at_escape(quote: u8, high: u32, b: u8) -> QuotedStep
     requires { ⌜ High high ⌝ }
-    ensures { λ r. ⌜ Goes (moveAt quote (escape high) b) r ⌝ }
+    ensures { λ r. ⌜ Goes (moveAt quote (escape (beforeOf high)) b) r ⌝ }
 {
     if 0xd800 <= high {
         if b == 0x75 {
@@ -103,7 +103,7 @@ fn at_escape(quote: u8, high: u32, b: u8) -> QuotedStep
 // All four digits are read: surrogates only in a right pair.
 fn whole_unit(high: u32, unit: u32) -> QuotedStep
     requires { ⌜ Whole unit high ⌝ }
-    ensures { λ r. ⌜ Goes (wholeUnit high unit) r ⌝ }
+    ensures { λ r. ⌜ Goes (wholeUnit (beforeOf high) unit) r ⌝ }
 {
     if 0xd800 <= high {
         if unit < 0xdc00 {
@@ -128,7 +128,7 @@ fn whole_unit(high: u32, unit: u32) -> QuotedStep
 
 fn at_digit(mode: u8, unit: u32, high: u32, b: u8) -> QuotedStep
     requires { ⌜ UnitDigits mode unit high ⌝ }
-    ensures { λ r. ⌜ Goes (moveAt 0 (unicode mode unit high) b) r ⌝ }
+    ensures { λ r. ⌜ Goes (moveAt 0 (unicode mode unit (beforeOf high)) b) r ⌝ }
 {
     let v = hex_value(b);
     if 16 <= v {
@@ -148,7 +148,7 @@ fn at_digit(mode: u8, unit: u32, high: u32, b: u8) -> QuotedStep
 }
 
 fn at_pair(high: u32, b: u8) -> QuotedStep
-    requires { ⌜ High high ⌝ }
+    requires { ⌜ Surrogate high ⌝ }
     ensures { λ r. ⌜ Goes (moveAt 0 (paired high) b) r ⌝ }
 {
     if b == 0x5c {

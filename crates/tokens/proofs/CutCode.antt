@@ -34,6 +34,7 @@ use Rattle.scanning.proofs.Marked.{front, length-marked, byte-at, stands-at}
 use Rattle.scanning.proofs.ScanCode.{expect-yes, expect-no}
 use Rattle.numbers.proofs.IndicatorCode.{width-some}
 use Rattle.numbers.proofs.NumberCode.{says-as, says-refuse, says-made}
+use Rattle.words.proofs.WordCode.{stood-digit}
 
 -- `[` AND `{`
 opening-known : (o : Indicator → Opener) (i : Indicator) (r : List ℕ) → (indicatorNumber i ≡ 2 → ⊥) → openingToken o i r ≡ ok (begins (opens (o i))) r
@@ -171,9 +172,6 @@ plain m tok ec em en w h =
 
 -- where such a class stands, a byte does
 module _ {s : List ℕ} {at k : ℕ} (st : Stood s at k) where
-  pub in-digit : k ≡ 2 → at < length s
-  in-digit e = st .inside (omega arith)
-
   pub in-letter : k ≡ 3 → at < length s
   in-letter e = st .inside (omega arith)
 
@@ -207,7 +205,7 @@ module _ {s : List ℕ} {at k : ℕ} (st : Stood s at k) where
   pub behind-minus : k ≡ 5 → at + 1 ≤ length s
   behind-minus e = let h : at < length s = st .inside (omega arith) in omega arith
 
-pub ruleset insides = (in-digit, in-letter, in-dot, in-openParen, in-openBracket, in-openBrace, in-less, in-greater, in-quote, in-apostrophe, behind-minus)
+pub ruleset insides = (stood-digit, in-letter, in-dot, in-openParen, in-openBracket, in-openBrace, in-less, in-greater, in-quote, in-apostrophe, behind-minus)
 
 cut-nothing : (r : List ℕ) → frontClass r ≡ 22 → cut r ≡ fault notAllowed
 unfolding cut frontClass

@@ -22,13 +22,13 @@ use Rattle.notation.specs.Reading.{marked}
 use Rattle.scanning.specs.Stands.{span}
 use Rattle.scanning.specs.ScanAnswers.{Classed, isNext, Peeked}
 use Rattle.token.specs.TokenAnswers.{itemCode, beginCode, codeOf, itemMark, beginMark, markOf, itemNumber, beginNumber, numberOf, BeginsAs, Written, Says, Refused, TokenMade}
-use Rattle.numbers.specs.NumberAnswers.{heavy, Counts, ScansDigits, Counted}
+use Rattle.numbers.specs.NumberAnswers.{heavy, Counts, ScansDigits, Counted, DigitAt}
 use Rattle.cbor.specs.Flags.{signOf}
 use Rattle.words.specs.WordAnswers.{WordPart, Enclosed, otherWord, valueWord, prefixWord, Simples, SimpleIn, frontClass, Stood}
 use Rattle.numbers.specs.declared.amount.Amount.{Amount}
 use Rattle.numbers.specs.declared.amount.Digits.{Digits}
 use Rattle.token.specs.declared.Token.{Token as Cut}
-use Rattle.notation.proofs.ScanningElements.{clash}
+use Rattle.notation.proofs.ScanningElements.{clash, class-digit}
 use Rattle.scanning.proofs.Marked.{front, length-marked, at-byte, at-end, past-end, span-none, span-split, span-length}
 use Rattle.scanning.proofs.ScanCode.{eqb-sym, peeked-yes, whether-yes, whether-no, expect-yes, expect-no}
 use Rattle.numbers.proofs.NumberCode.{says-as, says-refuse, says-made}
@@ -339,16 +339,20 @@ unfolding afterMinus frontClass is startsWith
 minus-not [] n = refl
 minus-not (b ∷ r) n = rw (ne-eqb (classNumber digit) (classNumber (classOf b)) (λ e. n (sym e ∙ digit-two)), afterMinus)
 
-pub minus-index : {s : List ℕ} {at k : ℕ} → Stood s at k → k ≡ 2 → at < length s
-minus-index c e = c .inside (omega arith)
+is-digit : {s : List ℕ} {at k : ℕ} → Stood s at k → k ≡ 2 → is digit (getD s at 0) ≡ true
+unfolding is frontClass
+is-digit {s} {at} c e =
+    let l = c .inside (omega arith) in
+    let d : classNumber digit ≡ classNumber (classOf (getD s at 0)) = digit-two ∙ (sym e ∙ (c .is ∙ rw (at-byte s at l))) in
+    eq-eqb _ _ d
+
+pub stood-digit : {s : List ℕ} {at k : ℕ} → Stood s at k → k ≡ 2 → DigitAt s at
+stood-digit {s} {at} c e = record { inside = c .inside (omega arith); digit = class-digit (getD s at 0) (is-digit c e) }
 
 module _ {s : List ℕ} {at place k : ℕ} {t : Cut} (c : Stood s at k) where
   pub minus-number : k ≡ 2 → Says s place t (number (signOf true) (getD s at 0) (drop (at + 1) (marked s))) → Says s place t (afterMinus (drop at (marked s)))
-  unfolding afterMinus is signOf frontClass
-  minus-number e h =
-      let l = c .inside (omega arith) in
-      let d : classNumber digit ≡ classNumber (classOf (getD s at 0)) = digit-two ∙ (sym e ∙ (c .is ∙ rw (at-byte s at l))) in
-      says-as (rw (at-byte s at l) (rw (eq-eqb _ _ d, afterMinus))) h
+  unfolding afterMinus signOf
+  minus-number e h = says-as (rw (at-byte s at (c .inside (omega arith))) (rw (is-digit c e, afterMinus))) h
 
   pub minus-infinity : (u : Bool) → (k ≡ 2 → ⊥) → u ≡ startsWith infinityWord (drop at (marked s)) → u ≡ true → Refused 6 place t → Says s place t (afterMinus (drop at (marked s)))
   minus-infinity u n f g r = says-as (minus-not (drop at (marked s)) (λ z. n (c .is ∙ z)) ∙ rw (sym f ∙ g)) (says-refuse 0 r)
