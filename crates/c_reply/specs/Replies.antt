@@ -1,5 +1,5 @@
--- What the exported functions return, and what they write into the slice that is lent for it: as far as it reaches, since `set` past the
--- end of a list changes nothing.
+-- Of the code: what the exported functions return, and what they write into the slice that is lent for it: as far as it reaches, since
+-- `set` past the end of a list changes nothing.
 use Prim.Native.Nat.{ℕ}
 use mathlib.Core.Bool.{Bool, true, false}
 use mathlib.Core.List.{List, []}

@@ -1,4 +1,4 @@
--- ASCII texts as bytes, so that definitions and examples can quote them.
+-- For definitions and examples: ASCII texts as bytes, so that definitions and examples can quote them.
 use Prim.Native.Nat.{ℕ, zero, suc}
 use Prim.Native.Char.{code}
 use Prim.Native.String.{String, len, charAt}

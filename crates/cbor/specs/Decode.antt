@@ -1,4 +1,4 @@
--- From bytes to items (RFC 8949; document 01, "Refusal numbers": bytes).
+-- From the papers: from bytes to items (RFC 8949; document 01, "Refusal numbers": bytes).
 use Prim.Native.Nat.{ℕ, zero, suc, _/_}
 use mathlib.Core.List.{List, [], _∷_}
 use mathlib.Core.Bool.{Bool, true, false}
@@ -13,7 +13,7 @@ use Rattle.cbor.specs.TypedArrays.{mayTag}
 
 -- SEVERAL, one behind the other
 
--- how far: a number of them ("counts walked and never doubled or compared with what is left"), to a break, to the end of the bytes
+-- how far: a number of them (counts are walked, neither doubled nor compared with what is left), to a break, to the end of the bytes
 pub data Until : Type 0 where
   counted : ℕ → Until
   broken ended : Until

@@ -1,4 +1,4 @@
--- The bytes of items (RFC 8949, section 3), every choice of width and length as the item has it.
+-- From the papers: the bytes of items (RFC 8949, section 3), every choice of width and length as the item has it.
 use Prim.Native.Nat.{ℕ}
 use mathlib.Core.List.{List, [], _∷_, _++_}
 use lib.ListN.{length}

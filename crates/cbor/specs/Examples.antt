@@ -1,5 +1,5 @@
--- Examples, computed: what RFC 8949 and document 01 say of bytes, a row for each rule that a reader would look for. One table, one
--- statement; crates/vectors runs many more.
+-- Examples of the papers, computed: what RFC 8949 and document 01 say of bytes, a row for each rule that a reader would look for. One
+-- table, one statement; crates/vectors runs many more.
 use Prim.Native.Nat.{ℕ, _-_}
 use mathlib.Core.List.{List, [], _∷_}
 use mathlib.Core.List as L

@@ -1,4 +1,4 @@
--- OF THE CODE: a sign, and a kind of string, as a bool.
+-- Of the code: a sign, and a kind of string, as a bool.
 use mathlib.Core.Bool.{Bool, true, false}
 use Rattle.cbor.specs.Items.{Sign, unsigned, negative, Kind, byteString, textString}
 

@@ -1,4 +1,5 @@
--- Paths (document 01: "A path numbers a top item from 0, then array elements or the values of map pairs; it enters nothing else").
+-- From the papers: paths (document 01: "A path numbers a top item from 0, then array elements or the values of map pairs; it enters
+-- nothing else").
 use Prim.Native.Nat.{ℕ, zero, suc, _+_}
 use mathlib.Core.List.{List, [], _∷_, _++_}
 use lib.ListN.{length}

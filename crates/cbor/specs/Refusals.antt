@@ -1,4 +1,4 @@
--- The refusal numbers of document 01, by name ("Refusal numbers"), and what reading gives.
+-- From the papers: the refusal numbers of document 01, by name ("Refusal numbers"), and what reading gives.
 use Prim.Native.Nat.{ℕ, _-_}
 use mathlib.Core.List.{List}
 

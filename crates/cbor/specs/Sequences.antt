@@ -1,4 +1,4 @@
--- What the code of UTF-8 says of its parts.
+-- Of the code: what the code of UTF-8 says of its parts.
 use Prim.Native.Nat.{ℕ, zero, suc, _+_, _≤_}
 use mathlib.Core.Path.{_≡_}
 use mathlib.Core.List.{List, [], _∷_}

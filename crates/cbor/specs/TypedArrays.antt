@@ -1,4 +1,4 @@
--- Typed arrays (RFC 8746; document 01, Form: "Typed arrays").
+-- From the papers: typed arrays (RFC 8746; document 01, Form: "Typed arrays").
 use Prim.Native.Nat.{ℕ, _+_, _/_, _%_, _^_, _<_}
 use mathlib.Core.Path.{_≡_}
 use mathlib.Core.List.{List, [], _∷_}

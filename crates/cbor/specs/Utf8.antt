@@ -1,4 +1,4 @@
--- UTF-8 (RFC 3629).
+-- From the papers: UTF-8 (RFC 3629).
 use Prim.Native.Nat.{ℕ, zero, suc}
 use mathlib.Core.List.{List, [], _∷_}
 use mathlib.Core.Bool.{Bool, true, false, _&&_}

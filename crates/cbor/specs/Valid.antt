@@ -1,5 +1,5 @@
--- Which items have an encoding that a reader of bytes accepts: every argument fits its width, strings are bytes, text strings are
--- UTF-8, typed arrays are whole, simple values are in range.
+-- From the papers: which items have an encoding that a reader of bytes accepts: every argument fits its width, strings are bytes, text
+-- strings are UTF-8, typed arrays are whole, simple values are in range.
 use Prim.Native.Nat.{ℕ, _<_, _≤_}
 use mathlib.Core.Path.{_≡_}
 use mathlib.Core.List.{List, [], _∷_}

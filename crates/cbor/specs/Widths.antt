@@ -1,4 +1,4 @@
--- The argument of a head: where it stands, and how (RFC 8949, section 3).
+-- From the papers: the argument of a head: where it stands, and how (RFC 8949, section 3).
 use Prim.Native.Nat.{ℕ, zero, suc, _+_, _*_, _/_, _%_}
 use mathlib.Core.List.{List, [], _∷_, _++_}
 use mathlib.Core.Bool.{Bool, true, false}

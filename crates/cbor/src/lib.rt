@@ -1,1 +1,1 @@
-// CBOR (RFC 8949).
+// CBOR (RFC 8949): definitions and theorems, no code.

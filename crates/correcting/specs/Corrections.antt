@@ -1,4 +1,4 @@
--- What the code of correcting answers: a decision, with nothing written, and the writing.
+-- Of the code: what the code of correcting answers: a decision, with nothing written, and the writing.
 use Prim.Native.Nat.{ℕ, _+_, _-_, _≤_, min}
 use mathlib.Core.Path.{_≡_}
 use mathlib.Core.List.{List, _++_}

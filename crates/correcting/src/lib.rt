@@ -1,11 +1,11 @@
 // One item of bytes replaced by the item that a text spells: first what would come of it, with nothing written; then the writing.
-use outcome::Answer;
-use outcome::fits;
 use encoding::answer::ReadAnswer;
 use looking::Located;
 use looking::Part;
 use looking::locate;
 use one_item::read_one;
+use outcome::Answer;
+use outcome::fits;
 use planning::Decision;
 use planning::Plan;
 use planning::level;

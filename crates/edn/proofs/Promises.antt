@@ -86,10 +86,10 @@ demand2-ran =
       acceptance = λ text b b′ r h n. ((λ i. demand2 .acceptance text b n .0 (ran-accepted r b′ h i)), (λ a. ran-answer r b′ h (demand2 .acceptance text b n .1 a)));
       encoding = λ text b b′ n xs e h. rw (ran-buffer (Written n) b′ h) at (demand2 .encoding text b n xs e (ran-accepted (Written n) b′ h refl));
       roundTrip = λ bytes u b b′ n p c c′ r l q.
-        let t = demand2 .roundTrip bytes u b n (ran-accepted (Written n) b′ p refl) c l in
-        let e : take n (print bytes b .buffer) ≡ take n b′ = ap (take n) (ran-buffer (Written n) b′ p) in
-        let m : outcomeOf r c′ ≡ read (take n (print bytes b .buffer)) c = q ∙ ap (λ (s : List ℕ). read s c) (sym e) in
-        (ran-answer r c′ m (t .answers), ap (take (length bytes)) (sym (ran-buffer r c′ m)) ∙ t .writes);
+          let t = demand2 .roundTrip bytes u b n (ran-accepted (Written n) b′ p refl) c l in
+          let e : take n (print bytes b .buffer) ≡ take n b′ = ap (take n) (ran-buffer (Written n) b′ p) in
+          let m : outcomeOf r c′ ≡ read (take n (print bytes b .buffer)) c = q ∙ ap (λ (s : List ℕ). read s c) (sym e) in
+          (ran-answer r c′ m (t .answers), ap (take (length bytes)) (sym (ran-buffer r c′ m)) ∙ t .writes);
     }
 
 -- DEMAND 3

@@ -1,5 +1,4 @@
 // The notation and its bytes: check, look up, scan, read, print, correct. Each function is handed on from the crate that has its code.
-pub use outcome::Answer;
 pub use correcting::correct;
 pub use looking::Checked;
 pub use looking::ItemAt;
@@ -10,6 +9,7 @@ pub use looking::check;
 pub use looking::locate;
 pub use looking::look_up;
 pub use looking::scan;
+pub use outcome::Answer;
 pub use printing::print;
 pub use reading::read;
 pub use refusal::Refusal;

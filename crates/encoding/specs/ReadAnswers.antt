@@ -1,4 +1,4 @@
--- What the readers of the code answer. s is a text; the definitions read it with its end mark.
+-- Of the code: what the readers of the code answer. s is a text; the definitions read it with its end mark.
 use Prim.Native.Nat.{ℕ, zero, suc, _+_, _-_, _*_, _%_, _≤_, _<_, _^_, min}
 use mathlib.Core.Path.{_≡_}
 use mathlib.Core.Bool.{Bool, true, false}

@@ -1,4 +1,4 @@
--- What the code that reads and writes heads answers.
+-- Of the code: what the code that reads and writes heads answers.
 use Prim.Native.Nat.{ℕ, _+_, _-_, _/_, _%_, _≤_, _<_}
 use mathlib.Core.Path.{_≡_}
 use mathlib.Core.List.{List, _∷_}

@@ -1,4 +1,4 @@
--- What the code of hexadecimal text answers.
+-- Of the code: what the code of hexadecimal text answers.
 use Prim.Native.Nat.{ℕ, zero, suc, _≤_}
 use mathlib.Core.Path.{_≡_}
 use mathlib.Core.List.{List, [], _∷_}

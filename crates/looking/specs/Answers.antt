@@ -1,4 +1,4 @@
--- What the code of the byte side answers: check, locate, look up, scan.
+-- Of the code: what the code of the byte side answers: check, locate, look up, scan.
 use Prim.Native.Nat.{ℕ, _-_, _≤_}
 use mathlib.Core.Path.{_≡_}
 use mathlib.Core.List.{List}

@@ -1,4 +1,4 @@
--- Sums in code.
+-- Of the code: sums in code.
 use Prim.Native.Nat.{ℕ, _+_, _-_, _^_, min}
 
 -- a sum that stops at the largest number

@@ -1,4 +1,4 @@
--- The text of one item, read with its end mark (Reading, `single`): the mark is left behind all that is read.
+-- Of the code: the text of one item, read with its end mark (Reading, `single`): the mark is left behind all that is read.
 use Prim.Native.Nat.{ℕ, suc}
 use mathlib.Core.List.{List}
 use mathlib.Core.Bool.{true, false}

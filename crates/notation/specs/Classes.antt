@@ -1,4 +1,4 @@
--- The class of each byte (document 01, Tokens: "The class of each of the 256 byte values stands in one table").
+-- From the papers: the class of each byte (document 01, Tokens: "The class of each of the 256 byte values stands in one table").
 use Prim.Native.Nat.{ℕ}
 use mathlib.Core.List.{List, [], _∷_}
 use mathlib.Core.Bool.{Bool, true, false, _&&_, _||_}

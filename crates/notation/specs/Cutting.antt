@@ -1,4 +1,4 @@
--- The next token (document 01, Tokens: "A token is the longest that fits").
+-- From the papers: the next token (document 01, Tokens: "A token is the longest that fits").
 use Prim.Native.Nat.{ℕ, zero, suc}
 use mathlib.Core.List.{List, [], _∷_}
 use mathlib.Core.Bool.{Bool, true, false, _&&_}

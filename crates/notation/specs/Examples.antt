@@ -1,5 +1,5 @@
--- Examples, computed: what document 01 and docs/DECISIONS.md say of texts, a row for each rule that a reader would look for, bytes in
--- hexadecimal. One table, one statement; crates/vectors runs many more.
+-- Examples of the papers, computed: what document 01 and docs/DECISIONS.md say of texts, a row for each rule that a reader would look
+-- for, bytes in hexadecimal. One table, one statement; crates/vectors runs many more.
 use Prim.Native.Nat.{ℕ}
 use Prim.Native.String.{String}
 use mathlib.Core.List.{List, [], _∷_}

@@ -1,4 +1,4 @@
--- Encoding indicators (document 01, Tokens: "Indicator").
+-- From the papers: encoding indicators (document 01, Tokens: "Indicator").
 use Prim.Native.Nat.{ℕ}
 use mathlib.Core.List.{List, [], _∷_}
 use mathlib.Core.Bool.{Bool, true, false}

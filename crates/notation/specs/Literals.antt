@@ -1,4 +1,4 @@
--- String literals: quoted ones, `h'...'` and `b64'...'` (document 01, Tokens).
+-- From the papers: string literals: quoted ones, `h'...'` and `b64'...'` (document 01, Tokens).
 use Prim.Native.Nat.{ℕ, zero, suc, _+_, _-_, _*_, _/_, _%_}
 use mathlib.Core.List.{List, [], _∷_, _++_}
 use mathlib.Core.Bool.{Bool, true, false, _&&_, _||_}

@@ -1,4 +1,4 @@
--- Integers and tag openings (document 01, Tokens: "Integer", "Float tokens").
+-- From the papers: integers and tag openings (document 01, Tokens: "Integer", "Float tokens").
 use Prim.Native.Nat.{ℕ, zero, suc, _+_, _-_, _*_}
 use mathlib.Core.List.{List, [], _∷_}
 use mathlib.Core.Bool.{Bool, true, false, _&&_, _||_}

@@ -1,5 +1,5 @@
--- Where the item at a path stands in a text, by the form (document 01, "What the promises owe": "one runs from the first byte of its
--- first token to the last byte of its last, and its path is counted in the text as in bytes").
+-- From the papers: where the item at a path stands in a text, by the form (document 01, "What the promises owe": "one runs from the
+-- first byte of its first token to the last byte of its last, and its path is counted in the text as in bytes").
 use Prim.Native.Nat.{ℕ, zero, suc, _-_}
 use mathlib.Core.List.{List, [], _∷_, _++_}
 use lib.ListN.{length, take, drop}

@@ -1,4 +1,4 @@
--- Printing (document 01, Printed layout).
+-- From the papers: printing (document 01, Printed layout).
 use Prim.Native.Nat.{ℕ, zero, suc, _+_, _*_, _/_, _%_}
 use mathlib.Core.List.{List, [], _∷_, _++_}
 use mathlib.Core.Bool.{Bool, true, false, _||_}

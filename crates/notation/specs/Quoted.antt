@@ -1,4 +1,4 @@
--- Quoted strings: escapes (document 01, Tokens: `"..."`, `'...'`).
+-- From the papers: quoted strings: escapes (document 01, Tokens: `"..."`, `'...'`).
 use Prim.Native.Nat.{ℕ, zero, suc, _+_, _-_, _*_, _/_, _%_}
 use mathlib.Core.List.{List, [], _∷_, _++_}
 use mathlib.Core.Bool.{Bool, true, false, _&&_, not}

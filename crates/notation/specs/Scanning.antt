@@ -1,4 +1,4 @@
--- Scanning from the front of a text: blanks and comments, and the small steps that tokens are cut with.
+-- From the papers: scanning from the front of a text: blanks and comments, and the small steps that tokens are cut with.
 -- A text is a list of bytes, with the end mark 256 behind it where all of it is read.
 use Prim.Native.Nat.{ℕ, zero, suc}
 use mathlib.Core.List.{List, [], _∷_}

@@ -1,4 +1,4 @@
--- What a token is to the form of a text.
+-- From the papers: what a token is to the form of a text.
 use Prim.Native.Nat.{ℕ}
 use mathlib.Core.List.{List}
 use Rattle.cbor.specs.Widths.{Width}

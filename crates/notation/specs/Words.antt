@@ -1,4 +1,4 @@
--- Words, prefixes and `simple(n)` (document 01, Tokens: "A word"), compared byte for byte.
+-- From the papers: words, prefixes and `simple(n)` (document 01, Tokens: "A word"), compared byte for byte.
 use Prim.Native.Nat.{ℕ, zero, suc}
 use mathlib.Core.List.{List, [], _∷_}
 use mathlib.Core.Bool.{Bool, true, false, _&&_, _||_}

@@ -1,1 +1,1 @@
-// CBOR diagnostic notation, as definitions and theorems about them: the code is in the crates above.
+// CBOR diagnostic notation: definitions and theorems, no code.

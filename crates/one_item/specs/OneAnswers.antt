@@ -1,4 +1,4 @@
--- What the code answers that reads the text of one item.
+-- Of the code: what the code answers that reads the text of one item.
 use Prim.Native.Nat.{ℕ}
 use mathlib.Core.List.{List}
 use lib.ListN.{drop}

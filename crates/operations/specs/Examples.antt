@@ -1,4 +1,5 @@
--- The starred examples of document 01 ("On both sides of the line"), computed of the operations: one table, one statement.
+-- Examples of the papers: the starred examples of document 01 ("On both sides of the line"), computed of the operations: one table, one
+-- statement.
 use Prim.Native.Nat.{ℕ, zero, suc, _+_, _-_}
 use Prim.Native.String.{String}
 use mathlib.Core.List.{List, [], _∷_, _++_}

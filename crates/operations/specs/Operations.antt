@@ -1,5 +1,5 @@
--- The four operations, as functions of all that is lent (texts, bytes, buffers with what they hold) to the answer and to what the
--- buffer holds then; refused calls leave it as it was.
+-- From the papers: the four operations, as functions of all that is lent (texts, bytes, buffers with what they hold) to the answer and
+-- to what the buffer holds then; refused calls leave it as it was.
 use Prim.Native.Nat.{ℕ, zero, suc, _+_, _-_, min}
 use mathlib.Core.List.{List, [], _∷_, _++_}
 use mathlib.Core.Bool.{Bool, true, false}

@@ -1,4 +1,4 @@
--- What the two programs write on standard output (document 01, "The pieces").
+-- From the papers: what the two programs write on standard output (document 01, "The pieces").
 use Prim.Native.Nat.{ℕ}
 use mathlib.Core.List.{List, [], _∷_, _++_}
 use lib.ListN.{length, replicate}

@@ -1,1 +1,1 @@
-// Definitions and theorems; no code.
+// The operations and the demands: definitions and theorems, no code.

@@ -1,4 +1,4 @@
--- What the code answers that writes into a lent buffer, and what its parts answer.
+-- Of the code: what the code answers that writes into a lent buffer, and what its parts answer.
 use Prim.Native.Nat.{ℕ, suc, _≤_}
 use mathlib.Core.Path.{_≡_}
 use mathlib.Core.List.{List, []}

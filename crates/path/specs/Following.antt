@@ -1,4 +1,4 @@
--- A path followed through bytes that were checked: a place is what is left from there on.
+-- Of the code: a path followed through bytes that were checked: a place is what is left from there on.
 use Prim.Native.Nat.{ℕ, zero, suc}
 use mathlib.Core.List.{List, [], _∷_}
 use mathlib.Core.Bool.{true, false}

@@ -1,4 +1,4 @@
--- What the code that follows a path answers.
+-- Of the code: what the code that follows a path answers.
 use Prim.Native.Nat.{ℕ, _-_, _≤_}
 use mathlib.Core.Path.{_≡_}
 use mathlib.Core.List.{List}

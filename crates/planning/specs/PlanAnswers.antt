@@ -1,4 +1,4 @@
--- What a correction plans, and what carries it out.
+-- Of the code: what a correction plans, and what carries it out.
 use Prim.Native.Nat.{ℕ, _+_, _-_, _≤_, min}
 use mathlib.Core.Path.{_≡_}
 use mathlib.Core.List.{List, _++_}

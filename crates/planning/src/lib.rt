@@ -1,6 +1,6 @@
 // What is planned of a correction, and the writing.
-use outcome::fits;
 use looking::Part;
+use outcome::fits;
 use refusal::Refusal;
 use refusal::RefusalKind;
 ghost use mathlib.Core.Path.{_≡_};

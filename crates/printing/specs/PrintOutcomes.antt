@@ -1,4 +1,4 @@
--- What the code of printing answers.
+-- Of the code: what the code of printing answers.
 use mathlib.Core.Path.{_≡_}
 use mathlib.Core.List.{List, []}
 use Prim.Native.Nat.{ℕ}

@@ -1,4 +1,4 @@
--- What the code of quoted strings says of its parts: numbers for the places in a string and for what a byte does there.
+-- Of the code: what the code of quoted strings says of its parts: numbers for the places in a string and for what a byte does there.
 use Prim.Native.Nat.{ℕ, zero, suc, _+_, _%_, _≤_, _<_}
 use mathlib.Core.Path.{_≡_}
 use mathlib.Core.List.{List, [], _∷_}

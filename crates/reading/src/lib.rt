@@ -1,8 +1,8 @@
 // A text in diagnostic notation as the bytes of its items, in a lent buffer.
+use encoding::answer::ReadAnswer;
 use outcome::Answer;
 use outcome::fits;
 use outcome::refuse;
-use encoding::answer::ReadAnswer;
 use refusal::RefusalKind;
 use text_check::Text;
 use text_check::check_text;

@@ -1,4 +1,4 @@
--- The code's kinds of refusal, by the numbers of document 01.
+-- Of the code: the code's kinds of refusal, by the numbers of document 01.
 use Prim.Native.Nat.{ℕ, _≤_}
 use mathlib.Core.Path.{_≡_}
 use Rattle.cbor.specs.Refusals.{tooLong, notUtf8, noToken, unknownWord, dots, float, outOfRange, badContent, badIndicator, tooDeep, notAllowed, mixedChunks, badTypedArray, noRoom, endsInside, notWellFormed, noSuchPath}

@@ -1,4 +1,4 @@
--- What the code that scans answers. s is a text; the definitions read it with its end mark.
+-- Of the code: what the code that scans answers. s is a text; the definitions read it with its end mark.
 use Prim.Native.Nat.{ℕ, _+_, _≤_, _<_}
 use mathlib.Core.Path.{_≡_}
 use mathlib.Core.Bool.{Bool, true, false}

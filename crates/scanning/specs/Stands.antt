@@ -1,4 +1,4 @@
--- Places in a text with its end mark.
+-- Of the code: places in a text with its end mark.
 use Prim.Native.Nat.{ℕ, _-_, _≤_}
 use mathlib.Core.Path.{_≡_}
 use mathlib.Core.List.{List}

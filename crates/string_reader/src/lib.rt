@@ -74,14 +74,7 @@ pub fn literal(text: &[u8], t: Token, buf: &mut [u8], pos: usize) -> ReadAnswer
 }
 
 // A chunk of a kind, by the code of its literals.
-fn chunk(
-    text: &[u8],
-    at: usize,
-    kind: u8,
-    levels: usize,
-    buf: &mut [u8],
-    pos: usize,
-) -> ReadAnswer
+fn chunk(text: &[u8], at: usize, kind: u8, levels: usize, buf: &mut [u8], pos: usize) -> ReadAnswer
     requires { ⌜ Strings (now text) at pos kind ⌝ }
     ensures { λ r. ⌜ ReadTold (ofChunk (kindFor kind)) (now (text .entry)) (now (buf .entry)) (now (buf .exit)) (length (marked (now (text .entry))) - at) pos r (chunkRead (kindFor kind) levels (drop at (marked (now (text .entry))))) ⌝ }
 {

@@ -1,4 +1,4 @@
--- What is asked of all of a text, in code.
+-- Of the code: what is asked of all of a text, in code.
 use mathlib.Core.List.{List}
 use Prim.Native.Nat.{ℕ}
 use Rattle.cbor.specs.Refusals.{Verdict, accepted, refused}

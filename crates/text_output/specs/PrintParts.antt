@@ -1,4 +1,4 @@
--- What is written, and what the code has for the parts of a head.
+-- Of the code: what is written, and what the code has for the parts of a head.
 use Prim.Native.Nat.{ℕ, _+_, _-_, _^_, _≤_, _<_}
 use mathlib.Core.Path.{_≡_}
 use mathlib.Core.Bool.{Bool, true, false}

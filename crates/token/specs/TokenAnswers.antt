@@ -1,4 +1,4 @@
--- What the code's tokens say of the tokens of the definitions. s is a text.
+-- Of the code: what the code's tokens say of the tokens of the definitions. s is a text.
 use Prim.Native.Nat.{ℕ, zero, suc, _-_, _≤_, _<_}
 use mathlib.Core.Path.{_≡_}
 use mathlib.Core.List.{List, [], _∷_}

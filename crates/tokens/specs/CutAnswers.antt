@@ -1,4 +1,4 @@
--- What the code that cuts strings and signs answers. s is a text.
+-- Of the code: what the code that cuts strings and signs answers. s is a text.
 use Prim.Native.Nat.{ℕ, zero, suc, _+_, _≤_, _<_}
 use mathlib.Core.Path.{_≡_}
 use mathlib.Core.Bool.{Bool, true, false}

@@ -1,4 +1,4 @@
--- What the code of typed arrays answers.
+-- Of the code: what the code of typed arrays answers.
 use Prim.Native.Nat.{ℕ, _%_, _<_}
 use mathlib.Core.Path.{_≡_}
 use mathlib.Core.Bool.{Bool, _&&_}

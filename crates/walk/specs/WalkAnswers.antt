@@ -1,4 +1,4 @@
--- What the code that walks over bytes answers: where an item ends, its major type, and how many bytes of strings are in it.
+-- Of the code: what the code that walks over bytes answers: where an item ends, its major type, and how many bytes of strings are in it.
 use Prim.Native.Nat.{ℕ, zero, suc, _+_, _-_, _≤_}
 use mathlib.Core.Path.{_≡_}
 use mathlib.Core.List.{List}
