@@ -17,9 +17,9 @@ ghost use Rattle.cbor.specs.Flags.{kindOf};
 ghost use Rattle.text_output.specs.PrintParts.{Prints, widthBy};
 ghost use Rattle.printer.specs.PrintAnswers.{entryText, chunkText, printOneOf, printAllOf, untilBy, modeBy, behindBy, PrintTurned, Moves, separatorOf, joined, openingBy, closingBy, containerText, chunkedText, tagText, PrintTold, PrintHeaded, PrintedAll, TextSize};
 
-pub struct Printed {
-    pub end: usize,
-    pub pos: usize,
+struct Printed {
+    end: usize,
+    pos: usize,
 }
 
 // How several go on: `mode` 0, a number of them; 1, to a break; else to the end of the bytes.
@@ -135,7 +135,7 @@ fn chunk(bytes: &[u8], at: usize, text: bool, out: &mut [u8], pos: usize) -> Pri
 // THE CYCLE
 
 // The item at a place, with levels left.
-pub fn print_item(bytes: &[u8], at: usize, levels: usize, out: &mut [u8], pos: usize) -> Printed
+fn print_item(bytes: &[u8], at: usize, levels: usize, out: &mut [u8], pos: usize) -> Printed
     ensures { λ r. ⌜ PrintTold (now (bytes .entry)) (at + 1) (now (out .entry)) (now (out .exit)) pos r (mapped printItem (item levels (drop at (now (bytes .entry))))) ⌝ }
 {
     let read = head::read_head(bytes, at);
