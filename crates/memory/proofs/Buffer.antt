@@ -1,17 +1,17 @@
--- Writing into a buffer: the laws of `over`, `written` and what is made of them.
+-- Writing into a buffer: the laws of `over`, `clipped`, `overIfFits` and what is made of them.
 -- Assumes nothing.
 use mathlib.Core.Path.{_≡_, refl, sym, ap, _∙_}
 use mathlib.Core.List.{List, [], _∷_, _++_, append-assoc}
 use mathlib.Core.Bool.{Bool, true, false}
-use Prim.Native.Nat.{ℕ, suc, _+_, _-_, _≤_, _<_, max}
+use Prim.Native.Nat.{ℕ, suc, _+_, _-_, _≤_, _<_, min, max}
 use native.Mathlib.Numerals.{add-one}
 use native.Mathlib.Nat.{add-zero, add-assoc}
 use native.Mathlib.Omega.{arith}
 use lib.Dec.{leb}
-use lib.ListN.{length, take, drop, set, getD, length-append, length-drop, take-append-drop}
-use lib.Seq.{length-take-le, take-at, drop-at, drop-drop, take-append-le, take-take, getD-take, getD-drop, set-split}
+use lib.ListN.{length, take, drop, set, getD, length-append, length-take, length-drop, take-append-drop}
+use lib.Seq.{length-take-le, take-all, take-at, drop-at, drop-drop, take-append-le, take-append-add, take-take, getD-take, getD-drop, set-split}
 use borrow.Author.Tests.{le-leb, lt-leb, leb-true, leb-false}
-use Rattle.memory.specs.Buffer.{over, overIfFits, ifFits, movedUp, movedDown, moved, headPut, copied}
+use Rattle.memory.specs.Buffer.{over, clipped, overIfFits, ifFits, movedUp, movedDown, moved, headPut, copied}
 
 -- OVER
 
@@ -115,6 +115,61 @@ length-part b p size h = length-take-le size (drop p b) (rw (length-drop p b) (o
 pub over-keep : (b : List ℕ) (p size : ℕ) → p + size ≤ length b → over b p (take size (drop p b)) ≡ b
 unfolding over
 over-keep b p size h = rw (length-part b p size h, ← drop-drop size p b) (rw (take-append-drop size (drop p b)) (take-append-drop p b))
+
+-- CLIPPED
+
+-- where it fits, and past the end
+module _ (b : List ℕ) (p : ℕ) (ws : List ℕ) where
+  pub clipped-fits : p + length ws ≤ length b → clipped b p ws ≡ over b p ws
+  unfolding clipped
+  clipped-fits h = let l : length ws ≤ length b - p = omega arith in ap (over b p) (take-all (length b - p) ws l)
+
+  pub clipped-past : length b ≤ p → clipped b p ws ≡ b
+  unfolding clipped
+  clipped-past h = let e : length b - p ≡ 0 = omega arith in ap (λ (n : ℕ). over b p (take n ws)) e ∙ over-nil b p
+
+  pub length-clipped : length (clipped b p ws) ≡ length b
+  unfolding clipped
+  length-clipped = go (leb p (length b)) refl
+    where
+      go : (t : Bool) → leb p (length b) ≡ t → length (clipped b p ws) ≡ length b
+      go true e =
+          let h = leb-true p (length b) e in
+          let l : p + length (take (length b - p) ws) ≤ length b = rw (length-take (length b - p) ws) (omega arith) in
+          length-over b p (take (length b - p) ws) l
+      go false e = let h : length b ≤ p = omega (arith, leb-false p (length b) e) in ap length (clipped-past h)
+
+module _ (b : List ℕ) (p : ℕ) where
+  pub clipped-nil : clipped b p [] ≡ b
+  unfolding clipped
+  clipped-nil = ap (over b p) (take-all (length b - p) [] (omega arith)) ∙ over-nil b p
+
+  -- one store
+  pub clipped-one : (v : ℕ) → p < length b → set b p v ≡ clipped b p (v ∷ [])
+  clipped-one v h = let f : p + 1 ≤ length b = omega arith in over-one b p v h ∙ sym (clipped-fits b p (v ∷ []) f)
+
+  -- a second part behind the first; the place may stop at a number m that is no place inside
+  pub clipped-more : (ws vs : List ℕ) (m : ℕ) → length b ≤ m → clipped (clipped b p ws) (min (p + length ws) m) vs ≡ clipped b p (ws ++ vs)
+  unfolding clipped
+  clipped-more ws vs m k = go (leb (p + length ws) (length b)) refl
+    where
+      go : (t : Bool) → leb (p + length ws) (length b) ≡ t → clipped (clipped b p ws) (min (p + length ws) m) vs ≡ clipped b p (ws ++ vs)
+      go true e =
+          let h = leb-true (p + length ws) (length b) e in
+          let i : p ≤ length b = omega arith in
+          let q : min (p + length ws) m ≡ p + length ws = omega arith in
+          let n : length b - p ≡ length ws + (length b - (p + length ws)) = omega arith in
+          let r : take (length b - p) (ws ++ vs) ≡ ws ++ take (length b - (p + length ws)) vs = rw n (take-append-add ws vs (length b - (p + length ws))) in
+          ap (λ (x : List ℕ). clipped x (min (p + length ws) m) vs) (clipped-fits b p ws h)
+          ∙ ap (λ (x : ℕ). clipped (over b p ws) x vs) q
+          ∙ ap (λ (x : ℕ). over (over b p ws) (p + length ws) (take (x - (p + length ws)) vs)) (length-over b p ws h)
+          ∙ over-more b p ws i (take (length b - (p + length ws)) vs)
+          ∙ ap (over b p) (sym r)
+      go false e =
+          let h = leb-false (p + length ws) (length b) e in
+          let l : length (clipped b p ws) ≤ min (p + length ws) m = rw (length-clipped b p ws) (omega arith) in
+          let n : length b - p ≤ length ws = omega arith in
+          clipped-past (clipped b p ws) (min (p + length ws) m) vs l ∙ ap (over b p) (sym (take-append-le (length b - p) ws vs n))
 
 -- WRITTEN
 

@@ -1,5 +1,5 @@
--- For the operations and the code: writing into a buffer of fixed length.
-use Prim.Native.Nat.{ℕ, _+_, max}
+-- Of the code: for the operations and the code: writing into a buffer of fixed length.
+use Prim.Native.Nat.{ℕ, _+_, _-_, max}
 use mathlib.Core.List.{List, _++_}
 use mathlib.Core.Bool.{true, false}
 use lib.Dec.{leb}
@@ -12,6 +12,10 @@ over b p ws = take p b ++ (ws ++ drop (p + length ws) b)
 -- the same where ws fits, else b as it is
 unfoldable pub overIfFits : List ℕ → ℕ → List ℕ → List ℕ
 overIfFits b p ws = elim (leb (p + length ws) (length b)) [ true ↦ over b p ws | false ↦ b ]
+
+-- the buffer b with ws from p on as far as b reaches, so b as it is where p is past its end
+unfoldable pub clipped : List ℕ → ℕ → List ℕ → List ℕ
+clipped b p ws = over b p (take (length b - p) ws)
 
 -- r where b has n bytes, else b as it is
 unfoldable pub ifFits : ℕ → List ℕ → List ℕ → List ℕ

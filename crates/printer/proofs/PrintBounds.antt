@@ -1,14 +1,11 @@
 -- The text of an item is at most 40 times as long as its bytes, with what separates it from others.
 -- Assumes nothing.
-use mathlib.Core.Path.{_≡_, refl}
 use mathlib.Core.Bool.{Bool, true, false, _||_}
 use mathlib.Core.List.{List, [], _∷_, _++_}
-use Prim.Native.Nat.{ℕ, zero, suc, _+_, _-_, _*_, _/_, _^_, _≤_, _<_}
-use native.Mathlib.Nat.{pow-suc}
+use Prim.Native.Nat.{ℕ, suc, _+_, _-_, _*_, _^_, _≤_, _<_}
 use native.Mathlib.Omega.{arith}
-use lib.Dec.{eqb, ltb, leb}
+use lib.Dec.{eqb, ltb}
 use lib.ListN.{length, length-append}
-use borrow.Author.Tests.{leb-true, leb-false}
 use Rattle.cbor.specs.Ascii.{ascii}
 use Rattle.cbor.specs.Widths.{Width, w0, w1, w2, w4, w8, argumentBytes, limit, shortest}
 use Rattle.cbor.specs.Items.{Sign, unsigned, negative, Kind, byteString, textString, Size, definite, indefinite, Chunk, Item, int, string, chunked, array, map, tag, simple, Items, none, more, Pairs, none₂, more₂, count, count₂}
@@ -18,22 +15,9 @@ use Rattle.cbor.specs.Valid.{Valid, ValidAll, ValidAll₂}
 use Rattle.cbor.proofs.DecodeEncode.{shortest-simple}
 use Rattle.notation.specs.Words.{falseWord, trueWord, nullWord, undefinedWord, simpleWord}
 use Rattle.notation.specs.Printing.{decimalOf, hexByteOf, hexOf, escapeOf, escapedOf, widthName, indicatorOf, printString, printChunks, printChunked, blankBehind, sizeOf, printSimple, printInt, printItem, printAll, printRest, printAll₂, printRest₂}
-use Rattle.text_output.proofs.PrintLeaves.{decimal-one, decimal-more}
+use Rattle.text_output.proofs.PrintLeaves.{decimal-length}
 
 -- NUMBERS AND STRINGS
-
-decimal-length : (k n : ℕ) → n < 10 ^ suc k → length (decimalOf n) ≤ suc k
-decimal-length zero n h = let d = decimal-one n (omega arith) in rw d (omega arith)
-decimal-length (suc k) n h = go (leb 10 n) refl (λ l. decimal-length k (n / 10) l)
-  where
-    go : (t : Bool) → leb 10 n ≡ t → (n / 10 < 10 ^ suc k → length (decimalOf (n / 10)) ≤ suc k) → length (decimalOf n) ≤ suc (suc k)
-    go false e i = let l = leb-false 10 n e in rw (decimal-one n l) (omega arith)
-    go true e i =
-        let l = leb-true 10 n e in
-        let p = pow-suc 10 (suc k) in
-        let q : n / 10 < 10 ^ suc k = omega arith in
-        let j = i q in
-        rw (decimal-more n l) (simp length-append (omega arith))
 
 limit-below : (w : Width) → suc (limit w) < 10 ^ 20
 unfolding limit
@@ -60,7 +44,7 @@ size-length (definite w) n = go (eqb (argumentBytes w) (argumentBytes (shortest 
     go true = omega arith
     go false = omega arith
 
-hex-length : (b : List ℕ) → length (hexOf b) ≤ 6 * length b
+pub hex-length : (b : List ℕ) → length (hexOf b) ≤ 6 * length b
 unfolding hexOf hexByteOf
 hex-length [] = omega arith
 hex-length (x ∷ b) = let i = hex-length b in omega arith

@@ -11,13 +11,13 @@ use mir.Syntax.{w8 as bits8}
 use mir.Val.{Fits}
 use Rattle.cbor.specs.Ascii.{ascii}
 use Rattle.cbor.specs.Refusals.{ok, refuse}
-use Rattle.memory.specs.Buffer.{over}
+use Rattle.memory.specs.Buffer.{clipped}
 use Rattle.cbor.specs.Items.{Items, none, more}
 use Rattle.cbor.specs.Encode.{encodeAll}
 use Rattle.cbor.specs.Valid.{Bytes}
 use Rattle.cbor.specs.Decode.{ended, stepAt, severalBy, severalWithin, several, elements, item, decode, mostBytes, mostLevels}
 use Rattle.cbor.specs.Theorems.{Decoded}
-use Rattle.memory.proofs.Buffer.{over-nil}
+use Rattle.memory.proofs.Buffer.{clipped-nil}
 use Rattle.cbor.proofs.Results.{refuse-not-ok}
 use Rattle.cbor.proofs.EncodeDecode.{encode-of-decode}
 use Rattle.notation.specs.Printing.{printItem, printText}
@@ -60,7 +60,7 @@ text-none {s} {b} h =
     record {
       same = refl;
       size = λ xs e. ap (λ (y : Items). length (printText y)) (k xs e);
-      is = λ xs e l. sym (over-nil b 0) ∙ ap (λ (y : Items). over b 0 (printText y)) (k xs e);
+      is = λ xs e. sym (clipped-nil b 0) ∙ ap (λ (y : Items). clipped b 0 (printText y)) (k xs e);
     }
 
 module _ (s : List ℕ) (g : (i : ℕ) → Fits bits8 (getD s i 0)) (n : length s ≡ 0 → ⊥) where
@@ -96,5 +96,5 @@ module _ (s : List ℕ) (g : (i : ℕ) → Fits bits8 (getD s i 0)) (n : length 
         record {
           same = p .same ∙ t .same;
           size = λ xs e. omega (arith, whole xs e .next, text-of xs e .short);
-          is = λ xs e h. whole xs e .is (omega arith);
+          is = λ xs e. whole xs e .is;
         }

@@ -6,7 +6,7 @@ use mathlib.Core.List.{List, [], _∷_, _++_}
 use lib.Dec.{eqb}
 use lib.ListN.{length, drop}
 use Rattle.cbor.specs.Ascii.{ascii}
-use Rattle.memory.specs.Buffer.{over as overBuffer}
+use Rattle.memory.specs.Buffer.{clipped}
 use Rattle.cbor.specs.Refusals.{Result, ok}
 use Rattle.cbor.specs.Items.{Kind, Chunk, Item, tag, Items}
 use Rattle.cbor.specs.Heads.{majorOf, nextHead}
@@ -108,11 +108,11 @@ pub record PrintHeaded (s : List ℕ) (at : ℕ) (h : HeadAt) : Type 0 where
   pub inside : h .end ≤ length s
   pub most : h .major ≤ 7
 
--- a whole text: its length, and it stands at the front of the buffer if it fits
+-- a whole text: its length, and it stands at the front of the buffer, as far as that reaches
 pub record PrintedAll (s b b′ : List ℕ) (r : ℕ) : Type 0 where
   pub same : length b′ ≡ length b
   pub size : (xs : Items) → decode s ≡ ok xs [] → r ≡ length (printText xs)
-  pub is : (xs : Items) → decode s ≡ ok xs [] → length (printText xs) ≤ length b → b′ ≡ overBuffer b 0 (printText xs)
+  pub is : (xs : Items) → decode s ≡ ok xs [] → b′ ≡ clipped b 0 (printText xs)
 
 pub record TextSize (s : List ℕ) (r : ℕ) : Type 0 where
   pub size : (xs : Items) → decode s ≡ ok xs [] → r ≡ length (printText xs)

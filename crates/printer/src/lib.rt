@@ -17,9 +17,9 @@ ghost use Rattle.cbor.specs.Flags.{kindOf};
 ghost use Rattle.text_output.specs.PrintParts.{Prints, widthBy};
 ghost use Rattle.printer.specs.PrintAnswers.{entryText, chunkText, printOneOf, printAllOf, untilBy, modeBy, behindBy, PrintTurned, Moves, separatorOf, joined, openingBy, closingBy, containerText, chunkedText, tagText, PrintTold, PrintHeaded, PrintedAll, TextSize};
 
-pub struct Printed {
-    pub end: usize,
-    pub pos: usize,
+struct Printed {
+    end: usize,
+    pos: usize,
 }
 
 // How several go on: `mode` 0, a number of them; 1, to a break; else to the end of the bytes.

@@ -1,17 +1,17 @@
 -- Results laid into a buffer, and printing.
 -- Assumes nothing.
-use Prim.Native.Nat.{ℕ, _-_, _≤_, _<_, min}
+use Prim.Native.Nat.{ℕ, _-_, min}
 use native.Mathlib.Omega.{arith}
-use mathlib.Core.Path.{_≡_, refl, sym, ap, _∙_}
+use mathlib.Core.Path.{_≡_, refl, ap, _∙_}
 use mathlib.Core.Bool.{Bool, true, false}
-use mathlib.Core.List.{List, []}
+use mathlib.Core.List.{List}
 use lib.Dec.{leb}
 use lib.ListN.{length}
-use borrow.Author.Tests.{le-leb, lt-leb, leb-true, leb-false}
 use Rattle.cbor.specs.Refusals.{Result, ok, refuse, verdictOf}
 use Rattle.cbor.specs.Items.{Items}
 use Rattle.cbor.specs.Decode.{decode}
 use Rattle.memory.specs.Buffer.{over}
+use Rattle.memory.proofs.Buffer.{clipped-fits}
 use Rattle.refusal.specs.RefusalKinds.{kindNumber}
 use Rattle.walk.specs.WalkAnswers.{passTold, mapResult, toldOf, walkAllOf, contentsAll}
 use Rattle.refusal.specs.declared.Refusal.{Refusal}
@@ -38,7 +38,7 @@ module _ {s : List ℕ} (b : List ℕ) {n : ℕ} (t : TextSize s n) {v : Bool} (
     is = λ xs d.
         let z : n ≡ length (printText xs) = t .size xs d in
         let m = laid-room b f h in
-        let w : b′ ≡ over b 0 (printText xs) = p .is xs d (omega arith) in
+        let w : b′ ≡ over b 0 (printText xs) = p .is xs d ∙ clipped-fits b 0 (printText xs) (omega arith) in
         rw w (laid-yes b f (printText xs) z h);
   }
 

@@ -1,12 +1,14 @@
 -- What the programs write.
 -- Assumes nothing.
-use Prim.Native.Nat.{ℕ, _+_, _-_, _≤_, _<_, min}
+use Prim.Native.Nat.{ℕ, _^_, _≤_, _<_}
 use native.Mathlib.Omega.{arith}
+use mir.Syntax.{w8 as bits8, w64 as bits64}
+use mir.Val.{Fits}
 use mathlib.Core.Path.{_≡_, refl, sym, ap, _∙_}
 use mathlib.Core.Bool.{Bool, true, false}
-use mathlib.Core.List.{List, [], _∷_, _++_}
+use mathlib.Core.List.{List, [], _∷_}
 use lib.Dec.{leb}
-use lib.ListN.{length, take, replicate, length-append, length-replicate}
+use lib.ListN.{length, take, length-append, length-take, length-replicate}
 use lib.Seq.{take-all}
 use borrow.Author.Tests.{leb-true, leb-false}
 use Rattle.cbor.specs.Ascii.{ascii}
@@ -19,13 +21,15 @@ use Rattle.refusal.specs.declared.Refusal.{Refusal}
 use Rattle.notation.specs.Reading.{readText}
 use Rattle.notation.specs.Printing.{decimalOf, printText}
 use Rattle.text_output.specs.PrintParts.{Prints, contentOf}
-use Rattle.text_output.proofs.PrintLeaves.{prints-more, prints-as}
+use Rattle.text_output.proofs.PrintLeaves.{prints-more, decimal-length}
+use Rattle.printer.proofs.PrintBounds.{hex-length}
 use Rattle.operations.specs.Operations.{Outcome, andThen, room, fitting, written, bytesOf, itemsOf, textOf, read, print}
 use Rattle.outcome.specs.Outcomes.{outcomeOf}
 use Rattle.operations.specs.Programs.{acceptedLine, acceptedLines, atPlace, refusedLine, said, empty, readProgram, printProgram}
 use Rattle.outcome.specs.declared.Answer.{Answer}
 use Rattle.outcome.specs.declared.Answer.the-variants.{Written, Refused}
 use Rattle.cbor.proofs.Results.{refused-not-accepted}
+use Rattle.reporting.specs.Reports.{Reports}
 use Rattle.operations.proofs.Verdicts.{front-all, fitting-yes, fitting-no, fitting-same}
 
 -- THE LINES
@@ -42,9 +46,27 @@ pub at-line : (place : ℕ) {b b₁ b₂ b₃ : List ℕ} {pos p q r : ℕ} → 
 unfolding atPlace
 at-line place f g h = prints-more f (prints-more g h)
 
-pub refused-line : (n place : ℕ) {b b₁ b₂ b₃ : List ℕ} {k p q r : ℕ} → k ≡ n → Prints b b₁ 0 (ascii "refused ") p → Prints b₁ b₂ p (decimalOf k) q → Prints b₂ b₃ q (atPlace place) r → Prints b b₃ 0 (refusedLine n place) r
+-- a report whose length is a number of the code
+reported : {b b′ ws : List ℕ} {r : ℕ} → length ws < 2 ^ 64 → Prints b b′ 0 ws r → Reports b b′ ws r
+reported h f = record { same = f .same; size = omega (arith, f .next); is = f .is }
+
+refused-length : (n place : ℕ) → n < 2 ^ 64 → place < 2 ^ 64 → length (refusedLine n place) < 2 ^ 64
+unfolding refusedLine atPlace
+refused-length n place h k =
+    let i = decimal-length 19 n (omega arith) in
+    let j = decimal-length 19 place (omega arith) in
+    simp length-append (omega arith)
+
+accepted-length : (w : List ℕ) → length w ≤ mostBytes → length (acceptedLines w) < 2 ^ 64
+unfolding acceptedLines acceptedLine
+accepted-length w h =
+    let i = decimal-length 19 (length w) (omega arith) in
+    let j = hex-length w in
+    simp length-append (omega arith)
+
+pub refused-line : (n place : ℕ) {b b₁ b₂ b₃ : List ℕ} {k p q r : ℕ} → Fits bits8 k → Fits bits64 place → k ≡ n → Prints b b₁ 0 (ascii "refused ") p → Prints b₁ b₂ p (decimalOf k) q → Prints b₂ b₃ q (atPlace place) r → Reports b b₃ (refusedLine n place) r
 unfolding refusedLine
-refused-line n place e f g h = rw e at (prints-more f (prints-more g h))
+refused-line n place {k = k} u v e f g h = rw e at (reported (refused-length k place (omega arith) (omega arith)) (prints-more f (prints-more g h)))
 
 pub ruleset lines = (accepted-count, accepted-lines, at-line, refused-line)
 
@@ -74,18 +96,23 @@ room-over : (b w : List ℕ) → length w ≤ room b → length w ≤ length (ov
 unfolding over
 room-over b w h = simp length-append (omega arith)
 
-said-short : (b b′ : List ℕ) {a : Answer} {n : ℕ} {A : Type 0} (u : Verdict A) (f : A → List ℕ) → outcomeOf a b′ ≡ written b (λ w. w) (andThen u (λ x. fitting b (f x))) → a ≡ Written n → n ≤ length b′
-unfolding outcomeOf written andThen
+-- what was written is in the buffer, and no more than ever is
+record Short (b′ : List ℕ) (n : ℕ) : Type 0 where
+  inside : n ≤ length b′
+  most : n ≤ mostBytes
+
+said-short : (b b′ : List ℕ) {a : Answer} {n : ℕ} {A : Type 0} (u : Verdict A) (f : A → List ℕ) → outcomeOf a b′ ≡ written b (λ w. w) (andThen u (λ x. fitting b (f x))) → a ≡ Written n → Short b′ n
+unfolding outcomeOf written andThen room
 said-short b b′ {n = n} (accepted x) f e i = go (leb (length (f x)) (room b)) refl
   where
-    go : (v : Bool) → leb (length (f x)) (room b) ≡ v → n ≤ length b′
+    go : (v : Bool) → leb (length (f x)) (room b) ≡ v → Short b′ n
     go true t =
         let h = leb-true (length (f x)) (room b) t in
         let g : outcomeOf (Written n) b′ ≡ written b (λ w. w) (accepted (f x)) = (rw i at e) ∙ ap (written b (λ w. w)) (fitting-yes b (f x) h) in
         let k : _≡_ {A = Verdict ℕ} (accepted n) (accepted (length (f x))) = ap (λ (o : Outcome ℕ). o .answer) g in
         let m : n ≡ length (f x) = cc in
         let j : b′ ≡ over b 0 (f x) = ap (λ (o : Outcome ℕ). o .buffer) g in
-        rw (m, j) (room-over b (f x) h)
+        record { inside = rw (m, j) (room-over b (f x) h); most = omega arith }
     go false t =
         let g : outcomeOf (Written n) b′ ≡ written b (λ w. w) (refused noRoom 0) = (rw i at e) ∙ ap (written b (λ w. w)) (fitting-no b (f x) (leb-false (length (f x)) (room b) t)) in
         absurd (refused-not-accepted (sym (ap (λ (o : Outcome ℕ). o .answer) g)))
@@ -101,44 +128,52 @@ empty-length : length empty ≡ mostBytes
 unfolding empty
 empty-length = length-replicate {A = ℕ} mostBytes 0
 
+-- a report under another name
+reports-as : {b b′ ws vs : List ℕ} {r : ℕ} → ws ≡ vs → Reports b b′ ws r → Reports b b′ vs r
+reports-as {b} {b′} {ws} {vs} {r} e f = rw e at f
+
 -- either program, from the operation's answer
 module _ {A : Type 0} (lines : List ℕ → List ℕ) (u : Verdict A) (f : A → List ℕ) (b b′ : List ℕ) (l : length b ≡ mostBytes) where
   program : said lines (andThen u (λ x. fitting b (f x))) ≡ said lines (andThen u (λ x. fitting empty (f x)))
   program = ap (said lines) (onward-same u f empty b (l ∙ sym empty-length))
 
-  program-done : {a : Answer} {n : ℕ} {o o′ : List ℕ} {r : ℕ} → outcomeOf a b′ ≡ written b (λ w. w) (andThen u (λ x. fitting b (f x))) → a ≡ Written n → Prints o o′ 0 (lines (take n b′)) r
-      → Prints o o′ 0 (said lines (andThen u (λ x. fitting empty (f x)))) r
-  program-done {n = n} h i p = prints-as (sym (said-done lines b b′ (andThen u (λ x. fitting b (f x))) n h i) ∙ program) p
+  module _ {a : Answer} {o o′ : List ℕ} {r : ℕ} (h : outcomeOf a b′ ≡ written b (λ w. w) (andThen u (λ x. fitting b (f x)))) where
+    program-done : {n : ℕ} → ((w : List ℕ) → length w ≤ mostBytes → length (lines w) < 2 ^ 64) → a ≡ Written n → Prints o o′ 0 (lines (take n b′)) r → Reports o o′ (said lines (andThen u (λ x. fitting empty (f x)))) r
+    program-done {n} s i p =
+        let m = said-short b b′ u f h i in
+        let k : length (take n b′) ≤ mostBytes = rw (length-take n b′) (omega arith) in
+        reports-as (sym (said-done lines b b′ (andThen u (λ x. fitting b (f x))) n h i) ∙ program) (reported (s (take n b′) k) p)
 
-  program-refused : {a : Answer} {e : Refusal} {o o′ : List ℕ} {r : ℕ} → outcomeOf a b′ ≡ written b (λ w. w) (andThen u (λ x. fitting b (f x))) → a ≡ Refused e
-      → Prints o o′ 0 (refusedLine (kindNumber (e .kind)) (e .place)) r → Prints o o′ 0 (said lines (andThen u (λ x. fitting empty (f x)))) r
-  program-refused {e = e} h i p = prints-as (sym (said-refused lines b b′ (andThen u (λ x. fitting b (f x))) e h i) ∙ program) p
+    program-refused : {e : Refusal} → a ≡ Refused e → Reports o o′ (refusedLine (kindNumber (e .kind)) (e .place)) r → Reports o o′ (said lines (andThen u (λ x. fitting empty (f x)))) r
+    program-refused {e} i p = reports-as (sym (said-refused lines b b′ (andThen u (λ x. fitting b (f x))) e h i) ∙ program) p
 
 module _ (s b b′ : List ℕ) {a : Answer} (h : outcomeOf a b′ ≡ read s b) where
   pub read-short : {n : ℕ} → a ≡ Written n → n ≤ length b′
   unfolding read bytesOf
-  read-short i = said-short b b′ (readText s) encodeAll h i
+  read-short i = said-short b b′ (readText s) encodeAll h i .inside
 
-  pub read-accepted : {n : ℕ} {o o′ : List ℕ} {r : ℕ} → length b ≡ mostBytes → a ≡ Written n → Prints o o′ 0 (acceptedLines (take n b′)) r → Prints o o′ 0 (readProgram s) r
-  unfolding read readProgram bytesOf
-  read-accepted l i p = program-done acceptedLines (readText s) encodeAll b b′ l h i p
+  module _ {o o′ : List ℕ} {r : ℕ} (l : length b ≡ mostBytes) where
+    pub read-accepted : {n : ℕ} → a ≡ Written n → Prints o o′ 0 (acceptedLines (take n b′)) r → Reports o o′ (readProgram s) r
+    unfolding read readProgram bytesOf
+    read-accepted i p = program-done acceptedLines (readText s) encodeAll b b′ l h accepted-length i p
 
-  pub read-refused : {e : Refusal} {o o′ : List ℕ} {r : ℕ} → length b ≡ mostBytes → a ≡ Refused e → Prints o o′ 0 (refusedLine (kindNumber (e .kind)) (e .place)) r → Prints o o′ 0 (readProgram s) r
-  unfolding read readProgram bytesOf
-  read-refused l i p = program-refused acceptedLines (readText s) encodeAll b b′ l h i p
+    pub read-refused : {e : Refusal} → a ≡ Refused e → Reports o o′ (refusedLine (kindNumber (e .kind)) (e .place)) r → Reports o o′ (readProgram s) r
+    unfolding read readProgram bytesOf
+    read-refused i p = program-refused acceptedLines (readText s) encodeAll b b′ l h i p
 
 module _ (s b b′ : List ℕ) {a : Answer} (h : outcomeOf a b′ ≡ print s b) where
   pub print-short : {n : ℕ} → a ≡ Written n → n ≤ length b′
   unfolding print textOf
-  print-short i = said-short b b′ (itemsOf s) printText h i
+  print-short i = said-short b b′ (itemsOf s) printText h i .inside
 
-  pub print-accepted : {n : ℕ} {o o′ : List ℕ} {r : ℕ} → length b ≡ mostBytes → a ≡ Written n → Prints o o′ 0 (take n b′) r → Prints o o′ 0 (printProgram s) r
-  unfolding print printProgram textOf
-  print-accepted l i p = program-done (λ w. w) (itemsOf s) printText b b′ l h i p
+  module _ {o o′ : List ℕ} {r : ℕ} (l : length b ≡ mostBytes) where
+    pub print-accepted : {n : ℕ} → a ≡ Written n → Prints o o′ 0 (take n b′) r → Reports o o′ (printProgram s) r
+    unfolding print printProgram textOf
+    print-accepted i p = program-done (λ w. w) (itemsOf s) printText b b′ l h (λ w k. omega arith) i p
 
-  pub print-refused : {e : Refusal} {o o′ : List ℕ} {r : ℕ} → length b ≡ mostBytes → a ≡ Refused e → Prints o o′ 0 (refusedLine (kindNumber (e .kind)) (e .place)) r → Prints o o′ 0 (printProgram s) r
-  unfolding print printProgram textOf
-  print-refused l i p = program-refused (λ w. w) (itemsOf s) printText b b′ l h i p
+    pub print-refused : {e : Refusal} → a ≡ Refused e → Reports o o′ (refusedLine (kindNumber (e .kind)) (e .place)) r → Reports o o′ (printProgram s) r
+    unfolding print printProgram textOf
+    print-refused i p = program-refused (λ w. w) (itemsOf s) printText b b′ l h i p
 
 pub ruleset program-ways = (read-accepted, read-refused, print-accepted, print-refused)
 

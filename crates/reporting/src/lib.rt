@@ -7,7 +7,9 @@ ghost use mathlib.Core.Path.{_≡_};
 ghost use lib.ListN.{length, take};
 ghost use Rattle.cbor.specs.Decode.{mostBytes};
 ghost use Rattle.refusal.specs.RefusalKinds.{kindNumber};
+ghost use Rattle.memory.specs.Buffer.{clipped};
 ghost use Rattle.text_output.specs.PrintParts.{Prints};
+ghost use Rattle.reporting.specs.Reports.{Reports};
 ghost use Rattle.operations.specs.Programs.{acceptedLine, acceptedLines, atPlace, refusedLine, readProgram, printProgram};
 
 // `accepted N`.
@@ -39,7 +41,7 @@ fn at_place(place: usize, out: &mut [u8], pos: usize) -> usize
 
 // `refused C at P`.
 fn refused(e: Refusal, out: &mut [u8]) -> usize
-    ensures { λ r. ⌜ Prints (now (out .entry)) (now (out .exit)) 0 (refusedLine (kindNumber (e .kind)) (e .place)) r ⌝ }
+    ensures { λ r. ⌜ Reports (now (out .entry)) (now (out .exit)) (refusedLine (kindNumber (e .kind)) (e .place)) r ⌝ }
 {
     let kind = e.kind;
     let n = refusal::number(kind) as u64;
@@ -50,7 +52,7 @@ fn refused(e: Refusal, out: &mut [u8]) -> usize
 
 fn said_of_read(text: &[u8], bytes: &mut [u8], out: &mut [u8]) -> usize
     requires { ⌜ length (now bytes) ≡ mostBytes ⌝ }
-    ensures { λ r. ⌜ Prints (now (out .entry)) (now (out .exit)) 0 (readProgram (now (text .entry))) r ⌝ }
+    ensures { λ r. ⌜ Reports (now (out .entry)) (now (out .exit)) (readProgram (now (text .entry))) r ⌝ }
 {
     let a = read(text, bytes);
     match a {
@@ -61,7 +63,7 @@ fn said_of_read(text: &[u8], bytes: &mut [u8], out: &mut [u8]) -> usize
 
 fn said_of_print(bytes: &[u8], text: &mut [u8], out: &mut [u8]) -> usize
     requires { ⌜ length (now text) ≡ mostBytes ⌝ }
-    ensures { λ r. ⌜ Prints (now (out .entry)) (now (out .exit)) 0 (printProgram (now (bytes .entry))) r ⌝ }
+    ensures { λ r. ⌜ Reports (now (out .entry)) (now (out .exit)) (printProgram (now (bytes .entry))) r ⌝ }
 {
     let a = print(bytes, text);
     match a {
@@ -70,17 +72,19 @@ fn said_of_print(bytes: &[u8], text: &mut [u8], out: &mut [u8]) -> usize
     }
 }
 
-// What the program that reads a text writes: as many bytes of the buffer as it answers, if there is room for them.
+// What the program that reads a text writes, as far as the buffer reaches; answers the length of all of it.
 pub fn report_read(text: &[u8], out: &mut [u8]) -> usize
-    ensures { λ r. ⌜ Prints (now (out .entry)) (now (out .exit)) 0 (readProgram (now (text .entry))) r ⌝ }
+    ensures { λ r. ⌜ r ≡ length (readProgram (now (text .entry))) ⌝ }
+    ensures { λ r. ⌜ now (out .exit) ≡ clipped (now (out .entry)) 0 (readProgram (now (text .entry))) ⌝ }
 {
     let mut bytes = [0; 65535];
     said_of_read(text, &mut bytes, out)
 }
 
-// What the program that prints bytes writes.
+// What the program that prints bytes writes, in the same way.
 pub fn report_print(bytes: &[u8], out: &mut [u8]) -> usize
-    ensures { λ r. ⌜ Prints (now (out .entry)) (now (out .exit)) 0 (printProgram (now (bytes .entry))) r ⌝ }
+    ensures { λ r. ⌜ r ≡ length (printProgram (now (bytes .entry))) ⌝ }
+    ensures { λ r. ⌜ now (out .exit) ≡ clipped (now (out .entry)) 0 (printProgram (now (bytes .entry))) ⌝ }
 {
     let mut text = [0; 65535];
     said_of_print(bytes, &mut text, out)

@@ -5,16 +5,17 @@ use mathlib.Core.Bool.{Bool, true, false}
 use mathlib.Core.List.{List, [], _∷_, _++_, append-assoc, append-nil}
 use Prim.Native.Nat.{ℕ, zero, suc, _+_, _-_, _*_, _/_, _%_, _^_, _≤_, _<_}
 use native.Mathlib.Numerals.{add-one}
+use native.Mathlib.Nat.{pow-suc}
 use native.Mathlib.Omega.{arith}
-use lib.Dec.{ltb}
+use lib.Dec.{ltb, leb}
 use lib.ListN.{length, take, set, getD, length-append, length-set}
 use lib.Seq.{take-suc}
 use mir.Syntax.{w64 as bits64}
 use mir.Val.{Fits}
-use borrow.Author.Tests.{ltb-false, lt-ltb, le-ltb, eq-eqb, ne-eqb}
+use borrow.Author.Tests.{leb-true, leb-false, ltb-false, lt-ltb, le-ltb, eq-eqb, ne-eqb}
 use Rattle.cbor.specs.Ascii.{ascii}
-use Rattle.memory.specs.Buffer.{over}
-use Rattle.memory.proofs.Buffer.{over-nil, over-one, over-more}
+use Rattle.memory.specs.Buffer.{clipped}
+use Rattle.memory.proofs.Buffer.{clipped-past, clipped-nil, clipped-one, clipped-more}
 use Rattle.notation.specs.Printing.{decimalWithin, decimalOf, hexDigitOf, hexByteOf, hexOf, escapeOf, escapedOf}
 use Rattle.memory.specs.Sums.{capped}
 use Rattle.text_output.specs.PrintParts.{Prints, contentOf}
@@ -28,12 +29,9 @@ prints-more {b} {b₁} {b₂} {ws} {vs} {pos} {p} {q} f g =
       same = g .same ∙ f .same;
       short = f .short;
       next = omega (arith, f .next, g .next, l);
-      is = λ h.
-          let i : pos ≤ length b = omega (arith, l) in
-          let e : p ≡ pos + length ws = omega (arith, f .next, f .short, l) in
-          let k : p + length vs ≤ length b₁ = omega (arith, f .same, l) in
-          let j : pos + length ws ≤ length b = omega (arith, l) in
-          g .is k ∙ ap (λ (n : ℕ). over b₁ n vs) e ∙ ap (λ (x : List ℕ). over x (pos + length ws) vs) (f .is j) ∙ over-more b pos ws i vs;
+      is =
+          let i : length b ≤ 2 ^ 64 - 1 = omega (arith, f .short) in
+          g .is ∙ (λ j. clipped (f .is j) (f .next j) vs) ∙ clipped-more b pos ws vs (2 ^ 64 - 1) i;
     }
 
 -- what is printed, under another name
@@ -42,13 +40,13 @@ prints-as {b} {b′} {ws} {vs} {pos} {p} e f = rw e at f
 
 module _ {b : List ℕ} {pos : ℕ} (s : length b * 1 < 2 ^ 63) where
   pub prints-none : Fits bits64 pos → Prints b b pos [] pos
-  prints-none u = record { same = refl; short = omega arith; next = omega arith; is = λ h. sym (over-nil b pos) }
+  prints-none u = record { same = refl; short = omega arith; next = omega arith; is = sym (clipped-nil b pos) }
 
   pub put-in : {v : ℕ} → pos < length b → Prints b (set b pos v) pos (v ∷ []) (pos + 1)
-  put-in {v} h = record { same = length-set b pos v; short = omega arith; next = omega arith; is = λ f. over-one b pos v h }
+  put-in {v} h = record { same = length-set b pos v; short = omega arith; next = omega arith; is = clipped-one b pos v h }
 
   pub put-past : {v r : ℕ} → length b ≤ pos → r ≡ capped pos 1 → Prints b b pos (v ∷ []) r
-  put-past h e = record { same = refl; short = omega arith; next = e; is = λ f. absurd (omega arith) }
+  put-past {v} h e = record { same = refl; short = omega arith; next = e; is = sym (clipped-past b pos (v ∷ []) h) }
 
 -- ALL OF A TEXT
 
@@ -107,6 +105,20 @@ decimal-more n h =
     let a : n / 10 < n = omega arith in
     let b : n / 10 < suc (n / 10) = omega arith in
     rw (le-ltb n 10 h, decimalWithin) (ap (λ (x : List ℕ). x ++ (0x30 + n % 10) ∷ []) (decimal-fuel n (suc (n / 10)) (n / 10) a b))
+
+-- how many digits it has at most
+pub decimal-length : (k n : ℕ) → n < 10 ^ suc k → length (decimalOf n) ≤ suc k
+decimal-length zero n h = let d = decimal-one n (omega arith) in rw d (omega arith)
+decimal-length (suc k) n h = go (leb 10 n) refl (λ l. decimal-length k (n / 10) l)
+  where
+    go : (t : Bool) → leb 10 n ≡ t → (n / 10 < 10 ^ suc k → length (decimalOf (n / 10)) ≤ suc k) → length (decimalOf n) ≤ suc (suc k)
+    go false e i = let l = leb-false 10 n e in rw (decimal-one n l) (omega arith)
+    go true e i =
+        let l = leb-true 10 n e in
+        let p = pow-suc 10 (suc k) in
+        let q : n / 10 < 10 ^ suc k = omega arith in
+        let j = i q in
+        rw (decimal-more n l) (simp length-append (omega arith))
 
 module _ {b b₁ : List ℕ} {n pos p : ℕ} where
   pub decimal-digit : n < 10 → Prints b b₁ pos ((0x30 + n) ∷ []) p → Prints b b₁ pos (decimalOf n) p

@@ -1,24 +1,24 @@
 -- Of the code: what is written, and what the code has for the parts of a head.
-use Prim.Native.Nat.{ℕ, _+_, _-_, _^_, _≤_, _<_}
+use Prim.Native.Nat.{ℕ, _^_, _<_}
 use mathlib.Core.Path.{_≡_}
 use mathlib.Core.Bool.{Bool, true, false}
 use mathlib.Core.List.{List, [], _∷_, _++_}
 use lib.Dec.{eqb}
 use lib.ListN.{length}
 use Rattle.cbor.specs.Ascii.{ascii}
-use Rattle.memory.specs.Buffer.{over as overBuffer}
+use Rattle.memory.specs.Buffer.{clipped}
 use Rattle.cbor.specs.Widths.{Width, w0, w1, w2, w4, w8}
 use Rattle.cbor.specs.Items.{Size, definite, indefinite}
 use Rattle.memory.specs.Sums.{capped}
 use Rattle.notation.specs.Words.{simpleWord}
 use Rattle.notation.specs.Printing.{decimalOf, hexOf, escapedOf}
 
--- from b to b′: ws was written at pos, if it fits; if not, nothing is said but that the buffer is as long. r is the place behind it
+-- from b to b′: ws was written from pos on, as far as the buffer reaches. r is the place behind all of it
 pub record Prints (b b′ : List ℕ) (pos : ℕ) (ws : List ℕ) (r : ℕ) : Type 0 where
   pub same : length b′ ≡ length b
   pub short : length b < 2 ^ 64
   pub next : r ≡ capped pos (length ws)
-  pub is : pos + length ws ≤ length b → b′ ≡ overBuffer b pos ws
+  pub is : b′ ≡ clipped b pos ws
 
 -- the bytes of a string, as they stand between its quotes
 unfoldable pub contentOf : Bool → List ℕ → List ℕ
