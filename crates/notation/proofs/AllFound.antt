@@ -10,7 +10,7 @@ use lib.ListN.{length}
 use Rattle.cbor.specs.Refusals.{ok, accepted}
 use Rattle.cbor.specs.Items.{Item, int, string, chunked, array, map, tag, simple, Items, levels}
 use Rattle.cbor.specs.Decode.{mostLevels}
-use Rattle.cbor.specs.Paths.{found, nth, child, descend, locate}
+use Rattle.cbor.specs.Paths.{Spot, found, nth, child, descend, locate}
 use Rattle.cbor.proofs.Results.{verdict-ok}
 use Rattle.cbor.proofs.Utf8Text.{text-of}
 use Rattle.notation.specs.Scanning.{skip}
@@ -19,7 +19,7 @@ use Rattle.notation.specs.Cutting.{next, place}
 use Rattle.notation.specs.Form.{atStart, one, take, beginning, obey, reads}
 use Rattle.notation.specs.Reading.{marked, sequence, readText, single, readItem}
 use Rattle.notation.specs.Places.{toElement, into, toward, levelsAt, around, Span, spanOf, spanAt, textAt}
-use Rattle.notation.specs.Theorems.{IntoLeaf, ItemsFound, ItemFound}
+use Rattle.notation.specs.Theorems.{IntoLeaf, ItemsFound}
 use Rattle.notation.proofs.Good.{stop-nil, like}
 use Rattle.notation.proofs.TextScan.{tested}
 use Rattle.notation.proofs.Locality.{next-skip}
@@ -196,5 +196,6 @@ items-found t xs e =
       leaves = λ p z f l. rw f at (leaf-ends t xs e p l);
     }
 
-pub item-found : ItemFound
+-- so each item has its place
+pub item-found : (t : List ℕ) (xs : Items) (p : List ℕ) (z : Spot) → readText t ≡ accepted xs → locate p xs ≡ found z → (w : Span) × (spanAt p t ≡ found w)
 item-found t xs p z e f = ⊎-elim (λ w. w) (λ l. absurd (items-found t xs e .leaves p z f l)) (items-found t xs e .every p z f)

@@ -70,7 +70,3 @@ pub record AllFound (t : List ℕ) (xs : Items) : Type 0 where
 
 abbrev pub ItemsFound : Type 0
 ItemsFound = (t : List ℕ) (xs : Items) → readText t ≡ accepted xs → AllFound t xs
-
--- so each item has its place
-abbrev pub ItemFound : Type 0
-ItemFound = (t : List ℕ) (xs : Items) (p : List ℕ) (z : Spot) → readText t ≡ accepted xs → locate p xs ≡ found z → (w : Span) × (spanAt p t ≡ found w)

@@ -28,7 +28,7 @@ use Rattle.notation.specs.Theorems.{Edits}
 use Rattle.notation.proofs.PrintWhole.{text-of-print}
 use Rattle.notation.proofs.SoundRead.{text-valid}
 use Rattle.notation.proofs.Edited.{edited-text}
-use Rattle.notation.proofs.AllFound.{item-found}
+use Rattle.notation.proofs.AllFound.{items-found}
 use Rattle.operations.specs.Operations.{andThen, room, fitting, written, bytesOf, read, itemsOf, textOf, print, spotOf, lookUp, partOf, level, replaced, correction, zeroed, correct}
 use Rattle.operations.specs.Demands.{Demand1, Allowed, Encoded, Restores, Demand2, LookedUp, PartLookedUp, Blank, tab, newline, carriageReturn, space, blankByte, OneItem, Stored, Edit, editedText, Agree, Demand3}
 use Rattle.operations.proofs.Verdicts.{onward-ok, onward-is, onward-refused, fitting-yes, fitting-ok, fitting-same, written-ok, written-kept, front-all, agree-same, agree-refused}
@@ -187,4 +187,4 @@ agreed text buffer used (k ∷ p) new e fresh same =
     agrees text buffer used (e .stored) k p (e .item) (edited-text text (e .stored .items) k p (e .item) (e .stored .accepts) (e .place)) (blankByte (e .before)) (blankByte (e .behind)) (blank-is (e .before)) (blank-is (e .behind)) new (e .short) fresh same (readItem (levelsAt mostLevels p) new) refl (e .form)
 
 pub demand3 : Demand3
-demand3 = record { items = item-found; agrees = agreed }
+demand3 = record { items = items-found; agrees = agreed }

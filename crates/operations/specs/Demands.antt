@@ -13,7 +13,7 @@ use Rattle.cbor.specs.Decode.{mostBytes}
 use Rattle.cbor.specs.Paths.{Spot, found}
 use Rattle.notation.specs.Reading.{readText, readItem}
 use Rattle.notation.specs.Places.{Span, spanAt, edited}
-use Rattle.notation.specs.Theorems.{ItemFound}
+use Rattle.notation.specs.Theorems.{ItemsFound}
 use Rattle.operations.specs.Operations.{Outcome, room, read, itemsOf, print, lookUp, partOf, level, correct}
 
 -- DEMAND 1. "Reading, printing, looking up and correcting take every input, bad or good, and end.": they are functions of all that is
@@ -134,8 +134,8 @@ pub record Agree (c r : Outcome ℕ) : Type 0 where
 
 pub record Demand3 : Type 0 where
   -- "any item in it that is no map key and not inside a tag, a map key, an embedded sequence or a string": those are the items that a path
-  -- leads to, and each has its place in the text
-  pub items : ItemFound
+  -- leads to, and all of them are found in the text
+  pub items : ItemsFound
   -- "Then, whatever the length of the buffer that holds the old bytes"
   pub agrees : (text buffer : List ℕ) (used : ℕ) (path new : List ℕ) (e : Edit text buffer used path new) (fresh : List ℕ) → length fresh ≡ length buffer
       → Agree (correct buffer used path new) (read (editedText e) fresh)
