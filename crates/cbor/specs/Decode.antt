@@ -1,7 +1,7 @@
 -- From the papers: from bytes to items (RFC 8949; document 01, "Refusal numbers": bytes).
 use Prim.Native.Nat.{ℕ, zero, suc, _/_}
 use mathlib.Core.List.{List, [], _∷_}
-use mathlib.Core.Bool.{Bool, true, false}
+use mathlib.Core.Bool.{true, false}
 use lib.Dec.{leb, eqb}
 use lib.ListN.{length}
 use Rattle.cbor.specs.Refusals.{Result, ok, refuse, bind, tooLong, notUtf8, tooDeep, badTypedArray, endsInside, notWellFormed}

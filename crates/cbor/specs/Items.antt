@@ -1,6 +1,6 @@
 -- From the papers: CBOR data items with their encoding (RFC 8949, section 3): the width of each head, definite or indefinite length,
 -- chunks.
-use Prim.Native.Nat.{ℕ, zero, suc, max}
+use Prim.Native.Nat.{ℕ, suc, max}
 use mathlib.Core.List.{List}
 use Rattle.cbor.specs.Widths.{Width}
 

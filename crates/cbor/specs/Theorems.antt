@@ -1,7 +1,7 @@
 -- Theorems: what holds of the definitions. Each statement is proved in `proofs/` under its name in lower case.
 use Prim.Native.Nat.{ℕ, _≤_}
 use mathlib.Core.Path.{_≡_}
-use mathlib.Core.List.{List, [], _∷_, _++_}
+use mathlib.Core.List.{List, [], _++_}
 use lib.ListN.{length}
 use Rattle.cbor.specs.Refusals.{ok}
 use Rattle.cbor.specs.Items.{Item, Items, levels, levelsAll}

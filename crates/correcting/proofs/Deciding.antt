@@ -44,7 +44,7 @@ use Rattle.looking.specs.declared.Part.{Part}
 use Rattle.planning.specs.declared.Plan.{Plan}
 use Rattle.planning.specs.declared.Decision.{Decision}
 use Rattle.planning.specs.declared.Decision.the-variants.{Replace, Refused}
-use Rattle.operations.proofs.Verdicts.{onward-ok, onward-is, onward-refused, front-all}
+use Rattle.operations.proofs.Verdicts.{and-then-ok, and-then-is, and-then-refused, front-all}
 use Rattle.text_check.proofs.Texts.{passes, fails, passed-short}
 use Rattle.operations.proofs.Demands.{itemsOf-ok}
 use Rattle.planning.proofs.Putting.{whole-length}
@@ -162,7 +162,7 @@ spot-found path xs z e = go (locate path xs) e
 spotted : (s path : List ℕ) (p : Part) → Bytes s → (v : Verdict Spot) → lookUp s path ≡ v → locateTold (PartV p) ≡ locateOf v → Spotted s path p
 unfolding locateTold locateOf lookUp start end
 spotted s path p b (accepted z) e h =
-    let o = onward-ok (itemsOf s) (λ xs. spotOf (locate path xs)) e in
+    let o = and-then-ok (itemsOf s) (λ xs. spotOf (locate path xs)) e in
     let d = itemsOf-ok s (o .0) b (o .1) in
     let w = part-at-path path (o .0) z (spot-found path (o .0) z (o .2)) .was in
     record { spot = z; is = e; start = cc; end = cc; whole = sym (d .same) ∙ w }
@@ -229,7 +229,7 @@ module _ (b : List ℕ) (used : ℕ) (path text : List ℕ) {v : Bool} (f : v �
   module _ (t : v ≡ true) {r : Located} (sp : Spots (take used b) path r) where
     pub decide-refused : {item : List ℕ} {e : Refusal} → r ≡ PartRefused e → Decides b used path text item (Refused e)
     unfolding decisionOf Planned
-    decide-refused {item} {e} i = record { is = sym (onward-of t ∙ onward-refused _ (refused-spot e (lookUp (take used b) path) (rw i at (sp .told)))); planned = tt }
+    decide-refused {item} {e} i = record { is = sym (onward-of t ∙ and-then-refused _ (refused-spot e (lookUp (take used b) path) (rw i at (sp .told)))); planned = tt }
 
     found-at : {p : Part} → r ≡ PartV p → Spotted (take used b) path p
     found-at {p} i = spotted (take used b) path p (sp .bytes) (lookUp (take used b) path) refl (rw i at (sp .told))
@@ -245,7 +245,7 @@ module _ (b : List ℕ) (used : ℕ) (path text : List ℕ) {v : Bool} (f : v �
         let s = found-at i in
         let l : used ≤ length b = omega (arith, inside t) in
         record {
-          is = x .is b ∙ ap (λ (k : ℕ). andThen (readItem k text) (λ y. roomFor b p used (length b) (encode y))) e ∙ onward-room b used path p l s (readItem (level path) text) ∙ sym (onward-of t ∙ onward-is _ (s .is));
+          is = x .is b ∙ ap (λ (k : ℕ). andThen (readItem k text) (λ y. roomFor b p used (length b) (encode y))) e ∙ onward-room b used path p l s (readItem (level path) text) ∙ sym (onward-of t ∙ and-then-is _ (s .is));
           planned = x .planned b refl l;
         }
 

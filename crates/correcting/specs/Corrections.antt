@@ -1,10 +1,10 @@
 -- Of the code: what the code of correcting answers: a decision, with nothing written, and the writing.
-use Prim.Native.Nat.{ℕ, _+_, _-_, _≤_, min}
+use Prim.Native.Nat.{ℕ, _≤_, min}
 use mathlib.Core.Path.{_≡_}
-use mathlib.Core.List.{List, _++_}
+use mathlib.Core.List.{List}
 use mathlib.Core.Bool.{true, false}
 use lib.Dec.{leb}
-use lib.ListN.{length, take, drop}
+use lib.ListN.{length, take}
 use Rattle.cbor.specs.Refusals.{Verdict, accepted, refused, noRoom}
 use Rattle.cbor.specs.Items.{Item}
 use Rattle.cbor.specs.Encode.{encode}

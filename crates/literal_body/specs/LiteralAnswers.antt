@@ -2,8 +2,8 @@
 use Prim.Native.Nat.{ℕ, zero, suc, _+_, _≤_, _<_}
 use mathlib.Core.Path.{_≡_}
 use mathlib.Core.List.{List, [], _∷_}
-use mathlib.Core.Bool.{Bool, true, false}
-use lib.Dec.{eqb, ltb}
+use mathlib.Core.Bool.{true, false}
+use lib.Dec.{eqb}
 use lib.ListN.{length, take, drop}
 use Rattle.cbor.specs.Refusals.{Result, ok, refuse}
 use Rattle.memory.specs.Buffer.{over}

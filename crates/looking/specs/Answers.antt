@@ -2,9 +2,7 @@
 use Prim.Native.Nat.{ℕ, _-_, _≤_}
 use mathlib.Core.Path.{_≡_}
 use mathlib.Core.List.{List}
-use mathlib.Core.Bool.{true, false}
-use lib.Dec.{eqb}
-use lib.ListN.{length, drop}
+use lib.ListN.{length}
 use Rattle.cbor.specs.Refusals.{Result, ok, refuse, bind, Verdict, accepted, refused}
 use Rattle.cbor.specs.Items.{Item, Items}
 use Rattle.cbor.specs.Heads.{Head, majorNumber, itemMajor, nextHead}
@@ -16,7 +14,6 @@ use Rattle.head.specs.HeadAnswers.{sizeInformation}
 use Rattle.walk.specs.WalkAnswers.{passTold, walkAllOf}
 use Rattle.walk.specs.declared.Passed.{Passed}
 use Rattle.operations.specs.Operations.{lookUp}
-use Rattle.path.specs.Following.{at}
 use Rattle.looking.specs.declared.Checked.{Checked}
 use Rattle.looking.specs.declared.Checked.the-variants.{Accepted, Refused as CheckRefused}
 use Rattle.looking.specs.declared.Located.{Located}

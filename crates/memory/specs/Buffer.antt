@@ -1,4 +1,4 @@
--- Of the code: for the operations and the code: writing into a buffer of fixed length.
+-- For the operations and the code: writing into a buffer of fixed length.
 use Prim.Native.Nat.{ℕ, _+_, _-_, max}
 use mathlib.Core.List.{List, _++_}
 use mathlib.Core.Bool.{true, false}

@@ -1,4 +1,4 @@
--- Of the code: sums in code.
+-- Of the code: sums.
 use Prim.Native.Nat.{ℕ, _+_, _-_, _^_, min}
 
 -- a sum that stops at the largest number

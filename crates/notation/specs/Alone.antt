@@ -6,7 +6,6 @@ use lib.Dec.{eqb}
 use lib.ListN.{length}
 use Rattle.cbor.specs.Refusals.{Result, ok, refuse, bind, notAllowed}
 use Rattle.cbor.specs.Items.{Item}
-use Rattle.notation.specs.Cutting.{place}
 use Rattle.notation.specs.Form.{one, reads}
 use Rattle.notation.specs.Reading.{marked, isAtToken, outside}
 

@@ -1,8 +1,8 @@
 -- From the papers: the class of each byte (document 01, Tokens: "The class of each of the 256 byte values stands in one table").
 use Prim.Native.Nat.{ℕ}
 use mathlib.Core.List.{List, [], _∷_}
-use mathlib.Core.Bool.{Bool, true, false, _&&_, _||_}
-use lib.Dec.{leb, eqb}
+use mathlib.Core.Bool.{Bool, true, false, _||_}
+use lib.Dec.{eqb}
 use Rattle.cbor.specs.Utf8.{Range, _to_, isIn}
 
 -- `endMark` is the class of 256, which is no byte and stands behind the text; `other` begins no token

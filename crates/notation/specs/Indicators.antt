@@ -1,7 +1,7 @@
 -- From the papers: encoding indicators (document 01, Tokens: "Indicator").
 use Prim.Native.Nat.{ℕ}
 use mathlib.Core.List.{List, [], _∷_}
-use mathlib.Core.Bool.{Bool, true, false}
+use mathlib.Core.Bool.{true, false}
 use lib.Dec.{eqb}
 use Rattle.cbor.specs.Refusals.{Result, ok, bind}
 use Rattle.cbor.specs.Widths.{Width, w0, w1, w2, w4, w8, fits, shortest}

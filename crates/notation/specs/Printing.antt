@@ -1,8 +1,8 @@
 -- From the papers: printing (document 01, Printed layout).
-use Prim.Native.Nat.{ℕ, zero, suc, _+_, _*_, _/_, _%_}
+use Prim.Native.Nat.{ℕ, zero, suc, _+_, _/_, _%_}
 use mathlib.Core.List.{List, [], _∷_, _++_}
-use mathlib.Core.Bool.{Bool, true, false, _||_}
-use lib.Dec.{leb, ltb, eqb}
+use mathlib.Core.Bool.{true, false, _||_}
+use lib.Dec.{ltb, eqb}
 use lib.ListN.{length}
 use Rattle.cbor.specs.Ascii.{ascii}
 use Rattle.cbor.specs.Widths.{Width, w0, w1, w2, w4, w8, argumentBytes, shortest}

@@ -1,7 +1,7 @@
 -- From the papers: quoted strings: escapes (document 01, Tokens: `"..."`, `'...'`).
 use Prim.Native.Nat.{ℕ, zero, suc, _+_, _-_, _*_, _/_, _%_}
 use mathlib.Core.List.{List, [], _∷_, _++_}
-use mathlib.Core.Bool.{Bool, true, false, _&&_, not}
+use mathlib.Core.Bool.{true, false, _&&_}
 use lib.Dec.{leb, ltb, eqb}
 use Rattle.cbor.specs.Refusals.{Result, ok, bind, noToken}
 use Rattle.cbor.specs.Utf8.{_to_, isIn}

@@ -1,6 +1,6 @@
 -- From the papers: reading a whole text, and the text of one item (document 01, "Refusal numbers": "Text: 1, then 2 over all of it,
 -- then tokens").
-use Prim.Native.Nat.{ℕ, zero, suc, _-_}
+use Prim.Native.Nat.{ℕ, suc}
 use mathlib.Core.List.{List, [], _∷_, _++_}
 use mathlib.Core.Bool.{Bool, true, false}
 use lib.Dec.{leb, eqb}

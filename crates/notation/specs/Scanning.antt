@@ -1,10 +1,9 @@
 -- From the papers: scanning from the front of a text: blanks and comments, and the small steps that tokens are cut with.
 -- A text is a list of bytes, with the end mark 256 behind it where all of it is read.
-use Prim.Native.Nat.{ℕ, zero, suc}
+use Prim.Native.Nat.{ℕ}
 use mathlib.Core.List.{List, [], _∷_}
 use mathlib.Core.Bool.{Bool, true, false, _&&_, _||_}
 use lib.Dec.{leb, eqb}
-use lib.ListN.{length}
 use Rattle.cbor.specs.Refusals.{Result, ok, refuse, bind}
 use Rattle.notation.specs.Classes.{blank, slash, hash, is}
 

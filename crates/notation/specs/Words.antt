@@ -1,5 +1,5 @@
 -- From the papers: words, prefixes and `simple(n)` (document 01, Tokens: "A word"), compared byte for byte.
-use Prim.Native.Nat.{ℕ, zero, suc}
+use Prim.Native.Nat.{ℕ}
 use mathlib.Core.List.{List, [], _∷_}
 use mathlib.Core.Bool.{Bool, true, false, _&&_, _||_}
 use lib.Dec.{leb, eqb}

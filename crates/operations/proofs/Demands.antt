@@ -31,7 +31,7 @@ use Rattle.notation.proofs.Edited.{edited-text}
 use Rattle.notation.proofs.AllFound.{items-found}
 use Rattle.operations.specs.Operations.{andThen, room, fitting, written, bytesOf, read, itemsOf, textOf, print, spotOf, lookUp, partOf, level, replaced, correction, zeroed, correct}
 use Rattle.operations.specs.Demands.{Demand1, Allowed, Encoded, Restores, Demand2, LookedUp, PartLookedUp, Blank, tab, newline, carriageReturn, space, blankByte, OneItem, Stored, Edit, editedText, Agree, Demand3}
-use Rattle.operations.proofs.Verdicts.{onward-ok, onward-is, onward-refused, fitting-yes, fitting-ok, fitting-same, written-ok, written-kept, front-all, agree-same, agree-refused}
+use Rattle.operations.proofs.Verdicts.{and-then-ok, and-then-is, and-then-refused, fitting-yes, fitting-ok, fitting-same, written-ok, written-kept, front-all, agree-same, agree-refused}
 
 -- DEMAND 1
 
@@ -53,14 +53,14 @@ module _ (text buffer : List ℕ) (n : ℕ) where
   unfolding read bytesOf
   allowed e =
       let w = written-ok buffer (λ w. w) (bytesOf text buffer) e in
-      let o = onward-ok (readText text) (λ xs. fitting buffer (encodeAll xs)) (w .1) in
+      let o = and-then-ok (readText text) (λ xs. fitting buffer (encodeAll xs)) (w .1) in
       let f = fitting-ok buffer (encodeAll (o .0)) (o .2) in
       let m : length (encodeAll (o .0)) ≡ n = ap length (f .0) ∙ w .2 in
       record { items = o .0; allows = o .1; sized = m; fits = rw m at (f .1) }
 
   bytes-are : (a : Allowed text buffer n) → bytesOf text buffer ≡ accepted (encodeAll (a .items))
   unfolding bytesOf
-  bytes-are a = onward-is (λ xs. fitting buffer (encodeAll xs)) (a .allows) ∙ fitting-yes buffer (encodeAll (a .items)) (rw (a .sized) (a .fits))
+  bytes-are a = and-then-is (λ xs. fitting buffer (encodeAll xs)) (a .allows) ∙ fitting-yes buffer (encodeAll (a .items)) (rw (a .sized) (a .fits))
 
   accepts : Allowed text buffer n → read text buffer .answer ≡ accepted n
   unfolding read written
@@ -92,7 +92,7 @@ round-trip : (bytes : List ℕ) → Bytes bytes → (buffer : List ℕ) (n : ℕ
 unfolding print textOf bytesOf room
 round-trip bytes u buffer n e buffer′ h =
     let w = written-ok buffer (λ w. w) (textOf bytes buffer) e in
-    let o = onward-ok (itemsOf bytes) (λ xs. fitting buffer (printText xs)) (w .1) in
+    let o = and-then-ok (itemsOf bytes) (λ xs. fitting buffer (printText xs)) (w .1) in
     let f = fitting-ok buffer (printText (o .0)) (o .2) in
     made (w .0) (w .1) (w .2) (o .0) (f .0) (f .1) (itemsOf-ok bytes (o .0) u (o .1))
   where
@@ -102,7 +102,7 @@ round-trip bytes u buffer n e buffer′ h =
         let t : take n (print bytes buffer .buffer) ≡ w = rw (← l) (printed bytes buffer w i) in
         let q : readText w ≡ accepted xs = rw (← p) (text-of-print xs (d .valid) (d .low) (omega arith)) in
         let k : length bytes ≤ room buffer′ = omega (arith, d .short) in
-        rw t (restores w bytes buffer′ (onward-is _ q ∙ ap (fitting buffer′) (d .same) ∙ fitting-yes buffer′ bytes k))
+        rw t (restores w bytes buffer′ (and-then-is _ q ∙ ap (fitting buffer′) (d .same) ∙ fitting-yes buffer′ bytes k))
 
 -- whatever reading makes, decoding accepts, as the items that were read
 pub reading-checks : (text : List ℕ) (xs : Items) → readText text ≡ accepted xs → length (encodeAll xs) ≤ mostBytes → itemsOf (encodeAll xs) ≡ accepted xs
@@ -138,7 +138,7 @@ spot-ok (nowhere i) e = absurd (refused-not-accepted e)
 pub part-looked-up : PartLookedUp
 unfolding lookUp partOf start end
 part-looked-up bytes path z u e =
-    let o = onward-ok (itemsOf bytes) (λ xs. spotOf (locate path xs)) e in
+    let o = and-then-ok (itemsOf bytes) (λ xs. spotOf (locate path xs)) e in
     let w : bytes ≡ z .before ++ (encode (z .item) ++ z .behind) = sym (itemsOf-ok bytes (o .0) u (o .1) .same) ∙ part-at-path path (o .0) z (spot-ok (locate path (o .0)) (o .2)) .was in
     record { part = ap (λ (s : List ℕ). take ((length (z .before) + length (encode (z .item))) - length (z .before)) (drop (length (z .before)) s)) w ∙ cut-out (z .before) (encode (z .item)) (z .behind); whole = w }
 
@@ -147,31 +147,31 @@ part-looked-up bytes path z u e =
 -- the item is found in the bytes
 looked-up : (bytes path : List ℕ) (xs : Items) (o : Spot) → itemsOf bytes ≡ accepted xs → locate path xs ≡ found o → lookUp bytes path ≡ accepted o
 unfolding lookUp spotOf
-looked-up bytes path xs o e f = onward-is _ e ∙ rw f
+looked-up bytes path xs o e f = and-then-is _ e ∙ rw f
 
-module _ (text buffer : List ℕ) (used : ℕ) (sheet : Stored text buffer used) (k : ℕ) (p : List ℕ) (z : Span) (ed : Edits text (sheet .items) k p z) where
+module _ (text buffer : List ℕ) (used : ℕ) (old : Stored text buffer used) (k : ℕ) (p : List ℕ) (z : Span) (ed : Edits text (old .items) k p z) where
   -- so what is left is the text, and room for the result
   correction-is : (new : List ℕ) → correction buffer used (k ∷ p) new ≡ andThen (readItem (levelsAt mostLevels p) new) (λ y. fitting buffer (replaced (ed .spot) y))
   unfolding correction room level
   correction-is new =
-      let l : used ≤ min (length buffer) mostBytes = omega (arith, sheet .short, sheet .within) in
-      let c : itemsOf (take used buffer) ≡ accepted (sheet .items) = rw (sheet .held) (reading-checks text (sheet .items) (sheet .accepts) (rw (sheet .sized) (sheet .short))) in
-      rw (le-leb used (min (length buffer) mostBytes) l, correction) (onward-is _ (looked-up (take used buffer) (k ∷ p) (sheet .items) (ed .spot) c (ed .place)))
+      let l : used ≤ min (length buffer) mostBytes = omega (arith, old .short, old .within) in
+      let c : itemsOf (take used buffer) ≡ accepted (old .items) = rw (old .held) (reading-checks text (old .items) (old .accepts) (rw (old .sized) (old .short))) in
+      rw (le-leb used (min (length buffer) mostBytes) l, correction) (and-then-is _ (looked-up (take used buffer) (k ∷ p) (old .items) (ed .spot) c (ed .place)))
 
   module _ (b₁ b₂ : ℕ) (h₁ : is blank b₁ ≡ true) (h₂ : is blank b₂ ≡ true) (new : List ℕ) (short : length (edited text z b₁ new b₂) ≤ mostBytes) (fresh : List ℕ) (same : length fresh ≡ length buffer) where
     -- the bytes of the edited text are those of the correction
     edited-bytes : (y : Item) → readItem (levelsAt mostLevels p) new ≡ accepted y → bytesOf (edited text z b₁ new b₂) fresh ≡ correction buffer used (k ∷ p) new
     unfolding bytesOf replaced
     edited-bytes y e =
-        let w = part-at-path (k ∷ p) (sheet .items) (ed .spot) (ed .place) .now y in
-        onward-is _ (ed .replaces b₁ b₂ h₁ h₂ new y short e) ∙ ap (fitting fresh) w ∙ fitting-same buffer fresh _ same ∙ sym (correction-is new ∙ onward-is _ e)
+        let w = part-at-path (k ∷ p) (old .items) (ed .spot) (ed .place) .now y in
+        and-then-is _ (ed .replaces b₁ b₂ h₁ h₂ new y short e) ∙ ap (fitting fresh) w ∙ fitting-same buffer fresh _ same ∙ sym (correction-is new ∙ and-then-is _ e)
 
     agrees : (v : Verdict Item) → readItem (levelsAt mostLevels p) new ≡ v → OneItem v → Agree (correct buffer used (k ∷ p) new) (read (edited text z b₁ new b₂) fresh)
     unfolding correct read bytesOf
     agrees (accepted y) e o = rw (edited-bytes y e) (agree-same buffer fresh used (correction buffer used (k ∷ p) new))
     agrees (refused n q) e o =
         let r = ed .refuses b₁ b₂ h₁ h₂ new n q short e (o .0) (o .1) in
-        agree-refused buffer fresh (zeroed used) (λ w. w) _ _ (correction-is new ∙ onward-refused _ e) (onward-refused _ (r .2))
+        agree-refused buffer fresh (zeroed used) (λ w. w) _ _ (correction-is new ∙ and-then-refused _ e) (and-then-refused _ (r .2))
 
 blank-is : (b : Blank) → is blank (blankByte b) ≡ true
 unfolding blankByte is classOf classIn classRows isIn classNumber

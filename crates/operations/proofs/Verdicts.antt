@@ -15,18 +15,18 @@ use Rattle.cbor.proofs.Results.{refused-not-accepted}
 use Rattle.operations.specs.Operations.{andThen, room, fitting, written, zeroed}
 use Rattle.operations.specs.Demands.{Kept, Agree}
 
-pub onward-ok : {A B : Type 0} (v : Verdict A) (k : A → Verdict B) {y : B} → andThen v k ≡ accepted y → (x : A) × (v ≡ accepted x) × (k x ≡ accepted y)
+pub and-then-ok : {A B : Type 0} (v : Verdict A) (k : A → Verdict B) {y : B} → andThen v k ≡ accepted y → (x : A) × (v ≡ accepted x) × (k x ≡ accepted y)
 unfolding andThen
-onward-ok (accepted x) k e = (x, refl, e)
-onward-ok (refused n q) k e = absurd (refused-not-accepted e)
+and-then-ok (accepted x) k e = (x, refl, e)
+and-then-ok (refused n q) k e = absurd (refused-not-accepted e)
 
-pub onward-is : {A B : Type 0} {v : Verdict A} {x : A} (k : A → Verdict B) → v ≡ accepted x → andThen v k ≡ k x
+pub and-then-is : {A B : Type 0} {v : Verdict A} {x : A} (k : A → Verdict B) → v ≡ accepted x → andThen v k ≡ k x
 unfolding andThen
-onward-is k e = rw e
+and-then-is k e = rw e
 
-pub onward-refused : {A B : Type 0} {v : Verdict A} {n q : ℕ} (k : A → Verdict B) → v ≡ refused n q → andThen v k ≡ refused n q
+pub and-then-refused : {A B : Type 0} {v : Verdict A} {n q : ℕ} (k : A → Verdict B) → v ≡ refused n q → andThen v k ≡ refused n q
 unfolding andThen
-onward-refused k e = rw e
+and-then-refused k e = rw e
 
 pub fitting-yes : (buffer w : List ℕ) → length w ≤ room buffer → fitting buffer w ≡ accepted w
 unfolding fitting

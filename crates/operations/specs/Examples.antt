@@ -1,6 +1,6 @@
 -- Examples of the papers: the starred examples of document 01 ("On both sides of the line"), computed of the operations: one table, one
 -- statement.
-use Prim.Native.Nat.{ℕ, zero, suc, _+_, _-_}
+use Prim.Native.Nat.{ℕ, _+_, _-_}
 use Prim.Native.String.{String}
 use mathlib.Core.List.{List, [], _∷_, _++_}
 use mathlib.Core.List as L

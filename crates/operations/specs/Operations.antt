@@ -1,8 +1,8 @@
 -- From the papers: the four operations, as functions of all that is lent (texts, bytes, buffers with what they hold) to the answer and
 -- to what the buffer holds then; refused calls leave it as it was.
-use Prim.Native.Nat.{ℕ, zero, suc, _+_, _-_, min}
+use Prim.Native.Nat.{ℕ, _+_, _-_, min}
 use mathlib.Core.List.{List, [], _∷_, _++_}
-use mathlib.Core.Bool.{Bool, true, false}
+use mathlib.Core.Bool.{true, false}
 use lib.Dec.{leb}
 use lib.ListN.{length, take, drop, replicate}
 use Rattle.cbor.specs.Refusals.{Verdict, accepted, refused, verdictOf, tooLong, noRoom, noSuchPath}

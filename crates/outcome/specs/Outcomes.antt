@@ -1,7 +1,7 @@
--- Of the code: what the code answers that writes into a lent buffer, and what its parts answer.
-use Prim.Native.Nat.{ℕ, suc, _≤_}
+-- Of the code: what an operation answers that writes into a lent buffer, with what the buffer then holds.
+use Prim.Native.Nat.{ℕ, _≤_}
 use mathlib.Core.Path.{_≡_}
-use mathlib.Core.List.{List, []}
+use mathlib.Core.List.{List}
 use lib.ListN.{length, take}
 use Rattle.cbor.specs.Refusals.{accepted, refused}
 use Rattle.cbor.specs.Decode.{mostBytes}
@@ -22,8 +22,6 @@ pub record Refuses (k : RefusalKind) (place : ℕ) (r : Answer) : Type 0 where
 -- bytes that fit are laid at the front of the buffer
 unfoldable pub laid : List ℕ → List ℕ → Outcome ℕ
 laid b w = written b (λ v. v) (fitting b w)
-
--- READING
 
 -- m begins with w, which has n bytes, if those are not more than a result may have
 pub record Holds (m : List ℕ) (n : ℕ) (w : List ℕ) : Type 0 where

@@ -7,7 +7,6 @@ use lib.Dec.{leb}
 use lib.ListN.{length, take, drop}
 use Rattle.cbor.specs.Decode.{mostBytes}
 use Rattle.refusal.specs.declared.RefusalKind.the-variants.{NoRoom}
-use Rattle.operations.specs.Operations.{correction}
 use Rattle.looking.specs.declared.Part.{Part}
 use Rattle.planning.specs.declared.Plan.{Plan}
 use Rattle.planning.specs.declared.Decision.{Decision}

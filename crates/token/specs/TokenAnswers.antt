@@ -1,7 +1,7 @@
 -- Of the code: what the code's tokens say of the tokens of the definitions. s is a text.
 use Prim.Native.Nat.{ℕ, zero, suc, _-_, _≤_, _<_}
 use mathlib.Core.Path.{_≡_}
-use mathlib.Core.List.{List, [], _∷_}
+use mathlib.Core.List.{List}
 use lib.ListN.{length, take, drop}
 use Rattle.cbor.specs.Refusals.{Result, ok, refuse}
 use Rattle.cbor.specs.Widths.{Width, w0, w1, w2, w4, w8}
