@@ -3,6 +3,8 @@
 // the counts.
 ghost use mathlib.Core.Path.{_≡_};
 ghost use lib.ListN.{length};
+use libc::STDIN_FILENO;
+use libc::STDOUT_FILENO;
 
 fn space() -> [u8; 131072]
     ensures { λ r. ⌜ 131072 ≡ length r ⌝ }
@@ -12,9 +14,14 @@ fn space() -> [u8; 131072]
 
 fn main() {
     let mut text = space();
-    let n = io::read_full(0, &mut text);
+    let input = streams::read_all(STDIN_FILENO, &mut text);
+    let n = input.size;
+    if !input.is_whole {
+        os::fail(b"vectors: standard input cannot be read");
+        return;
+    }
     if 131071 < n {
-        io::write_all(1, b"there are more rows than are read\n");
+        io::write_all(STDOUT_FILENO, b"there are more rows than are read\n");
     }
     row_runner::lines::run_all(&text[..n]);
 }
