@@ -1,0 +1,58 @@
+//! The commands of README.md for the command line, word for word, each block where the one before it left off; and what README says that
+//! they write.
+use std::fs;
+use std::path::{Path, PathBuf};
+use std::process::{Command, Output};
+
+const INDENT: &str = "    ";
+
+fn root() -> PathBuf {
+    Path::new(env!("CARGO_MANIFEST_DIR")).join("../..")
+}
+
+/// The indented blocks of README.md, without their indent.
+fn blocks() -> Vec<String> {
+    let text = fs::read_to_string(root().join("README.md")).unwrap();
+    let mut blocks = vec![String::new()];
+    let mut fenced = false;
+    for line in text.lines() {
+        fenced ^= line.starts_with("```");
+        match line.strip_prefix(INDENT) {
+            Some(code) if !fenced => *blocks.last_mut().unwrap() += &format!("{code}\n"),
+            _ => blocks.push(String::new()),
+        }
+    }
+    blocks.retain(|b| !b.is_empty());
+    blocks
+}
+
+/// Runs a block in a folder, with this build's `edn` on the path.
+fn run(block: &str, folder: &Path) -> Output {
+    let binaries = Path::new(env!("CARGO_BIN_EXE_edn")).parent().unwrap().to_str().unwrap();
+    let path = format!("{binaries}:{}", std::env::var("PATH").unwrap());
+    Command::new("sh").args(["-e", "-c", block]).current_dir(folder).env("PATH", path).output().unwrap()
+}
+
+#[test]
+fn the_commands_of_the_readme() {
+    let folder = Path::new(env!("CARGO_TARGET_TMPDIR")).join("readme");
+    let _ = fs::remove_dir_all(&folder);
+    fs::create_dir_all(folder.join("samples")).unwrap();
+    fs::copy(root().join("samples/vehicle.edn"), folder.join("samples/vehicle.edn")).unwrap();
+
+    let blocks = blocks();
+    let of_edn: Vec<usize> = (0..blocks.len()).filter(|&i| blocks[i].lines().any(|l| l.starts_with("edn "))).collect();
+    let [first, second] = of_edn[..] else { panic!("README has {} blocks with edn", of_edn.len()) };
+
+    let o = run(&blocks[first], &folder);
+    let written = String::from_utf8(o.stdout).unwrap();
+    assert_eq!((o.status.code(), String::from_utf8_lossy(&o.stderr)), (Some(0), "".into()));
+    assert!(written.starts_with("target/vehicle.cbor: a sheet, 230 bytes\n\"catalyst\"\n{1: 64(h'6f05'), "), "{written}");
+    assert!(written.contains("\"catalyst\", \"heated catalyst\", "), "{written}");
+
+    let o = run(&blocks[second], &folder);
+    assert_eq!(String::from_utf8_lossy(&o.stdout), "\"catalyst\"\ntarget/vehicle.cbor: a sheet, 230 bytes\n");
+    assert_eq!(String::from_utf8_lossy(&o.stderr), blocks[second + 1], "the refusal that README quotes");
+    assert_eq!(o.status.code(), Some(0));
+    fs::remove_dir_all(&folder).unwrap();
+}
