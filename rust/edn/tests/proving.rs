@@ -5,7 +5,7 @@ use std::ffi::OsString;
 use std::fs;
 use std::os::unix::fs::PermissionsExt;
 use std::process::{Command, Stdio};
-use support::{cargo, package, run, run_to_fail, written, Folder, ARCHIVE};
+use support::{cargo, package, root, run, run_to_fail, written, Folder, ARCHIVE};
 
 /// A small repository with this package in it, and a toolchain that counts its runs and hands out the archive that these tests have.
 struct Pretended {
@@ -54,12 +54,17 @@ impl Pretended {
         Pretended { folder }
     }
 
-    fn cargo(&self, words: &[&str]) -> Command {
+    /// A path on which the pretended toolchain comes first.
+    fn programs(&self) -> OsString {
         let mut path = OsString::from(self.folder.path("rt"));
         path.push(":");
         path.push(std::env::var_os("PATH").unwrap());
+        path
+    }
+
+    fn cargo(&self, words: &[&str]) -> Command {
         let mut c = cargo(&self.folder, &self.folder.path("repository/rust/edn"), words);
-        c.args(["--lib", "--no-default-features"]).env_remove("EDN_LIB_DIR").env("PATH", path);
+        c.args(["--lib", "--no-default-features"]).env_remove("EDN_LIB_DIR").env("PATH", self.programs());
         c
     }
 
@@ -107,6 +112,22 @@ fn proves_again_what_changes() {
     p.folder.write("rt/rt", fs::read_to_string(p.folder.path("rt/rt")).unwrap() + "# newer\n");
     run(&mut p.cargo(&["build"]));
     assert_eq!(p.runs(), 4, "another toolchain");
+}
+
+/// `make` too builds the archive by the toolchain, and only where a source is newer.
+#[test]
+fn make_proves_what_changes() {
+    let p = Pretended::new("make-proves");
+    run(Command::new("cp").arg("-r").args(["Makefile", "edn.pc.in", "include"].map(|f| root().join(f))).arg(p.folder.path("repository")));
+    let mut make = Command::new("make");
+    make.arg("-C").arg(p.folder.path("repository")).env_remove("EDN_LIB_DIR").env_remove("MAKEFLAGS").env("PATH", p.programs());
+    run(&mut make);
+    run(&mut make);
+    assert_eq!(p.runs(), 1);
+    assert_eq!(fs::read(p.folder.path("repository/target/staticlib/libedn_c.a")).unwrap(), fs::read(ARCHIVE).unwrap());
+    p.change("crates/tiny/src/lib.rt", "tinY");
+    run(&mut make);
+    assert_eq!(p.runs(), 2);
 }
 
 /// Two profiles at the same time: one proves, the other waits for it.
@@ -161,7 +182,7 @@ fn the_build_says_how_far_it_is() {
 fn the_build_shows_at_a_terminal_how_far_it_is() {
     let p = Pretended::new("shows");
     let inner = p.cargo(&["build"]);
-    // script makes a session of its own: setsid would take the terminal away again
+    // without setsid, which would take the terminal away
     let words: Vec<String> = inner.get_args().skip(1).map(|w| format!("'{}'", w.to_str().unwrap())).collect();
     let mut c = Command::new("script");
     c.args(["--quiet", "--return", "--command", &words.join(" "), "/dev/null"]).stdin(Stdio::null());
