@@ -25,9 +25,7 @@ pub struct Progress {
 
 impl Progress {
     pub fn begin(crates: usize) -> Progress {
-        say(&format!(
-            "edn: proving the library, {crates} crates, before it is built: some 5 to 8 minutes where nothing of it is proved yet, and once"
-        ));
+        say(&format!("edn: proving the library, {crates} crates, before it is built: some 5 to 8 minutes on two quiet cores, and once"));
         Progress { started: Instant::now(), crates, proved: 0 }
     }
 
