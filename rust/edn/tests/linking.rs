@@ -1,30 +1,24 @@
 //! The library as others link it: the C example, with every warning an error, and on a small stack.
-use std::path::Path;
-use std::process::Command;
+mod support;
 
+use std::process::Command;
+use support::{root, run, Folder, ARCHIVE};
+
+/// By the commands that stand in the example.
 #[test]
 fn the_example_in_c() {
-    let root = Path::new(env!("CARGO_MANIFEST_DIR")).join("../..");
-    let program = Path::new(env!("CARGO_TARGET_TMPDIR")).join("sheet");
-    let built = Command::new("cc")
-        .args(["-std=c99", "-Wall", "-Wextra", "-Werror", "-pedantic", "-I"])
-        .arg(root.join("include"))
-        .arg(root.join("examples/sheet.c"))
-        .arg(env!("EDN_C_ARCHIVE"))
-        .arg("-o")
-        .arg(&program)
-        .output()
-        .expect("a C compiler, cc");
-    assert!(built.status.success(), "{}", String::from_utf8_lossy(&built.stderr));
-    let ran = Command::new(&program).output().unwrap();
+    let folder = Folder::new("linking");
+    let program = folder.path("sheet");
+    let mut compile = Command::new("cc");
+    compile.args(["-std=c99", "-Wall", "-Wextra", "-Werror", "-pedantic", "-I"]).arg(root().join("include"));
+    run(compile.arg(root().join("examples/sheet.c")).arg(ARCHIVE).arg("-o").arg(&program));
     assert_eq!(
-        String::from_utf8_lossy(&ran.stdout),
-        "read: 19 bytes\nitem: from 12 to 15\n{1: \"catalyst\", 2: h'0207', 3: [true, false]}\nrefused: 5 at 6\n"
+        run(&mut Command::new(&program)),
+        "read: 19 bytes\nitem: from 12 to 15\n{1: \"catalyst\", 2: h'0207', 3: [true, false]}\nread: refused 5 at 6: dots\n"
     );
-    assert!(ran.status.success());
 }
 
-/// What the header says of the stack, on the deepest sheets.
+/// Through the wrapper and on a thread, with the deepest sheets. What each function takes is measured by examples/stack.c.
 #[test]
 fn a_stack_of_128_kilobytes_is_enough() {
     let work = || {
