@@ -41,6 +41,7 @@ struct Archive {
 
 fn archive() -> Result<Archive, String> {
     println!("cargo:rerun-if-env-changed=EDN_LIB_DIR");
+    println!("cargo:rustc-check-cfg=cfg(prebuilt)");
     match env::var_os("EDN_LIB_DIR") {
         Some(folder) if !folder.is_empty() => given(&folder),
         _ => proved(),
@@ -50,6 +51,8 @@ fn archive() -> Result<Archive, String> {
 fn given(folder: &OsStr) -> Result<Archive, String> {
     let from = package().join(folder).join(ARCHIVE);
     println!("cargo:rerun-if-changed={}", from.display());
+    // for the tests that need the toolchain
+    println!("cargo:rustc-cfg=prebuilt");
     let bytes = fs::read(&from).map_err(|e| format!("EDN_LIB_DIR is set, and {} cannot be read: {e}", from.display()))?;
     Ok(Archive { bytes, from })
 }

@@ -1,20 +1,18 @@
 //! The two programs, `edn_read` and `edn_print`, where reading or writing is interrupted, comes in parts, or fails: a sheet that could not
-//! be read whole is never accepted.
+//! be read whole is never accepted. `rt` proves and links them; where the library was given prebuilt there may be none.
+mod support;
+
 use std::fs::{self, File, OpenOptions};
 use std::path::{Path, PathBuf};
 use std::process::{Command, Output, Stdio};
 use std::sync::OnceLock;
-
-fn root() -> PathBuf {
-    Path::new(env!("CARGO_MANIFEST_DIR")).join("../..")
-}
+use support::{package, root};
 
 /// A program, proved and linked where that is not done yet.
 fn program(name: &str) -> PathBuf {
     static BUILT: OnceLock<()> = OnceLock::new();
     BUILT.get_or_init(|| {
-        let made = Command::new("rt").args(["check", "edn_read", "edn_print"]).current_dir(root()).output().expect("rt on the path");
-        assert!(made.status.success(), "{}", String::from_utf8_lossy(&made.stderr));
+        support::run(Command::new("rt").args(["check", "edn_read", "edn_print"]).current_dir(root()));
     });
     root().join("target/bin").join(name)
 }
@@ -24,14 +22,13 @@ fn faults() -> &'static Path {
     static BUILT: OnceLock<PathBuf> = OnceLock::new();
     BUILT.get_or_init(|| {
         let library = Path::new(env!("CARGO_TARGET_TMPDIR")).join("faults.so");
-        let made = Command::new("cc")
-            .args(["-std=c99", "-Wall", "-Wextra", "-Werror", "-O1", "-fPIC", "-shared"])
-            .arg(Path::new(env!("CARGO_MANIFEST_DIR")).join("tests/faults/faults.c"))
-            .arg("-o")
-            .arg(&library)
-            .output()
-            .expect("a C compiler, cc");
-        assert!(made.status.success(), "{}", String::from_utf8_lossy(&made.stderr));
+        support::run(
+            Command::new("cc")
+                .args(["-std=c99", "-Wall", "-Wextra", "-Werror", "-O1", "-fPIC", "-shared"])
+                .arg(package().join("tests/faults/faults.c"))
+                .arg("-o")
+                .arg(&library),
+        );
         library
     })
 }
@@ -76,6 +73,7 @@ fn told(output: &Output, said: &str) {
 }
 
 #[test]
+#[cfg_attr(prebuilt, ignore = "needs rt")]
 fn interrupted_and_short_calls_are_made_again() {
     for job in jobs() {
         for faults_of in
@@ -90,6 +88,7 @@ fn interrupted_and_short_calls_are_made_again() {
 
 /// The front of a sheet is often a sheet too: `[1], [2` is cut off, `[1], ` is not.
 #[test]
+#[cfg_attr(prebuilt, ignore = "needs rt")]
 fn a_read_that_fails_is_not_the_end() {
     for job in jobs() {
         for moved in ["0", "1", "100"] {
@@ -100,6 +99,7 @@ fn a_read_that_fails_is_not_the_end() {
 }
 
 #[test]
+#[cfg_attr(prebuilt, ignore = "needs rt")]
 fn standard_input_that_cannot_be_read() {
     for job in jobs() {
         let name = job.program;
@@ -116,6 +116,7 @@ fn standard_input_that_cannot_be_read() {
 }
 
 #[test]
+#[cfg_attr(prebuilt, ignore = "needs rt")]
 fn standard_output_that_cannot_be_written() {
     for job in jobs() {
         let name = job.program;
@@ -130,6 +131,7 @@ fn standard_output_that_cannot_be_written() {
 
 /// What is refused goes to standard output, as document 01 has it, and nothing to standard error.
 #[test]
+#[cfg_attr(prebuilt, ignore = "needs rt")]
 fn a_refusal_is_no_failure() {
     let refused = |program, input: &[u8]| Job { program, input: input.to_vec(), output: vec![] };
     for (job, line) in [

@@ -1,14 +1,13 @@
 //! The commands of README.md for the command line, word for word, each block where the one before it left off; and what README says that
 //! they write.
+mod support;
+
 use std::fs;
-use std::path::{Path, PathBuf};
+use std::path::Path;
 use std::process::{Command, Output};
+use support::{root, Folder};
 
 const INDENT: &str = "    ";
-
-fn root() -> PathBuf {
-    Path::new(env!("CARGO_MANIFEST_DIR")).join("../..")
-}
 
 /// The indented blocks of README.md, without their indent.
 fn blocks() -> Vec<String> {
@@ -27,18 +26,16 @@ fn blocks() -> Vec<String> {
 }
 
 /// Runs a block in a folder, with this build's `edn` on the path.
-fn run(block: &str, folder: &Path) -> Output {
+fn run(block: &str, folder: &Folder) -> Output {
     let binaries = Path::new(env!("CARGO_BIN_EXE_edn")).parent().unwrap().to_str().unwrap();
     let path = format!("{binaries}:{}", std::env::var("PATH").unwrap());
-    Command::new("sh").args(["-e", "-c", block]).current_dir(folder).env("PATH", path).output().unwrap()
+    Command::new("sh").args(["-e", "-c", block]).current_dir(folder.path("")).env("PATH", path).output().unwrap()
 }
 
 #[test]
 fn the_commands_of_the_readme() {
-    let folder = Path::new(env!("CARGO_TARGET_TMPDIR")).join("readme");
-    let _ = fs::remove_dir_all(&folder);
-    fs::create_dir_all(folder.join("samples")).unwrap();
-    fs::copy(root().join("samples/vehicle.edn"), folder.join("samples/vehicle.edn")).unwrap();
+    let folder = Folder::new("readme");
+    folder.write("samples/vehicle.edn", fs::read(root().join("samples/vehicle.edn")).unwrap());
 
     let blocks = blocks();
     let of_edn: Vec<usize> = (0..blocks.len()).filter(|&i| blocks[i].lines().any(|l| l.starts_with("edn "))).collect();
@@ -54,5 +51,4 @@ fn the_commands_of_the_readme() {
     assert_eq!(String::from_utf8_lossy(&o.stdout), "\"catalyst\"\ntarget/vehicle.cbor: a sheet, 230 bytes\n");
     assert_eq!(String::from_utf8_lossy(&o.stderr), blocks[second + 1], "the refusal that README quotes");
     assert_eq!(o.status.code(), Some(0));
-    fs::remove_dir_all(&folder).unwrap();
 }
