@@ -6,7 +6,7 @@
 use super::c;
 use super::hidden::clean;
 use super::identity::Identity;
-use super::lock::Patience;
+use super::lock::{not_locked, Patience};
 use super::stop::{because, why};
 use std::ffi::{OsStr, OsString};
 use std::fs::{self, File, OpenOptions};
@@ -67,11 +67,7 @@ impl Beside {
                         return Ok(made);
                     }
                 }
-                Err(e) if e.kind() == io::ErrorKind::AlreadyExists => {
-                    if remove_leftover(&path)? == Leftover::Busy {
-                        patience.pause()?;
-                    }
-                }
+                Err(e) if e.kind() == io::ErrorKind::AlreadyExists => remove_leftover(&path, &patience)?,
                 Err(e) => return Err(because("no file can be made beside it", &e)),
             }
             patience.once_more()?;
@@ -84,8 +80,9 @@ impl Beside {
             Ok(true) if leads_to(path, &file)? => Ok(Some(Beside { path: path.to_path_buf(), file })),
             Ok(_) => Ok(None),
             Err(e) => {
+                // no run can lock anything here, so none is at work on it
                 let _ = fs::remove_file(path);
-                Err(because("the file beside it cannot be locked", &e))
+                Err(not_locked(&e))
             }
         }
     }
@@ -117,30 +114,22 @@ fn leads_to(path: &Path, file: &File) -> io::Result<bool> {
     Ok(Identity::at(path) == Some(Identity::of(&file.metadata()?)))
 }
 
-#[derive(PartialEq, Eq)]
-enum Leftover {
-    Gone,
-    Busy,
-}
-
-/// Removes what a killed run left, unless a live one is at work on it.
-fn remove_leftover(path: &Path) -> io::Result<Leftover> {
+/// Removes what a killed run left. Where a live one is at work on it, it is done with it once the lock is to be had.
+fn remove_leftover(path: &Path, patience: &Patience) -> io::Result<()> {
     let in_the_way = |why: &str| io::Error::other(format!("{} stands in the way: {why}", clean(&path.to_string_lossy())));
     let left = match OpenOptions::new().write(true).custom_flags(c::O_NOFOLLOW | c::O_NONBLOCK).open(path) {
         Ok(left) => left,
-        Err(e) if e.kind() == io::ErrorKind::NotFound => return Ok(Leftover::Gone),
+        Err(e) if e.kind() == io::ErrorKind::NotFound => return Ok(()),
         Err(e) => return Err(in_the_way(&format!("it cannot be opened: {}", why(&e)))),
     };
     if !left.metadata()?.is_file() {
         return Err(in_the_way("it is no plain file"));
     }
-    if !c::try_lock(&left)? {
-        return Ok(Leftover::Busy);
-    }
+    patience.lock(&left)?;
     if leads_to(path, &left)? {
         fs::remove_file(path).map_err(|e| in_the_way(&format!("it cannot be removed: {}", why(&e))))?;
     }
-    Ok(Leftover::Gone)
+    Ok(())
 }
 
 /// A folder that may not be read cannot be synced, and some file systems know no such thing; the rename stands all the same.

@@ -6,7 +6,6 @@ use super::hidden::clean;
 use super::identity::{behind_links, Identity};
 use super::lock::Patience;
 use super::source;
-use super::stop::because;
 use std::fs::{self, File, Metadata, OpenOptions};
 use std::io;
 use std::os::unix::fs::{MetadataExt, OpenOptionsExt};
@@ -36,9 +35,7 @@ impl Held {
             // before it is opened, since that may block on what is no plain file
             plain(&fs::metadata(&path)?)?;
             let file = rights.clone().custom_flags(c::O_NOFOLLOW).open(&path)?;
-            while !c::try_lock(&file).map_err(|e| because("it cannot be locked", &e))? {
-                patience.pause()?;
-            }
+            patience.lock(&file)?;
             let seen = file.metadata()?;
             if Identity::at(&path) == Some(Identity::of(&seen)) {
                 one_name(&seen)?;

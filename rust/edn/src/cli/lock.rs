@@ -1,4 +1,7 @@
 //! Waiting for another run that is at work on the same file.
+use super::c;
+use super::stop::because;
+use std::fs::File;
 use std::io;
 use std::thread::sleep;
 use std::time::{Duration, Instant};
@@ -25,10 +28,16 @@ impl<'a> Patience<'a> {
         Err(io::Error::other(format!("another correction of {} is under way", self.name)))
     }
 
-    /// Waits a little before the next try.
-    pub fn pause(&self) -> io::Result<()> {
-        self.once_more()?;
-        sleep(PAUSE);
+    /// Locks a file once whoever holds it has ended.
+    pub fn lock(&self, file: &File) -> io::Result<()> {
+        while !c::try_lock(file).map_err(|e| not_locked(&e))? {
+            self.once_more()?;
+            sleep(PAUSE);
+        }
         Ok(())
     }
+}
+
+pub fn not_locked(e: &io::Error) -> io::Error {
+    because("it cannot be locked", e)
 }
