@@ -328,6 +328,7 @@ fn what_stands_in_the_way_is_named() {
     fs::remove_file(&beside).unwrap();
     // a link, which is not followed
     let precious = f.file("precious", b"precious");
+    give(&precious);
     symlink(&precious, &beside).unwrap();
     refused();
     assert_eq!(fs::read(&precious).unwrap(), b"precious");
@@ -541,4 +542,30 @@ fn a_folder_without_the_right_to_write() {
         assert!(one_line(fed(bound().args(args), b"1")).contains(": you do not have the rights for it"));
         assert_eq!((fs::read(&sheet).unwrap(), f.names()), (SHEET.to_vec(), vec!["sheet".to_string()]));
     }
+}
+
+/// Such a folder cannot be synced either; the correction stands all the same.
+#[test]
+fn a_folder_that_may_not_be_listed() {
+    let f = bound_folder("unlisted");
+    let sheet = f.file("sheet", SHEET);
+    give(&sheet);
+    set_mode(&f.0, 0o300);
+    let o = fed(bound().args(["correct", &sheet, "0/0", "9"]), b"");
+    set_mode(&f.0, 0o700);
+    assert_eq!((o.status.code(), o.stderr, fs::read(&sheet).unwrap()), (Some(0), vec![], vec![0x82, 9, 2]));
+    assert_eq!(f.names(), ["sheet"]);
+}
+
+#[test]
+fn names_without_a_folder() {
+    let f = Folder::new("relative");
+    f.file("sheet", SHEET);
+    symlink("sheet", f.path("link")).unwrap();
+    for args in [&["correct", "sheet", "0/0", "9"][..], &["correct", "./link", "0/1", "8"], &["correct", "link", "0/1", "7", "-o", "new"]] {
+        let o = fed(Command::new(EDN).args(args).current_dir(&f.0), b"");
+        assert_eq!((o.status.code(), o.stderr), (Some(0), vec![]));
+    }
+    assert_eq!((fs::read(f.path("sheet")).unwrap(), fs::read(f.path("new")).unwrap()), (vec![0x82, 9, 8], vec![0x82, 9, 7]));
+    assert_eq!(f.names(), ["link", "new", "sheet"]);
 }

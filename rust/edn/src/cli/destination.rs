@@ -7,7 +7,6 @@ use super::standard;
 use super::stop::{why, Done, Stop};
 use std::fs::{self, File, OpenOptions};
 use std::io::{self, IsTerminal, Write};
-use std::os::unix::fs::FileTypeExt;
 use std::path::{Path, PathBuf};
 
 pub enum Destination {
@@ -56,7 +55,7 @@ impl Destination {
     /// Whether writing there would change the input, or remove it. A device or a pipe may well be both.
     pub fn is(&self, input: &File) -> bool {
         let Ok(m) = input.metadata() else { return false };
-        if !m.is_file() && !m.file_type().is_block_device() {
+        if !m.is_file() {
             return false;
         }
         let input = Some(Identity::of(&m));
