@@ -1,365 +1,220 @@
 //! `edn`: the command line over the library.
-mod show;
+mod cli;
 
+use cli::arguments::{self, Command, Correction, ItemPath};
+use cli::destination::{Content, Destination};
+use cli::held::Held;
+use cli::source::{Opened, Source};
+use cli::stop::{say, why, Done, Stop, REFUSED, TROUBLE};
+use cli::{identity, show};
 use edn::{Error, Place};
-use std::ffi::{OsStr, OsString};
-use std::fs::{self, File, OpenOptions};
-use std::io::{self, IsTerminal, Read, Write};
+use std::ffi::OsString;
+use std::fs::OpenOptions;
+use std::io;
 use std::os::unix::ffi::OsStrExt;
-use std::path::{Path, PathBuf};
+use std::path::Path;
 use std::process::ExitCode;
 
-const HELP: &str = "\
-edn: data sheets in CBOR diagnostic notation
-
-  edn read FILE [-o OUT]             text to bytes; to standard output, or to OUT
-  edn print FILE [-o OUT]            bytes to text
-  edn look FILE PATH                 the item at a path, as text
-  edn correct FILE PATH TEXT [-o OUT]  put the item TEXT at a path; FILE itself is changed,
-                                     or OUT is written
-  edn check FILE                     whether FILE's bytes are a sheet
-
-FILE '-' is standard input; 'correct' then writes to standard output.
-PATH is the number of an item, from 0, then of an array's element or the value of a
-map's pair, with slashes between: 0/2/1. It enters no key, tag or string.
-TEXT is one item, with no blank or comment around it; quote it for the shell:
-  edn correct sheet.cbor 0/1 '[1, \"two\", h'\\''03'\\'']'
-Bytes go to a terminal in hexadecimal. A file is written beside itself and renamed, so
-that nothing is lost on the way.
-
-Exit status: 0 done; 1 refused (the sheet, the path or the text); 2 bad usage, or a file
-that cannot be read or written.
-";
-
-/// Why the program ends without having done its work; what there is to say was said.
-enum Stop {
-    Refused,
-    Trouble,
-    /// Whoever read our output has gone.
-    Closed,
-}
-
-type Done = Result<(), Stop>;
+const VERSION: &str = concat!("edn ", env!("CARGO_PKG_VERSION"), "\n");
 
 fn main() -> ExitCode {
     let args: Vec<OsString> = std::env::args_os().skip(1).collect();
-    match run(&args) {
-        Ok(()) | Err(Stop::Closed) => ExitCode::SUCCESS,
-        Err(Stop::Refused) => ExitCode::from(1),
-        Err(Stop::Trouble) => ExitCode::from(2),
+    match arguments::parse(&args).and_then(run) {
+        Ok(()) => ExitCode::SUCCESS,
+        Err(stop) => stop.end(),
     }
 }
 
-fn say(message: &str) {
-    // nothing is left to do where even this cannot be written
-    let _ = io::stderr().write_all(format!("{message}\n").as_bytes());
-}
-
-fn trouble<T>(message: &str) -> Result<T, Stop> {
-    say(&format!("edn: {message}"));
-    Err(Stop::Trouble)
-}
-
-fn misused<T>(message: &str) -> Result<T, Stop> {
-    trouble(&format!("{message}\n'edn --help' says how it is used"))
-}
-
-/// The words of the command line.
-struct Words {
-    plain: Vec<OsString>,
-    out: Option<OsString>,
-}
-
-/// Takes the words apart. From the third on (correct's TEXT) a word that begins with '-' is no option, since -5 is an item; -o is.
-fn words(args: &[OsString]) -> Result<Option<Words>, Stop> {
-    let mut w = Words { plain: Vec::new(), out: None };
-    let mut options = true;
-    let mut rest = args.iter();
-    while let Some(a) = rest.next() {
-        let b = a.as_bytes();
-        if options && (b == b"-h" || b == b"--help") {
-            return Ok(None);
-        } else if options && (b == b"-o" || b == b"--output") {
-            match rest.next() {
-                Some(out) if w.out.is_none() => w.out = Some(out.clone()),
-                Some(_) => return misused("-o stands there twice"),
-                None => return misused("-o wants the name of a file behind it"),
-            }
-        } else if options && b == b"--" {
-            options = false;
-        } else if options && b.len() > 1 && b[0] == b'-' && w.plain.len() < 2 {
-            return misused(&format!("there is no option '{}'", a.to_string_lossy()));
-        } else {
-            w.plain.push(a.clone());
-        }
-    }
-    Ok(Some(w))
-}
-
-fn run(args: &[OsString]) -> Done {
-    let Some(command) = args.first() else { return misused("a command is wanted: read, print, look, correct or check") };
-    match command.as_bytes() {
-        b"-h" | b"--help" | b"help" => return output(HELP.as_bytes()),
-        b"-V" | b"--version" => return output(concat!("edn ", env!("CARGO_PKG_VERSION"), "\n").as_bytes()),
-        _ => {}
-    }
-    let (names, takes_out): (&[&str], bool) = match command.as_bytes() {
-        b"read" | b"print" => (&["FILE"], true),
-        b"look" => (&["FILE", "PATH"], false),
-        b"correct" => (&["FILE", "PATH", "TEXT"], true),
-        b"check" => (&["FILE"], false),
-        _ => return misused(&format!("there is no command '{}': read, print, look, correct or check", command.to_string_lossy())),
-    };
-    let Some(w) = words(&args[1..])? else { return output(HELP.as_bytes()) };
-    let command = command.to_str().unwrap();
-    if w.out.is_some() && !takes_out {
-        return misused(&format!("'edn {command}' takes no -o"));
-    }
-    if w.plain.len() < names.len() {
-        return misused(&format!("'edn {command}' wants {}; {} is missing", names.join(" "), names[w.plain.len()]));
-    }
-    if w.plain.len() > names.len() {
-        return misused(&format!(
-            "'edn {command}' wants {} and no more: '{}' is extra (quote a text that has blanks)",
-            names.join(" "),
-            w.plain[names.len()].to_string_lossy()
-        ));
-    }
-    let file = &w.plain[0];
+fn run(command: Command) -> Done {
     match command {
-        "read" => read(file, w.out.as_deref()),
-        "print" => print(file, w.out.as_deref()),
-        "look" => look(file, &w.plain[1]),
-        "correct" => correct(file, &w.plain[1], &w.plain[2], w.out.as_deref()),
-        _ => check(file),
+        Command::Help => output(arguments::HELP),
+        Command::Version => output(VERSION),
+        Command::Read { file, out } => read(&file, &out),
+        Command::Print { file, out } => print(&file, &out),
+        Command::Look { file, path } => look(&file, &path),
+        Command::Correct(c) => correct(&c),
+        Command::Check { files } => match &files[..] {
+            [file] => check(file),
+            _ => check_several(&files),
+        },
     }
 }
 
-// ------------------------------------------------------------------------------------------------------------------------- operations
+// ---------------------------------------------------------------------------------------------------------------------------- commands
 
-fn read(file: &OsStr, out: Option<&OsStr>) -> Done {
-    let text = input(file)?;
+fn read(file: &Source, out: &Destination) -> Done {
+    let text = input(file, out)?;
     match edn::read(&text) {
-        Ok(bytes) => deliver(&bytes, out),
+        Ok(bytes) => out.write(&Content::Bytes(&bytes)),
         Err(e) => {
-            refused(file, &text, &e);
+            let mut said = show::text_refusal(&file.name(), &text, &e);
             if !text.is_ascii() && edn::check(&text).is_ok() {
-                say("  This file holds bytes already, not text: did you mean 'edn print'?");
+                said.push_str("\n  This file holds bytes already, not text: did you mean 'edn print'?");
             }
-            Err(Stop::Refused)
+            Err(Stop::Refused(said))
         }
     }
 }
 
-fn print(file: &OsStr, out: Option<&OsStr>) -> Done {
-    let bytes = sheet(file)?;
+fn print(file: &Source, out: &Destination) -> Done {
+    let bytes = sheet(file, out)?;
     match edn::print(&bytes) {
-        Ok(text) => match out {
-            None => output(text.as_bytes()),
-            Some(out) => write(out, text.as_bytes()),
-        },
-        Err(e) => bad_bytes(file, &bytes, &e),
+        Ok(text) => out.write(&Content::Text(&text)),
+        Err(e) => Err(bad_bytes(file, &bytes, &e)),
     }
 }
 
-fn look(file: &OsStr, path: &OsStr) -> Done {
-    let steps = steps(path)?;
-    let bytes = sheet(file)?;
-    let part = match edn::look_up(&bytes, &steps) {
+fn look(file: &Source, path: &ItemPath) -> Done {
+    let bytes = sheet(file, &Destination::Standard)?;
+    let part = match edn::look_up(&bytes, &path.steps) {
         Ok(part) => part,
-        Err(e) if e.counted() == Place::Step => return bad_path(file, path, &e),
-        Err(e) => return bad_bytes(file, &bytes, &e),
+        Err(e) if e.counted() == Place::Step => return Err(bad_path(file, path, &e)),
+        Err(e) => return Err(bad_bytes(file, &bytes, &e)),
     };
     match edn::print(part) {
-        Ok(text) => output(text.as_bytes()),
-        Err(e) => bad_bytes(file, part, &e),
+        Ok(text) => output(&text),
+        Err(e) => Err(bad_bytes(file, part, &e)),
     }
 }
 
-fn correct(file: &OsStr, path: &OsStr, text: &OsStr, out: Option<&OsStr>) -> Done {
-    let steps = steps(path)?;
-    let bytes = sheet(file)?;
-    match edn::correct(&bytes, &steps, text.as_bytes()) {
-        Ok(new) => match out {
-            Some(out) => write(out, &new),
-            None if file == "-" => deliver(&new, None),
-            None => write(file, &new),
-        },
-        Err(e) if e.counted() == Place::Step => bad_path(file, path, &e),
-        Err(e) if e.counted() == Place::Bytes || bytes.len() > edn::MOST => bad_bytes(file, &bytes, &e),
-        Err(e) => {
-            refused(OsStr::new("TEXT"), text.as_bytes(), &e);
-            if e.number() == 11 {
-                say("  TEXT is one item, with no blank or comment before or behind it.");
-            }
-            say(&format!("  {} is unchanged.", name(file)));
-            Err(Stop::Refused)
+fn correct(c: &Correction) -> Done {
+    match (&c.file, &c.out) {
+        (Source::File(file), Destination::File(out)) if identity::same_file(file, out) => correct_in_place(c, file),
+        _ => {
+            let bytes = input(&c.file, &c.out)?;
+            c.out.write(&Content::Bytes(&corrected(c, &bytes)?))
         }
     }
 }
 
-fn check(file: &OsStr) -> Done {
-    let bytes = sheet(file)?;
-    match edn::check(&bytes) {
-        Ok(()) if bytes.is_empty() => output(format!("{}: a sheet of no items (it is empty)\n", name(file)).as_bytes()),
-        Ok(()) => output(format!("{}: a sheet, {} bytes\n", name(file), bytes.len()).as_bytes()),
-        Err(e) => bad_bytes(file, &bytes, &e),
+/// The lock is held from before the sheet is read until the new one stands in its place, so that no other correction is lost.
+fn correct_in_place(c: &Correction, file: &Path) -> Done {
+    let trouble = |e: io::Error| Stop::Trouble(format!("{} cannot be corrected: {}", c.file.name(), why(&e)));
+    let held = Held::take(file, OpenOptions::new().read(true).write(true)).map_err(trouble)?;
+    let bytes = held.read().map_err(trouble)?;
+    held.replace(&corrected(c, &bytes)?).map_err(trouble)
+}
+
+/// The sheet with the item put in. A text is refused here even where it would pass for bytes.
+fn corrected(c: &Correction, bytes: &[u8]) -> Result<Vec<u8>, Stop> {
+    let name = c.file.name();
+    if !c.bytes && holds_text(bytes) {
+        let (from, to) = match c.file {
+            Source::Standard => ("-", "FILE"),
+            Source::File(_) => (&name[..], &name[..]),
+        };
+        return Err(Stop::Trouble(format!(
+            "{name} looks like text, not bytes, and is unchanged\n  'edn read {from} -o {to}.cbor' makes bytes of it; if it is bytes, say so with --bytes."
+        )));
     }
+    edn::correct(bytes, &c.path.steps, c.text.as_bytes()).map_err(|e| match e.counted() {
+        Place::Step => bad_path(&c.file, &c.path, &e),
+        Place::Bytes => bad_bytes(&c.file, bytes, &e),
+        Place::Whole if bytes.len() > edn::MOST => bad_bytes(&c.file, bytes, &e),
+        Place::Whole | Place::Text => {
+            let mut said = show::text_refusal("TEXT", c.text.as_bytes(), &e);
+            if e.number() == 11 {
+                said.push_str("\n  TEXT is one item, with no blank or comment before or behind it.");
+            }
+            Stop::Refused(format!("{said}\n  {name} is unchanged."))
+        }
+    })
+}
+
+fn check(file: &Source) -> Done {
+    let bytes = sheet(file, &Destination::Standard)?;
+    match edn::check(&bytes) {
+        Ok(()) => output(&format!("{}: {}\n", file.name(), show::accepted(&bytes))),
+        Err(e) => Err(bad_bytes(file, &bytes, &e)),
+    }
+}
+
+/// A line for each file. They are written when all files are read, since one of these may turn out to be where the lines go.
+fn check_several(files: &[Source]) -> Done {
+    let mut lines = String::new();
+    let mut worst = 0;
+    for file in files {
+        let (line, status) = checked(file)?;
+        lines.push_str(&format!("{}: {line}\n", file.name()));
+        worst = worst.max(status);
+    }
+    match output(&lines) {
+        Ok(()) | Err(Stop::Closed) if worst != 0 => Err(Stop::Said(worst)),
+        done => done,
+    }
+}
+
+/// What there is to say of a file in one line, and the exit status for it.
+fn checked(file: &Source) -> Result<(String, u8), Stop> {
+    let bytes = match file.open() {
+        Ok(opened) => {
+            not_the_output(&opened, &Destination::Standard)?;
+            opened.read()
+        }
+        Err(fault) => Err(fault),
+    };
+    Ok(match bytes {
+        Err(fault) => (fault, TROUBLE),
+        Ok(bytes) => {
+            warn_of_text(file, &bytes);
+            match edn::check(&bytes) {
+                Ok(()) => (show::accepted(&bytes), 0),
+                Err(e) => (show::refused(&e), REFUSED),
+            }
+        }
+    })
+}
+
+// ------------------------------------------------------------------------------------------------------------------- input and output
+
+fn output(text: &str) -> Done {
+    Destination::Standard.write(&Content::Text(text))
+}
+
+/// What a file holds, read only if the result does not go there.
+fn input(file: &Source, out: &Destination) -> Result<Vec<u8>, Stop> {
+    let trouble = |fault| Stop::Trouble(format!("{} {fault}", file.name()));
+    let opened = file.open().map_err(trouble)?;
+    not_the_output(&opened, out)?;
+    opened.read().map_err(trouble)
+}
+
+fn not_the_output(input: &Opened, out: &Destination) -> Done {
+    if out.is(&input.file) {
+        let (out, input) = (out.name(), input.source.name());
+        return Err(Stop::Trouble(format!("{out} is the input, {input}, itself; nothing was written (use -o for another file)")));
+    }
+    Ok(())
+}
+
+/// What a file of bytes holds.
+fn sheet(file: &Source, out: &Destination) -> Result<Vec<u8>, Stop> {
+    let bytes = input(file, out)?;
+    warn_of_text(file, &bytes);
+    Ok(bytes)
+}
+
+/// A text of digits and commas alone would pass for bytes.
+fn warn_of_text(file: &Source, bytes: &[u8]) {
+    if holds_text(bytes) && edn::check(bytes).is_ok() && edn::read(bytes).is_ok() {
+        say(&format!("edn: {} could be text as well; it is taken for bytes ('edn read' makes bytes of text)", file.name()));
+    }
+}
+
+fn holds_text(bytes: &[u8]) -> bool {
+    !bytes.is_empty() && show::looks_like_text(bytes)
 }
 
 // ---------------------------------------------------------------------------------------------------------------------------- refusals
 
-fn refused(file: &OsStr, text: &[u8], e: &Error) {
-    say(&show::text_refusal(&name(file), text, e));
+fn bad_bytes(file: &Source, bytes: &[u8], e: &Error) -> Stop {
+    let mut said = show::bytes_refusal(&file.name(), bytes, e);
+    if holds_text(bytes) {
+        said.push_str("\n  This file holds text, not bytes: make bytes of it with 'edn read' first.");
+    }
+    Stop::Refused(said)
 }
 
-fn bad_bytes(file: &OsStr, bytes: &[u8], e: &Error) -> Done {
-    say(&show::bytes_refusal(&name(file), bytes, e));
-    if !bytes.is_empty() && show::looks_like_text(bytes) {
-        say("  This file holds text, not bytes: make bytes of it with 'edn read' first.");
-    }
-    Err(Stop::Refused)
-}
-
-fn bad_path(file: &OsStr, path: &OsStr, e: &Error) -> Done {
-    say(&show::path_refusal(&name(file), &path.to_string_lossy(), e));
-    Err(Stop::Refused)
-}
-
-/// The steps of a path. One that is over every index stays so.
-fn steps(path: &OsStr) -> Result<Vec<u16>, Stop> {
-    let Some(s) = path.to_str() else { return misused("the path is numbers with slashes between: 0/2/1") };
-    if s.is_empty() {
-        return Ok(Vec::new());
-    }
-    let mut steps = Vec::new();
-    for step in s.split('/') {
-        if step.is_empty() || !step.bytes().all(|b| b.is_ascii_digit()) {
-            return misused(&format!("the path '{s}' is not numbers with slashes between, such as 0/2/1"));
-        }
-        steps.push(step.parse().unwrap_or(u16::MAX));
-    }
-    Ok(steps)
-}
-
-// ------------------------------------------------------------------------------------------------------------------------------- files
-
-fn name(file: &OsStr) -> String {
-    if file == "-" {
-        "standard input".into()
-    } else {
-        show::clean(&file.to_string_lossy())
-    }
-}
-
-fn why(e: &io::Error) -> String {
-    match e.kind() {
-        io::ErrorKind::NotFound => "there is no such file or folder".into(),
-        io::ErrorKind::PermissionDenied => "you do not have the rights for it".into(),
-        io::ErrorKind::IsADirectory => "it is a folder, not a file".into(),
-        _ => e.to_string(),
-    }
-}
-
-/// What a file holds, or one byte more than a sheet may have: the library then refuses it.
-fn input(file: &OsStr) -> Result<Vec<u8>, Stop> {
-    let mut bytes = Vec::new();
-    let most = edn::MOST as u64 + 1;
-    let got = if file == "-" {
-        if io::stdin().is_terminal() {
-            say("edn: reading from the terminal; end it with Ctrl-D on a line of its own");
-        }
-        io::stdin().lock().take(most).read_to_end(&mut bytes)
-    } else {
-        File::open(file).and_then(|f| f.take(most).read_to_end(&mut bytes))
-    };
-    match got {
-        Ok(_) => Ok(bytes),
-        Err(e) => trouble(&format!("{} cannot be read: {}", name(file), why(&e))),
-    }
-}
-
-/// What a file of bytes holds. A text of digits and commas alone would pass for one.
-fn sheet(file: &OsStr) -> Result<Vec<u8>, Stop> {
-    let bytes = input(file)?;
-    if !bytes.is_empty() && show::looks_like_text(&bytes) && edn::check(&bytes).is_ok() && edn::read(&bytes).is_ok() {
-        say(&format!("edn: {} could be text as well; it is taken for bytes ('edn read' makes bytes of text)", name(file)));
-    }
-    Ok(bytes)
-}
-
-fn output(bytes: &[u8]) -> Done {
-    let mut out = io::stdout().lock();
-    match out.write_all(bytes).and_then(|()| out.flush()) {
-        Ok(()) => Ok(()),
-        Err(e) if e.kind() == io::ErrorKind::BrokenPipe => Err(Stop::Closed),
-        Err(e) => trouble(&format!("standard output cannot be written: {}", why(&e))),
-    }
-}
-
-/// Bytes to a file, or to standard output, where a terminal gets them in hexadecimal.
-fn deliver(bytes: &[u8], out: Option<&OsStr>) -> Done {
-    match out {
-        Some(out) => write(out, bytes),
-        None if io::stdout().is_terminal() => {
-            let mut hex: String = bytes.iter().map(|b| format!("{b:02x}")).collect();
-            hex.push('\n');
-            output(hex.as_bytes())
-        }
-        None => output(bytes),
-    }
-}
-
-fn write(file: &OsStr, bytes: &[u8]) -> Done {
-    if file == "-" {
-        return output(bytes);
-    }
-    match replace(Path::new(file), bytes) {
-        Ok(()) => Ok(()),
-        Err(e) => trouble(&format!("{} cannot be written: {}", name(file), why(&e))),
-    }
-}
-
-/// Writes a file whole or not at all: beside it first, then under its name. What is no plain file (a device, a pipe) is written to as it is.
-fn replace(file: &Path, bytes: &[u8]) -> io::Result<()> {
-    // where the name is a link, the file behind it is replaced and not the link
-    let target = fs::canonicalize(file).unwrap_or_else(|_| file.to_path_buf());
-    let old = match fs::metadata(&target) {
-        Ok(m) => Some(m),
-        Err(e) if e.kind() == io::ErrorKind::NotFound => None,
-        Err(e) => return Err(e),
-    };
-    if let Some(m) = &old {
-        // renaming over a file asks no rights of the file itself, so they are asked here
-        let mut there = OpenOptions::new().write(true).open(&target)?;
-        if !m.is_file() {
-            return there.write_all(bytes);
-        }
-    }
-    let (beside, mut new) = beside(&target)?;
-    let written = new.write_all(bytes).and_then(|()| match &old {
-        Some(m) => new.set_permissions(m.permissions()),
-        None => Ok(()),
-    });
-    let done = written.and_then(|()| new.sync_all()).and_then(|()| fs::rename(&beside, &target));
-    if done.is_err() {
-        let _ = fs::remove_file(&beside);
-    }
-    done
-}
-
-/// A new file in the same folder.
-fn beside(target: &Path) -> io::Result<(PathBuf, File)> {
-    let Some(last) = target.file_name() else { return Err(io::ErrorKind::IsADirectory.into()) };
-    for i in 0.. {
-        let mut name = OsString::from(".");
-        name.push(last);
-        name.push(format!(".{}-{i}.tmp", std::process::id()));
-        let path = target.with_file_name(name);
-        match OpenOptions::new().write(true).create_new(true).open(&path) {
-            Err(e) if e.kind() == io::ErrorKind::AlreadyExists && i < 100 => {}
-            made => return made.map(|f| (path, f)),
-        }
-    }
-    unreachable!()
+fn bad_path(file: &Source, path: &ItemPath, e: &Error) -> Stop {
+    Stop::Refused(show::path_refusal(&file.name(), &path.written, e))
 }

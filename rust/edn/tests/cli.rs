@@ -1,73 +1,10 @@
 //! The command line as its users meet it: what it writes, what it says, how it exits, and what it leaves of their files.
+mod run;
+
+use run::{edn, fails, ok, Folder, EDN};
 use std::fs;
 use std::io::Write;
-use std::path::{Path, PathBuf};
-use std::process::{Command, Output, Stdio};
-
-/// A folder of the test's own, removed at its end.
-struct Folder(PathBuf);
-
-impl Folder {
-    fn new(name: &str) -> Self {
-        let path = Path::new(env!("CARGO_TARGET_TMPDIR")).join(format!("cli-{name}-{}", std::process::id()));
-        let _ = fs::remove_dir_all(&path);
-        fs::create_dir_all(&path).unwrap();
-        Folder(path)
-    }
-
-    fn file(&self, name: &str, content: impl AsRef<[u8]>) -> String {
-        let path = self.0.join(name);
-        fs::write(&path, content).unwrap();
-        path.to_str().unwrap().to_string()
-    }
-
-    fn path(&self, name: &str) -> String {
-        self.0.join(name).to_str().unwrap().to_string()
-    }
-
-    fn names(&self) -> Vec<String> {
-        let mut names: Vec<_> = fs::read_dir(&self.0).unwrap().map(|e| e.unwrap().file_name().into_string().unwrap()).collect();
-        names.sort();
-        names
-    }
-}
-
-impl Drop for Folder {
-    fn drop(&mut self) {
-        let _ = fs::remove_dir_all(&self.0);
-    }
-}
-
-fn edn(args: &[&str], input: &[u8]) -> Output {
-    let mut child = Command::new(env!("CARGO_BIN_EXE_edn"))
-        .args(args)
-        .stdin(Stdio::piped())
-        .stdout(Stdio::piped())
-        .stderr(Stdio::piped())
-        .spawn()
-        .unwrap();
-    // a program that does not read its input may be gone already
-    let _ = child.stdin.take().unwrap().write_all(input);
-    child.wait_with_output().unwrap()
-}
-
-#[track_caller]
-fn ok(args: &[&str], input: &[u8]) -> Vec<u8> {
-    let o = edn(args, input);
-    assert_eq!(o.status.code(), Some(0), "{}", String::from_utf8_lossy(&o.stderr));
-    assert_eq!(o.stderr, b"", "{}", String::from_utf8_lossy(&o.stderr));
-    o.stdout
-}
-
-#[track_caller]
-fn fails(args: &[&str], input: &[u8], status: i32) -> String {
-    let o = edn(args, input);
-    let said = String::from_utf8(o.stderr).unwrap();
-    assert_eq!(o.status.code(), Some(status), "{said}");
-    assert_eq!(o.stdout, b"", "{said}");
-    assert!(!said.is_empty());
-    said
-}
+use std::process::{Command, Stdio};
 
 #[test]
 fn the_main_jobs() {
@@ -141,6 +78,9 @@ fn bad_usage() {
     for args in [
         &[][..], &["frob"], &["read"], &["read", "a", "b"], &["look", "a"], &["look", "-", "0.1"], &["look", "-", "/0"], &["look", "-", "0/"], &["look", "-", "x"],
         &["correct", "-", "0"], &["correct", "-", "0", "[1,", "2]"], &["read", "-x"], &["check", "-", "-o", "x"], &["read", "-", "-o"], &["read", "-", "-o", "x", "-o", "y"],
+        &["read", "-", "-ox", "--output=y"], &["read", "-", "-o", ""], &["read", "-", "--output="], &["read", "-", "--output", ""], &["read", "-", "--outputx"], &["read", ""],
+        &["correct", "", "0", "1"], &["correct", "-", "0", "1", "-x"], &["check", "-", ""], &["check", "-", "-"], &["check", "a", "b", "-x"], &["check", "a", "b", "-o-"],
+        &["read", "--bytes", "-"], &["print", "--bytes", "-"], &["look", "-", "0", "--bytes"], &["check", "-", "--bytes"],
     ] {
         let said = fails(args, b"", 2);
         assert!(said.contains("--help"), "{said}");
@@ -203,15 +143,196 @@ fn a_file_is_replaced_whole() {
 fn a_broken_pipe_is_no_failure() {
     let mut sheet = vec![0x01; 20_000];
     sheet.push(0x02);
-    let mut child = Command::new(env!("CARGO_BIN_EXE_edn"))
-        .args(["print", "-"])
-        .stdin(Stdio::piped())
-        .stdout(Stdio::piped())
-        .stderr(Stdio::piped())
-        .spawn()
-        .unwrap();
+    let mut child =
+        Command::new(EDN).args(["print", "-"]).stdin(Stdio::piped()).stdout(Stdio::piped()).stderr(Stdio::piped()).spawn().unwrap();
     drop(child.stdout.take());
     child.stdin.take().unwrap().write_all(&sheet).unwrap();
     let o = child.wait_with_output().unwrap();
     assert_eq!((o.status.code(), o.stderr), (Some(0), vec![]));
+}
+
+/// A text whose bytes happen to be items as well was overwritten once.
+#[test]
+fn a_text_is_not_corrected() {
+    let f = Folder::new("text");
+    // 31 2c 20 32 are four items; the next is none; then a text that is refused as one, a comment, and one with other letters
+    for text in ["1, 2", "[1, 2]\r\n", "a", "/ \t / 7\n", "\"Ölwanne\"\n", "\u{feff}1"] {
+        let file = f.file("sheet.edn", text);
+        for path in ["0", "0/1", "7", ""] {
+            let said = fails(&["correct", &file, path, "5"], b"", 2);
+            assert!(
+                said.contains(&format!("{file} looks like text")) && said.contains(&format!("'edn read {file} -o {file}.cbor'")),
+                "{said}"
+            );
+            let out = f.path("other");
+            assert!(fails(&["correct", &file, path, "...", "-o", &out], b"", 2).contains("looks like text"));
+            assert!(fails(&["correct", "-", path, "5"], text.as_bytes(), 2).contains("'edn read - -o FILE.cbor'"));
+        }
+        assert_eq!(fs::read(&file).unwrap(), text.as_bytes());
+        assert_eq!(f.names(), ["sheet.edn"]);
+    }
+    // the advice works
+    let file = f.file("sheet.edn", "1, 2");
+    ok(&["read", &file, "-o", &format!("{file}.cbor")], b"");
+    ok(&["correct", &format!("{file}.cbor"), "1", "5"], b"");
+    assert_eq!(fs::read(format!("{file}.cbor")).unwrap(), [1, 5]);
+}
+
+#[test]
+fn bytes_that_look_like_text_are_said_to_be_bytes() {
+    let f = Folder::new("bytes");
+    let sheet = f.file("sheet.cbor", b"aa");
+    for args in [
+        ["--bytes", &sheet, "0", "\"b\""],
+        [&sheet, "--bytes", "0", "\"c\""],
+        [&sheet, "0", "--bytes", "\"d\""],
+        [&sheet, "0", "\"e\"", "--bytes"],
+    ] {
+        assert_eq!(ok(&[&["correct"][..], &args].concat(), b""), b"");
+    }
+    assert_eq!(fs::read(&sheet).unwrap(), b"ae");
+    assert_eq!(ok(&["correct", "-", "0", "\"b\"", "--bytes"], b"aa"), b"ab");
+    assert_eq!(ok(&["correct", "-", "0", "--bytes", "-5"], b"aa"), [0x24]);
+    // what changes nothing goes on, with a word
+    for (args, written) in [
+        (&["print", "-"][..], "-18,\n-13,\n-1,\n-19\n"),
+        (&["look", "-", "0"], "-18\n"),
+        (&["check", "-"], "standard input: a sheet, 4 bytes\n"),
+    ] {
+        let o = edn(args, b"1, 2");
+        assert_eq!((o.status.code(), String::from_utf8(o.stdout).unwrap()), (Some(0), written.to_string()));
+        assert!(String::from_utf8(o.stderr).unwrap().contains("could be text as well"));
+    }
+}
+
+#[test]
+fn spellings_of_the_output() {
+    let f = Folder::new("spellings");
+    let text = f.file("a.edn", "1");
+    for args in [
+        &["-o", "-"][..],
+        &["-o-"],
+        &["--output", "-"],
+        &["--output=-"],
+        &["-o", "/dev/stdout"],
+        &["-o/dev/stdout"],
+        &["--output=/dev/stdout"],
+    ] {
+        assert_eq!(ok(&[&["read", &text][..], args].concat(), b""), [1]);
+        assert_eq!(ok(&[&["correct"][..], args, &["-", "0", "2"]].concat(), &[1]), [2]);
+    }
+    let out = f.path("out");
+    for args in [&["-o", &out][..], &[&format!("-o{out}")], &["--output", &out], &[&format!("--output={out}")]] {
+        assert_eq!(ok(&[&["read"][..], args, &[&text]].concat(), b""), b"");
+        assert_eq!(fs::read(&out).unwrap(), [1]);
+        assert_eq!(ok(&[&["correct", &out, "0"][..], args, &["-5"]].concat(), b""), b"");
+        assert_eq!(fs::read(&out).unwrap(), [0x24]);
+        fs::remove_file(&out).unwrap();
+    }
+    // behind -- nothing is an option
+    assert!(fails(&["correct", "-", "0", "--", "-o-"], &[1], 1).contains("TEXT:1:1: refused 3"));
+    assert_eq!(f.names(), ["a.edn"]);
+}
+
+#[test]
+fn several_files_are_checked() {
+    let f = Folder::new("several");
+    let (good, empty) = (f.file("good", [0x82, 0x01, 0x02]), f.file("empty", b""));
+    let (cut, float) = (f.file("cut", [0x82, 0x01]), f.file("float", [0xf9, 0, 0]));
+    let (none, folder) = (f.path("none"), f.0.to_str().unwrap().to_string());
+    let lines = [
+        (&good, "a sheet, 3 bytes"),
+        (&empty, "a sheet of no items (it is empty)"),
+        (&cut, "refused 15 at 2: bytes cut off"),
+        (&float, "refused 6 at 0: floating-point number"),
+        (&none, "cannot be read: there is no such file or folder"),
+        (&folder, "cannot be read: it is a folder, not a file"),
+    ];
+    for (order, status) in
+        [(&[0, 1, 0][..], 0), (&[2, 0], 1), (&[0, 3], 1), (&[4, 0], 2), (&[0, 5, 2], 2), (&[2, 5, 3, 1], 2), (&[5, 4, 3, 2, 1, 0], 2)]
+    {
+        let files: Vec<&str> = order.iter().map(|&i| lines[i].0.as_str()).collect();
+        let o = edn(&[&["check"][..], &files].concat(), b"");
+        let written: String = order.iter().map(|&i| format!("{}: {}\n", lines[i].0, lines[i].1)).collect();
+        assert_eq!((String::from_utf8(o.stdout).unwrap(), o.status.code()), (written, Some(status)));
+        assert_eq!(o.stderr, b"");
+    }
+    let o = edn(&["check", "-", &cut], &[0x01]);
+    assert_eq!(o.stdout, format!("standard input: a sheet, 1 bytes\n{cut}: refused 15 at 2: bytes cut off\n").as_bytes());
+    // one alone is shown in full, as ever
+    assert!(fails(&["check", &cut], b"", 1).contains("82 01\n          ^^\n"));
+}
+
+/// Characters that a terminal obeys, turns the line around by, or shows nothing for.
+fn hidden() -> String {
+    let ranges = [
+        0x1..=0x1f,
+        0x7f..=0x9f,
+        0xad..=0xad,
+        0x61c..=0x61c,
+        0x200b..=0x200f,
+        0x2028..=0x202e,
+        0x2066..=0x2069,
+        0xfeff..=0xfeff,
+        0xe0000..=0xe007f,
+    ];
+    ranges.into_iter().flatten().filter_map(char::from_u32).collect()
+}
+
+#[test]
+fn messages_hide_nothing() {
+    let f = Folder::new("hidden");
+    let all = hidden();
+    // a name has at most 255 bytes
+    for part in all.chars().collect::<Vec<_>>().chunks(50) {
+        let odd: String = part.iter().collect();
+        let clean = "\u{fffd}".repeat(part.len());
+        let (there, none) = (f.file(&format!("a{odd}"), [0x81, 0x01]), f.path(&format!("b{odd}")));
+        let text = f.file(&format!("c{odd}"), "1, 2");
+        let link = f.path(&format!("d{odd}"));
+        let _ = std::os::unix::fs::symlink(&none, &link);
+        for (args, shown) in [
+            (&[odd.as_str()][..], format!("there is no command '{clean}'")),
+            (&["read", &format!("-{odd}")], format!("there is no option '-{clean}'")),
+            (&["read", "a", &odd], format!("'{clean}' is extra")),
+            (&["look", &there, &odd], format!("the path '{clean}' is not")),
+            (&["read", &none], format!("b{clean} cannot be read: there is no such file")),
+            (&["read", &there], format!("a{clean}:1:1: refused 2")),
+            (&["read", &text, "-o", &text], format!("c{clean}, itself")),
+            (&["read", &text, "-o", &format!("{none}/x")], format!("b{clean}/x cannot be written")),
+            (&["read", &text, "-o", &link], format!("d{clean} cannot be written: it is a symbolic link")),
+            (&["correct", &text, "0", "1"], format!("'edn read {}/c{clean} -o", f.0.display())),
+            (&["correct", &there, "0/7", "1"], format!("a{clean}: refused 17")),
+            (&["correct", &there, "0", "..."], format!("a{clean} is unchanged.")),
+            (&["correct", &none, "0", "1"], format!("b{clean} cannot be corrected: there is no such file")),
+            (&["check", &there], format!("a{clean}: a sheet, 2 bytes")),
+            (&["check", &there, &none], format!("b{clean}: cannot be read")),
+            (&["print", &text], format!("c{clean} could be text as well")),
+        ] {
+            let o = edn(args, b"");
+            let said = String::from_utf8([o.stderr, o.stdout].concat()).unwrap();
+            assert!(said.contains(&shown), "{shown:?} is not in {said:?}");
+            assert!(!said.contains(|c| c != '\n' && all.contains(c)), "{said:?}");
+        }
+    }
+}
+
+#[test]
+fn a_shown_line_hides_nothing() {
+    let all: String = hidden().chars().filter(|&c| c >= ' ').collect();
+    for part in all.chars().collect::<Vec<_>>().chunks(20) {
+        let odd: String = part.iter().collect();
+        let clean = "\u{fffd}".repeat(part.len());
+        let said = fails(&["read", "-"], format!("/\t{odd}/ ... / {odd}\t").as_bytes(), 1);
+        let indent = " ".repeat(part.len() + 2);
+        assert!(said.contains(&format!("dots\n    /\t{clean}/ ... / {clean}\t\n     \t{indent}^\n")), "{said:?}");
+        // so is TEXT
+        let said = fails(&["correct", "-", "0", &format!("\"{odd}\" 1")], &[1], 1);
+        assert!(said.contains(&format!("\n    \"{clean}\" 1\n")), "{said:?}");
+    }
+    // bytes under 20 hex are no tokens
+    for c in (1..0x20u8).filter(|c| !matches!(c, 9 | 10 | 13)) {
+        let said = fails(&["read", "-"], &[c], 1);
+        assert!(said.contains("\n    \u{fffd}\n    ^\n"), "{said:?}");
+    }
 }

@@ -1,13 +1,9 @@
 //! How the command line shows a refusal: where it stands, the line itself with a caret, the number, and what to do.
+use super::hidden::shown;
 use edn::{Error, Place};
 
 /// How many characters of a line are shown before and behind the place.
 const AROUND: usize = 60;
-
-/// With every control character replaced, so that a terminal shows it and does nothing else.
-pub fn clean(s: &str) -> String {
-    s.chars().map(|c| if c.is_control() { '\u{fffd}' } else { c }).collect()
-}
 
 /// How many columns a character takes on a terminal, nearly always.
 fn columns(c: char) -> usize {
@@ -64,13 +60,13 @@ fn line_with_caret(text: &[u8], place: usize) -> String {
             line.push('\t');
             indent.push('\t');
         } else {
-            let c = if c.is_control() { '\u{fffd}' } else { c };
+            let c = shown(c);
             line.push(c);
             indent.extend(std::iter::repeat_n(' ', columns(c)));
         }
     }
     for &c in behind.iter().take(AROUND) {
-        line.push(if c.is_control() && c != '\t' { '\u{fffd}' } else { c });
+        line.push(if c == '\t' { c } else { shown(c) });
     }
     if behind.len() > AROUND {
         line.push('…');
@@ -103,9 +99,22 @@ fn hint(text: &[u8], e: &Error) -> Option<&'static str> {
     }
 }
 
+/// A sheet that passed, in a line.
+pub fn accepted(bytes: &[u8]) -> String {
+    match bytes.len() {
+        0 => "a sheet of no items (it is empty)".into(),
+        n => format!("a sheet, {n} bytes"),
+    }
+}
+
+/// A refusal in a line.
+pub fn refused(e: &Error) -> String {
+    format!("refused {} at {}: {}", e.number(), e.place(), e.name())
+}
+
 pub fn text_refusal(name: &str, text: &[u8], e: &Error) -> String {
     if e.counted() == Place::Whole {
-        return format!("{name}: refused {} at {}: {}\n  {}", e.number(), e.place(), e.name(), e.meaning());
+        return format!("{name}: {}\n  {}", refused(e), e.meaning());
     }
     // an end that comes too early is shown behind the last thing that is there, not on an empty line
     let ended = e.place() >= text.len();
@@ -128,7 +137,7 @@ pub fn text_refusal(name: &str, text: &[u8], e: &Error) -> String {
 }
 
 pub fn bytes_refusal(name: &str, bytes: &[u8], e: &Error) -> String {
-    let mut s = format!("{name}: refused {} at {}: {}", e.number(), e.place(), e.name());
+    let mut s = format!("{name}: {}", refused(e));
     if e.counted() == Place::Bytes {
         let place = e.place().min(bytes.len());
         let from = place.saturating_sub(12);
