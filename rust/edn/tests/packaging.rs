@@ -116,11 +116,10 @@ fn says_what_it_is() {
 fn packs_what_it_is_built_of() {
     let folder = Folder::new("packs");
     let listed = run(&mut cargo(&folder, package(), &["package", "--list", "--allow-dirty"]));
-    for part in ["src", "build"] {
-        for entry in fs::read_dir(package().join(part)).unwrap() {
-            let name = format!("{part}/{}", entry.unwrap().file_name().to_str().unwrap());
-            assert!(listed.lines().any(|l| l == name), "{name} is not packed:\n{listed}");
-        }
+    let files = run(Command::new("find").args(["build.rs", "build", "src", "-type", "f"]).current_dir(package()));
+    assert!(files.lines().count() > 10, "{files}");
+    for name in files.lines() {
+        assert!(listed.lines().any(|l| l == name), "{name} is not packed:\n{listed}");
     }
 }
 
