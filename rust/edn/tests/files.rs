@@ -1,7 +1,7 @@
 //! What becomes of people's files: none is lost, torn, or changed in what it was beside its bytes, whatever comes in between.
 mod run;
 
-use run::system::{attribute, is_root, lock, set_attribute, unlock};
+use run::system::{attribute, is_root, set_attribute};
 use run::{edn, failed, fails, fed, ok, shell, Folder, EDN};
 use std::fs::{self, File, OpenOptions, Permissions};
 use std::os::fd::AsRawFd;
@@ -122,12 +122,12 @@ fn correct_takes_the_file_itself_for_its_output() {
     for (i, (file, out)) in [(&sheet, &sheet), (&sheet, &f.path("./sheet")), (&sheet, &link), (&link, &sheet)].into_iter().enumerate() {
         // under the same lock: while another has it, nothing happens
         let held = File::open(&sheet).unwrap();
-        lock(&held);
+        held.try_lock().unwrap();
         let mut child = Command::new(EDN).args(["correct", file, "0/0", &(i + 5).to_string(), "-o", out]).spawn().unwrap();
         sleep(Duration::from_millis(150));
         assert!(child.try_wait().unwrap().is_none());
         assert_eq!(fs::read(&sheet).unwrap()[1] as usize, if i == 0 { 1 } else { i + 4 });
-        unlock(&held);
+        held.unlock().unwrap();
         assert!(child.wait().unwrap().success());
         assert_eq!(fs::read(&sheet).unwrap()[1] as usize, i + 5);
     }
@@ -428,10 +428,10 @@ fn a_correction_that_waited_long_enough_is_refused() {
     let f = Folder::new("waits");
     let (sheet, other) = (f.file("sheet", SHEET), f.file("other", SHEET));
     let held = File::open(&sheet).unwrap();
-    lock(&held);
+    held.try_lock().unwrap();
     // the second waits at the file on its way
     let beside = File::create(f.path(".other.edn-new")).unwrap();
-    lock(&beside);
+    beside.try_lock().unwrap();
     let runs: Vec<_> = [&sheet, &other].map(|sheet| (sheet, start(&["correct", sheet, "0/0", "9"]))).into();
     for (sheet, run) in runs {
         let said = one_line(run.wait_with_output().unwrap());
@@ -466,7 +466,7 @@ fn a_sheet_that_another_program_changes_meanwhile() {
         set_mode(&sheet, 0o644);
         // the run is kept at the file on its way, where it has read the sheet already
         let held = File::create(&beside).unwrap();
-        lock(&held);
+        held.try_lock().unwrap();
         let mut run = start(&["correct", &sheet, "0/0", "9"]);
         while !has_open(&run, &beside) {
             assert!(run.try_wait().unwrap().is_none());
@@ -474,7 +474,7 @@ fn a_sheet_that_another_program_changes_meanwhile() {
         }
         change(&sheet);
         let (bytes, rights) = (fs::read(&sheet).unwrap(), mode(&sheet));
-        unlock(&held);
+        held.unlock().unwrap();
         assert!(one_line(run.wait_with_output().unwrap()).contains("another program changed it meanwhile"));
         assert_eq!((fs::read(&sheet).unwrap(), mode(&sheet), f.names()), (bytes, rights, vec!["sheet".to_string()]));
     }

@@ -6,7 +6,7 @@
 use super::c;
 use super::hidden::clean;
 use super::identity::Identity;
-use super::lock::{not_locked, Patience};
+use super::lock::{try_lock, Patience};
 use super::stop::{because, why};
 use std::ffi::{OsStr, OsString};
 use std::fs::{self, File, OpenOptions};
@@ -76,13 +76,13 @@ impl Beside {
 
     /// Locks a file just made; none where another run took it for a leftover before that.
     fn claim(path: &Path, file: File) -> io::Result<Option<Self>> {
-        match c::try_lock(&file) {
+        match try_lock(&file) {
             Ok(true) if leads_to(path, &file)? => Ok(Some(Beside { path: path.to_path_buf(), file })),
             Ok(_) => Ok(None),
             Err(e) => {
                 // no run can lock anything here, so none is at work on it
                 let _ = fs::remove_file(path);
-                Err(not_locked(&e))
+                Err(e)
             }
         }
     }

@@ -4,8 +4,6 @@ use std::fs::File;
 use std::io;
 use std::os::fd::{AsRawFd, RawFd};
 
-const LOCK_EX: c_int = 2;
-const LOCK_NB: c_int = 4;
 const F_GETFD: c_int = 1;
 pub const O_NONBLOCK: c_int = 0o4_000;
 pub const O_NOFOLLOW: c_int = 0o400_000;
@@ -21,7 +19,6 @@ const XATTR_LIST_MAX: usize = 65_536;
 const XATTR_SIZE_MAX: usize = 65_536;
 
 extern "C" {
-    fn flock(fd: c_int, operation: c_int) -> c_int;
     fn fcntl(fd: c_int, command: c_int, ...) -> c_int;
     fn flistxattr(fd: c_int, list: *mut c_char, size: usize) -> isize;
     fn fgetxattr(fd: c_int, name: *const c_char, value: *mut c_void, size: usize) -> isize;
@@ -38,16 +35,6 @@ fn counted(answer: isize) -> io::Result<usize> {
 pub fn is_open(fd: RawFd) -> bool {
     // F_GETFD takes no further argument and touches no memory; any number may be asked.
     unsafe { fcntl(fd, F_GETFD) != -1 }
-}
-
-/// Takes the exclusive lock of an open file, without waiting: whether it was to be had. It ends when the file is closed.
-pub fn try_lock(file: &File) -> io::Result<bool> {
-    // It touches no memory, and the descriptor is open as long as `file` is borrowed.
-    match counted(unsafe { flock(file.as_raw_fd(), LOCK_EX | LOCK_NB) } as isize) {
-        Ok(_) => Ok(true),
-        Err(e) if e.kind() == io::ErrorKind::WouldBlock => Ok(false),
-        Err(e) => Err(e),
-    }
 }
 
 /// The names of a file's extended attributes; none where the file system has no such thing.

@@ -1,7 +1,6 @@
 //! Waiting for another run that is at work on the same file.
-use super::c;
 use super::stop::because;
-use std::fs::File;
+use std::fs::{File, TryLockError};
 use std::io;
 use std::thread::sleep;
 use std::time::{Duration, Instant};
@@ -30,7 +29,7 @@ impl<'a> Patience<'a> {
 
     /// Locks a file once whoever holds it has ended.
     pub fn lock(&self, file: &File) -> io::Result<()> {
-        while !c::try_lock(file).map_err(|e| not_locked(&e))? {
+        while !try_lock(file)? {
             self.once_more()?;
             sleep(PAUSE);
         }
@@ -38,6 +37,11 @@ impl<'a> Patience<'a> {
     }
 }
 
-pub fn not_locked(e: &io::Error) -> io::Error {
-    because("it cannot be locked", e)
+/// Takes the exclusive lock of an open file, without waiting: whether it was to be had. It ends when the file is closed.
+pub fn try_lock(file: &File) -> io::Result<bool> {
+    match file.try_lock() {
+        Ok(()) => Ok(true),
+        Err(TryLockError::WouldBlock) => Ok(false),
+        Err(TryLockError::Error(e)) => Err(because("it cannot be locked", &e)),
+    }
 }

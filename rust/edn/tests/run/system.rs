@@ -2,19 +2,15 @@
 use std::ffi::{c_char, c_int, c_void, CStr, CString};
 use std::fs::{File, OpenOptions};
 use std::io::{self, Read};
-use std::os::fd::{AsRawFd, FromRawFd};
+use std::os::fd::FromRawFd;
 use std::os::unix::fs::OpenOptionsExt;
 
-const LOCK_EX: c_int = 2;
-const LOCK_NB: c_int = 4;
-const LOCK_UN: c_int = 8;
 const O_RDWR: c_int = 2;
 const O_NOCTTY: c_int = 0o400;
 const ENODATA: i32 = 61;
 const ENOTSUP: i32 = 95;
 
 extern "C" {
-    fn flock(fd: c_int, operation: c_int) -> c_int;
     fn geteuid() -> u32;
     fn posix_openpt(flags: c_int) -> c_int;
     fn grantpt(fd: c_int) -> c_int;
@@ -27,18 +23,6 @@ extern "C" {
 pub fn is_root() -> bool {
     // it takes nothing and cannot fail
     unsafe { geteuid() == 0 }
-}
-
-/// Takes the lock of a file, which must be free.
-pub fn lock(file: &File) {
-    // no memory is handed over, and the file is open
-    assert_eq!(unsafe { flock(file.as_raw_fd(), LOCK_EX | LOCK_NB) }, 0);
-}
-
-/// Gives it back, even where a process that is just being started still has the file open.
-pub fn unlock(file: &File) {
-    // as above
-    assert_eq!(unsafe { flock(file.as_raw_fd(), LOCK_UN) }, 0);
 }
 
 /// Gives a file an extended attribute; false where its file system has no such thing.
