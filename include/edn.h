@@ -3,7 +3,7 @@
  * Link with libedn_c.a: `make install`, then `pkg-config --cflags --libs edn`; or name the archive itself, which `rt staticlib edn_c` writes to
  * target/staticlib/libedn_c.a. The functions in it are proved (crates/edn_c): for every input, good or bad, what they return and every element
  * of what they may write are those of a definition; none needs the heap, keeps anything between calls, or fails otherwise than by the codes
- * below. How much stack they use stands at EDN_STACK_READ.
+ * below. They call nothing but memcpy and memset, which a C compiler asks of every program. How much stack they use stands at EDN_STACK_READ.
  *
  * Every function returns 0 (EDN_OK), or the number of the refusal: EDN_CODES has them all. What goes with that is written into `value`, as far
  * as it reaches: with value_len 0 nothing is, and no other element is ever changed. value[0] is then the place of the refusal, counted from 0:

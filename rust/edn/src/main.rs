@@ -4,10 +4,12 @@ mod cli;
 use cli::arguments::{self, Command, Correction, ItemPath};
 use cli::destination::{Content, Destination};
 use cli::held::Held;
+use cli::look::looks_like_text;
+use cli::shell::file_word;
 use cli::source::{Opened, Source};
 use cli::stop::{say, why, Done, Stop, REFUSED, TROUBLE};
 use cli::{identity, show};
-use edn::{Error, Place};
+use edn::{Error, Kind, Place};
 use std::ffi::OsString;
 use std::fs::OpenOptions;
 use std::io;
@@ -92,20 +94,15 @@ fn correct_in_place(c: &Correction, file: &Path) -> Done {
     let trouble = |e: io::Error| Stop::Trouble(format!("{} cannot be corrected: {}", c.file.name(), why(&e)));
     let held = Held::take(file, OpenOptions::new().read(true).write(true)).map_err(trouble)?;
     let bytes = held.read().map_err(trouble)?;
-    held.replace(&corrected(c, &bytes)?).map_err(trouble)
+    let new = corrected(c, &bytes).inspect_err(|_| held.tidy())?;
+    held.replace(&new).map_err(trouble)
 }
 
 /// The sheet with the item put in. A text is refused here even where it would pass for bytes.
 fn corrected(c: &Correction, bytes: &[u8]) -> Result<Vec<u8>, Stop> {
     let name = c.file.name();
-    if !c.bytes && holds_text(bytes) {
-        let (from, to) = match c.file {
-            Source::Standard => ("-", "FILE"),
-            Source::File(_) => (&name[..], &name[..]),
-        };
-        return Err(Stop::Trouble(format!(
-            "{name} looks like text, not bytes, and is unchanged\n  'edn read {from} -o {to}.cbor' makes bytes of it; if it is bytes, say so with --bytes."
-        )));
+    if !c.bytes && looks_like_text(bytes) {
+        return Err(taken_for_text(&c.file));
     }
     edn::correct(bytes, &c.path.steps, c.text.as_bytes()).map_err(|e| match e.counted() {
         Place::Step => bad_path(&c.file, &c.path, &e),
@@ -113,7 +110,7 @@ fn corrected(c: &Correction, bytes: &[u8]) -> Result<Vec<u8>, Stop> {
         Place::Whole if bytes.len() > edn::MOST => bad_bytes(&c.file, bytes, &e),
         Place::Whole | Place::Text => {
             let mut said = show::text_refusal("TEXT", c.text.as_bytes(), &e);
-            if e.number() == 11 {
+            if e.kind() == Kind::NotAllowed {
                 said.push_str("\n  TEXT is one item, with no blank or comment before or behind it.");
             }
             Stop::Refused(format!("{said}\n  {name} is unchanged."))
@@ -121,11 +118,17 @@ fn corrected(c: &Correction, bytes: &[u8]) -> Result<Vec<u8>, Stop> {
     })
 }
 
+/// The line goes where those of several files go; what else there is to say of a refusal is for people.
 fn check(file: &Source) -> Done {
     let bytes = sheet(file, &Destination::Standard)?;
-    match edn::check(&bytes) {
-        Ok(()) => output(&format!("{}: {}\n", file.name(), show::accepted(&bytes))),
-        Err(e) => Err(bad_bytes(file, &bytes, &e)),
+    let Err(e) = edn::check(&bytes) else {
+        return output(&format!("{}: {}\n", file.name(), show::accepted(&bytes)));
+    };
+    let said = said_of_bytes(file, &bytes, &e);
+    let (line, rest) = said.split_once('\n').unwrap_or((&said, ""));
+    match output(&format!("{line}\n")) {
+        Ok(()) | Err(Stop::Closed) => Err(Stop::Refused(rest.into())),
+        trouble => trouble,
     }
 }
 
@@ -196,23 +199,40 @@ fn sheet(file: &Source, out: &Destination) -> Result<Vec<u8>, Stop> {
 
 /// A text of digits and commas alone would pass for bytes.
 fn warn_of_text(file: &Source, bytes: &[u8]) {
-    if holds_text(bytes) && edn::check(bytes).is_ok() && edn::read(bytes).is_ok() {
+    if looks_like_text(bytes) && edn::check(bytes).is_ok() && edn::read(bytes).is_ok() {
         say(&format!("edn: {} could be text as well; it is taken for bytes ('edn read' makes bytes of text)", file.name()));
     }
 }
 
-fn holds_text(bytes: &[u8]) -> bool {
-    !bytes.is_empty() && show::looks_like_text(bytes)
-}
-
 // ---------------------------------------------------------------------------------------------------------------------------- refusals
 
-fn bad_bytes(file: &Source, bytes: &[u8], e: &Error) -> Stop {
+/// A text that a correction would overwrite, and the command that makes bytes of it.
+fn taken_for_text(file: &Source) -> Stop {
+    let (from, to) = match file {
+        Source::Standard => (Some("-".into()), None),
+        Source::File(path) => {
+            let mut bytes = path.as_os_str().to_owned();
+            bytes.push(".cbor");
+            (file_word(path.as_os_str()), file_word(&bytes))
+        }
+    };
+    let (from, to) = (from.unwrap_or("FILE".into()), to.unwrap_or("FILE.cbor".into()));
+    let name = file.name();
+    Stop::Trouble(format!(
+        "{name} looks like text, not bytes, and is unchanged\n  This makes bytes of it: edn read {from} -o {to}\n  If it is bytes, say so with --bytes."
+    ))
+}
+
+fn said_of_bytes(file: &Source, bytes: &[u8], e: &Error) -> String {
     let mut said = show::bytes_refusal(&file.name(), bytes, e);
-    if holds_text(bytes) {
+    if looks_like_text(bytes) {
         said.push_str("\n  This file holds text, not bytes: make bytes of it with 'edn read' first.");
     }
-    Stop::Refused(said)
+    said
+}
+
+fn bad_bytes(file: &Source, bytes: &[u8], e: &Error) -> Stop {
+    Stop::Refused(said_of_bytes(file, bytes, e))
 }
 
 fn bad_path(file: &Source, path: &ItemPath, e: &Error) -> Stop {

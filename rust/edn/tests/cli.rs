@@ -68,7 +68,7 @@ fn what_people_trip_over() {
     );
     assert!(fails(&["look", "-", "0/99999999999"], &[0x81, 1], 1).contains("refused 17 at step 1"));
     assert!(fails(&["look", "-", ""], &[0x81, 1], 1).contains("refused 17 at step 0"));
-    assert!(fails(&["check", "-"], &[0x82, 0x01], 1).contains("refused 15 at 2: bytes cut off\n    82 01\n          ^^\n"));
+    assert!(fails(&["print", "-"], &[0x82, 0x01], 1).contains("refused 15 at 2: bytes cut off\n    82 01\n          ^^\n"));
     assert!(fails(&["read", "-"], &[b' '; 70_000], 1).contains("refused 1 at 0: too long"));
 }
 
@@ -156,26 +156,49 @@ fn a_broken_pipe_is_no_failure() {
 fn a_text_is_not_corrected() {
     let f = Folder::new("text");
     // 31 2c 20 32 are four items; the next is none; then a text that is refused as one, a comment, and one with other letters
-    for text in ["1, 2", "[1, 2]\r\n", "a", "/ \t / 7\n", "\"Ölwanne\"\n", "\u{feff}1"] {
+    let texts = ["1, 2", "[1, 2]\r\n", "a", "/ \t / 7\n", "\"Ölwanne\"\n", "\u{feff}1"].map(str::as_bytes);
+    // in Latin-1, in code page 1252, with a form feed, with zeros behind it, and in UTF-16 of both orders
+    let others: [&[u8]; 7] =
+        [b"1, 2 # \xe4\n", b"1,\xa02", b"1, 2 # 5 \x80", b"1,\x0c2", b"1, 2\0\0", b"1\x00,\x002\x00", b"\x001\x00,\x002"];
+    for text in texts.into_iter().chain(others) {
         let file = f.file("sheet.edn", text);
         for path in ["0", "0/1", "7", ""] {
             let said = fails(&["correct", &file, path, "5"], b"", 2);
             assert!(
-                said.contains(&format!("{file} looks like text")) && said.contains(&format!("'edn read {file} -o {file}.cbor'")),
+                said.contains(&format!("{file} looks like text")) && said.contains(&format!(": edn read {file} -o {file}.cbor\n")),
                 "{said}"
             );
             let out = f.path("other");
             assert!(fails(&["correct", &file, path, "...", "-o", &out], b"", 2).contains("looks like text"));
-            assert!(fails(&["correct", "-", path, "5"], text.as_bytes(), 2).contains("'edn read - -o FILE.cbor'"));
+            assert!(fails(&["correct", "-", path, "5"], text, 2).contains(": edn read - -o FILE.cbor\n"));
         }
-        assert_eq!(fs::read(&file).unwrap(), text.as_bytes());
+        assert_eq!(fs::read(&file).unwrap(), text);
         assert_eq!(f.names(), ["sheet.edn"]);
     }
-    // the advice works
-    let file = f.file("sheet.edn", "1, 2");
-    ok(&["read", &file, "-o", &format!("{file}.cbor")], b"");
-    ok(&["correct", &format!("{file}.cbor"), "1", "5"], b"");
-    assert_eq!(fs::read(format!("{file}.cbor")).unwrap(), [1, 5]);
+    // what the sheets of a scanner begin with is never taken for text, however much text is in them
+    for sheet in ["[\"catalyst, misfire, evaporation\"]", "{\"type\": \"Kombi 1.6\"}", "0(\"2026-11-16\")"] {
+        let file = f.file("sheet.cbor", edn::read(sheet).unwrap());
+        ok(&["correct", &file, "0", "1"], b"");
+        fs::remove_file(file).unwrap();
+    }
+}
+
+/// The command that is named can be typed as it stands, whatever the file is called.
+#[test]
+fn the_advice_works() {
+    for name in ["sheet.edn", "my sheet.edn", "-x.edn", "$(touch pwned).edn", "it's;&|.edn", "~.edn", "Prüfung.edn"] {
+        let f = Folder::new("advice");
+        f.file(name, "1, 2");
+        let refused = Command::new(EDN).args(["correct", "--", name, "1", "5"]).current_dir(&f.0).output().unwrap();
+        let said = String::from_utf8(refused.stderr).unwrap();
+        let advice = said.lines().find_map(|l| l.strip_prefix("  This makes bytes of it: edn ")).expect(&said);
+        let followed = Command::new("sh").args(["-c", &format!("\"$0\" {advice}"), EDN]).current_dir(&f.0).output().unwrap();
+        assert!(followed.status.success(), "{}", String::from_utf8_lossy(&followed.stderr));
+        let made = format!("{name}.cbor");
+        ok(&["correct", &f.path(&made), "1", "5"], b"");
+        assert_eq!(fs::read(f.0.join(&made)).unwrap(), [1, 5]);
+        assert_eq!(f.names().len(), 2, "{:?}", f.names());
+    }
 }
 
 #[test]
@@ -259,8 +282,10 @@ fn several_files_are_checked() {
     }
     let o = edn(&["check", "-", &cut], &[0x01]);
     assert_eq!(o.stdout, format!("standard input: a sheet, 1 bytes\n{cut}: refused 15 at 2: bytes cut off\n").as_bytes());
-    // one alone is shown in full, as ever
-    assert!(fails(&["check", &cut], b"", 1).contains("82 01\n          ^^\n"));
+    // of one alone the line is the same, and the place is shown to people
+    let o = edn(&["check", &cut], b"");
+    assert_eq!((o.stdout, o.status.code()), (format!("{cut}: refused 15 at 2: bytes cut off\n").into_bytes(), Some(1)));
+    assert!(o.stderr.starts_with(b"    82 01\n          ^^\n"));
 }
 
 /// Characters that a terminal obeys, turns the line around by, or shows nothing for.
@@ -301,7 +326,10 @@ fn messages_hide_nothing() {
             (&["read", &text, "-o", &text], format!("c{clean}, itself")),
             (&["read", &text, "-o", &format!("{none}/x")], format!("b{clean}/x cannot be written")),
             (&["read", &text, "-o", &link], format!("d{clean} cannot be written: it is a symbolic link")),
-            (&["correct", &text, "0", "1"], format!("'edn read {}/c{clean} -o", f.0.display())),
+            (
+                &["correct", &text, "0", "1"],
+                format!("c{clean} looks like text, not bytes, and is unchanged\n  This makes bytes of it: edn read FILE -o FILE.cbor\n"),
+            ),
             (&["correct", &there, "0/7", "1"], format!("a{clean}: refused 17")),
             (&["correct", &there, "0", "..."], format!("a{clean} is unchanged.")),
             (&["correct", &none, "0", "1"], format!("b{clean} cannot be corrected: there is no such file")),

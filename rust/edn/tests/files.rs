@@ -298,6 +298,11 @@ fn what_a_killed_run_leaves() {
         assert_eq!((fs::read(&sheet).unwrap(), mode(&sheet)), (vec![7], 0o644));
         assert_eq!(f.names(), ["sheet"]);
     }
+    // a run that is refused removes it too
+    let o = shell("ulimit -c 0; ulimit -f 0; exec \"$@\"", &["correct", &sheet, "0", "8"]);
+    assert_eq!((o.status.signal(), f.names().len()), (Some(SIGXFSZ), 2));
+    fails(&["correct", &sheet, "0", "..."], b"", 1);
+    assert_eq!((fs::read(&sheet).unwrap(), f.names()), (vec![7], vec!["sheet".to_string()]));
     // a file that was not there has its own mode from the start
     fs::remove_file(&sheet).unwrap();
     let text = f.file("text", "1");
@@ -306,6 +311,27 @@ fn what_a_killed_run_leaves() {
     assert_eq!(shell("umask 027; exec \"$@\"", &["read", &text, "-o", &sheet]).status.code(), Some(0));
     assert_eq!((fs::read(&sheet).unwrap(), mode(&sheet)), (vec![1], 0o640));
     assert_eq!(f.names(), ["sheet", "text"]);
+}
+
+/// Nothing stands in the new file before its owner is right, its mode is set when all else is, and it is on the disk before it takes the
+/// sheet's place.
+#[test]
+fn the_steps_of_a_replacement() {
+    let f = Folder::new("steps");
+    let library = f.path("steps.so");
+    let source = Path::new(env!("CARGO_MANIFEST_DIR")).join("tests/faults/steps.c");
+    let cc = ["-std=c99", "-Wall", "-Wextra", "-Werror", "-fPIC", "-shared", "-o", &library];
+    assert!(Command::new("cc").args(cc).arg(source).status().unwrap().success());
+    let (sheet, steps) = (f.file("sheet", SHEET), f.path("steps"));
+    let mut wanted = vec!["write", "fchmod", "fsync", "rename", "fsync of the folder"];
+    if is_root() {
+        give(&sheet);
+        wanted.insert(0, "fchown");
+    }
+    let mut correct = Command::new(EDN);
+    correct.args(["correct", &sheet, "0/0", "9"]).env("LD_PRELOAD", library).env("STEPS", &steps);
+    assert!(correct.status().unwrap().success());
+    assert_eq!(fs::read_to_string(steps).unwrap().lines().collect::<Vec<_>>(), wanted);
 }
 
 #[test]

@@ -32,6 +32,29 @@ fn run(block: &str, folder: &Folder) -> Output {
     Command::new("sh").args(["-e", "-c", block]).current_dir(folder.path("")).env("PATH", path).output().unwrap()
 }
 
+/// Every file and folder that a document names is there.
+#[test]
+fn what_the_documents_name_is_there() {
+    let mut documents: Vec<_> = ["README.md", "CONTRIBUTING.md", "CHANGELOG.md", "rust/edn/README.md"].map(|f| root().join(f)).to_vec();
+    for folder in ["docs", "docs/changes"] {
+        documents.extend(fs::read_dir(root().join(folder)).unwrap().map(|e| e.unwrap().path()).filter(|f| f.extension().is_some()));
+    }
+    let mut named = 0;
+    for document in documents {
+        let text = fs::read_to_string(&document).unwrap();
+        for word in text.split(|c: char| c.is_whitespace() || "`()|,;:*{}\"".contains(c)) {
+            let word = word.trim_end_matches('.');
+            let is_path = ["docs/", "crates/", "rust/", "include/", "examples/", "samples/"].iter().any(|f| word.starts_with(f));
+            // NAME, LABEL and NN stand for something else
+            if is_path && !["NAME", "LABEL", "NN", "target"].iter().any(|part| word.contains(part)) {
+                assert!(root().join(word).exists(), "{} names {word}", document.display());
+                named += 1;
+            }
+        }
+    }
+    assert!(named > 40, "{named}");
+}
+
 #[test]
 fn the_commands_of_the_readme() {
     let folder = Folder::new("readme");

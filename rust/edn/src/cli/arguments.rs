@@ -14,8 +14,7 @@ edn: data sheets in CBOR diagnostic notation
   edn look FILE PATH                   the item at a path, as text
   edn correct FILE PATH TEXT [-o OUT]  put the item TEXT at a path; FILE itself is changed,
                                        or OUT is written
-  edn check FILE...                    whether FILE's bytes are a sheet; a line for each of
-                                       several files
+  edn check FILE...                    whether FILE's bytes are a sheet; a line for each
 
   -o OUT, --output OUT                 OUT '-' is standard output
   --bytes                              'correct' refuses a FILE that looks like text; this
@@ -31,7 +30,7 @@ Bytes go to a terminal in hexadecimal, and characters that it would not show as 
 A file is written as .NAME.edn-new beside itself and then renamed, so that nothing is
 lost on the way; it keeps its owner, group, rights and attributes. A file with several
 hard links is not written, and 'read' and 'print' write no file that they read. Of two
-corrections at once, the second waits for the first.
+corrections at once, the second waits for the first, 10 seconds at most.
 
 Exit status: 0 done; 1 refused (the sheet, the path or the text); 2 bad usage, or a file
 that cannot be read or written.
@@ -63,8 +62,18 @@ pub struct ItemPath {
     pub steps: Vec<u16>,
 }
 
+#[derive(Clone, Copy)]
+enum Verb {
+    Read,
+    Print,
+    Look,
+    Correct,
+    Check,
+}
+
 /// What a command takes.
 struct Shape {
+    verb: Verb,
     command: &'static str,
     wants: &'static [&'static str],
     /// Whether the last of these may come more than once.
@@ -75,11 +84,11 @@ struct Shape {
 
 #[rustfmt::skip]
 const SHAPES: [Shape; 5] = [
-    Shape { command: "read",    wants: &["FILE"],                 several: false, output: true,  bytes: false },
-    Shape { command: "print",   wants: &["FILE"],                 several: false, output: true,  bytes: false },
-    Shape { command: "look",    wants: &["FILE", "PATH"],         several: false, output: false, bytes: false },
-    Shape { command: "correct", wants: &["FILE", "PATH", "TEXT"], several: false, output: true,  bytes: true },
-    Shape { command: "check",   wants: &["FILE"],                 several: true,  output: false, bytes: false },
+    Shape { verb: Verb::Read,    command: "read",    wants: &["FILE"],                 several: false, output: true,  bytes: false },
+    Shape { verb: Verb::Print,   command: "print",   wants: &["FILE"],                 several: false, output: true,  bytes: false },
+    Shape { verb: Verb::Look,    command: "look",    wants: &["FILE", "PATH"],         several: false, output: false, bytes: false },
+    Shape { verb: Verb::Correct, command: "correct", wants: &["FILE", "PATH", "TEXT"], several: false, output: true,  bytes: true },
+    Shape { verb: Verb::Check,   command: "check",   wants: &["FILE"],                 several: true,  output: false, bytes: false },
 ];
 
 fn misused<T>(message: impl Into<String>) -> Result<T, Stop> {
@@ -184,18 +193,18 @@ fn fits(w: &Words, shape: &Shape) -> Result<(), Stop> {
 fn build(w: Words, shape: &Shape) -> Result<Command, Stop> {
     let file = source(&w.plain[0])?;
     let out = w.out.map(destination);
-    Ok(match shape.command {
-        "read" => Command::Read { file, out: out.unwrap_or(Destination::Standard) },
-        "print" => Command::Print { file, out: out.unwrap_or(Destination::Standard) },
-        "look" => Command::Look { file, path: item_path(&w.plain[1])? },
-        "correct" => Command::Correct(Correction {
+    Ok(match shape.verb {
+        Verb::Read => Command::Read { file, out: out.unwrap_or(Destination::Standard) },
+        Verb::Print => Command::Print { file, out: out.unwrap_or(Destination::Standard) },
+        Verb::Look => Command::Look { file, path: item_path(&w.plain[1])? },
+        Verb::Correct => Command::Correct(Correction {
             path: item_path(&w.plain[1])?,
             text: w.plain[2].clone(),
             out: out.unwrap_or_else(|| destination(w.plain[0].clone())),
             bytes: w.bytes,
             file,
         }),
-        _ => Command::Check { files: sources(&w.plain)? },
+        Verb::Check => Command::Check { files: sources(&w.plain)? },
     })
 }
 

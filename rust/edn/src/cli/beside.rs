@@ -77,8 +77,11 @@ impl Beside {
     /// Locks a file just made; none where another run took it for a leftover before that.
     fn claim(path: &Path, file: File) -> io::Result<Option<Self>> {
         match try_lock(&file) {
-            Ok(true) if leads_to(path, &file)? => Ok(Some(Beside { path: path.to_path_buf(), file })),
-            Ok(_) => Ok(None),
+            Ok(true) => {
+                let made = Beside { path: path.to_path_buf(), file };
+                Ok(leads_to(path, &made.file)?.then_some(made))
+            }
+            Ok(false) => Ok(None),
             Err(e) => {
                 // no run can lock anything here, so none is at work on it
                 let _ = fs::remove_file(path);
@@ -114,7 +117,12 @@ fn leads_to(path: &Path, file: &File) -> io::Result<bool> {
     Ok(Identity::at(path) == Some(Identity::of(&file.metadata()?)))
 }
 
-/// Removes what a killed run left. Where a live one is at work on it, it is done with it once the lock is to be had.
+/// Removes what a killed run left beside a target.
+pub fn clear_beside(target: &Path, patience: &Patience) -> io::Result<()> {
+    remove_leftover(&path_beside(target)?, patience)
+}
+
+/// Where a live run is at work on it, it is done with it once the lock is to be had.
 fn remove_leftover(path: &Path, patience: &Patience) -> io::Result<()> {
     let in_the_way = |why: &str| io::Error::other(format!("{} stands in the way: {why}", clean(&path.to_string_lossy())));
     let left = match OpenOptions::new().write(true).custom_flags(c::O_NOFOLLOW | c::O_NONBLOCK).open(path) {

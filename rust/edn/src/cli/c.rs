@@ -1,4 +1,4 @@
-//! The functions of the C library that std does not hand on, and numbers of the system as Linux has them on x86-64.
+//! The functions of the C library that std does not hand on, and numbers of the system as Linux has them.
 use std::ffi::{c_char, c_int, c_void, CStr, CString};
 use std::fs::File;
 use std::io;
@@ -6,7 +6,13 @@ use std::os::fd::{AsRawFd, RawFd};
 
 const F_GETFD: c_int = 1;
 pub const O_NONBLOCK: c_int = 0o4_000;
+/// The machines differ in this one.
+#[cfg(target_arch = "x86_64")]
 pub const O_NOFOLLOW: c_int = 0o400_000;
+#[cfg(any(target_arch = "arm", target_arch = "aarch64"))]
+pub const O_NOFOLLOW: c_int = 0o100_000;
+#[cfg(not(any(target_arch = "x86_64", target_arch = "arm", target_arch = "aarch64")))]
+compile_error!("the number of O_NOFOLLOW on this machine is wanted here");
 pub const EBADF: i32 = 9;
 pub const EINVAL: i32 = 22;
 pub const ELOOP: i32 = 40;

@@ -91,7 +91,10 @@ fn put(path: &Path, content: &Content) -> io::Result<()> {
     rights.write(true);
     loop {
         match fs::metadata(path) {
-            Ok(m) if m.is_file() => return Held::take(path, &rights)?.replace(content.bytes()),
+            Ok(m) if m.is_file() => match Held::take(path, &rights) {
+                Err(e) if e.kind() == io::ErrorKind::NotFound => {} // another program has removed it
+                held => return held?.replace(content.bytes()),
+            },
             Ok(_) => return content.pour(rights.open(path)?),
             Err(e) if e.kind() != io::ErrorKind::NotFound => return Err(e),
             Err(_) => match create(path, content.bytes()) {

@@ -1,9 +1,9 @@
 //! Files written whole or not at all.
 use super::attributes;
-use super::beside::Beside;
+use super::beside::{clear_beside, Beside};
 use super::c;
 use super::hidden::clean;
-use super::identity::{behind_links, Identity};
+use super::identity::{behind_links, same_file, Identity};
 use super::lock::Patience;
 use super::source;
 use std::fs::{self, File, Metadata, OpenOptions};
@@ -32,6 +32,10 @@ impl Held {
         let patience = Patience::new(&name);
         loop {
             let path = behind_links(named)?;
+            if !same_file(named, &path) {
+                return Err(io::Error::other("it leads to a file that has no name"));
+                // /dev/fd/N of one that was removed, or of a pipe
+            }
             // before it is opened, since that may block on what is no plain file
             plain(&fs::metadata(&path)?)?;
             let file = rights.clone().custom_flags(c::O_NOFOLLOW).open(&path)?;
@@ -49,9 +53,15 @@ impl Held {
         source::read(&self.file)
     }
 
+    /// Removes what a killed run left beside it, as replacing it does. That it cannot be removed is said when it is in the way.
+    pub fn tidy(&self) {
+        let _ = clear_beside(&self.path, &Patience::new(&self.name));
+    }
+
     /// Puts a new file in its place that has these bytes, and its owner, group, attributes and mode.
     pub fn replace(&self, bytes: &[u8]) -> io::Result<()> {
         let mut new = Beside::make(&self.path, OWNER_ALONE, &self.name)?;
+        attributes::owner(&self.seen, &new.file)?;
         new.write(bytes)?;
         attributes::keep(&self.file, &self.seen, &new.file)?;
         new.file.sync_all()?;

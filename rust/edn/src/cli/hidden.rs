@@ -2,20 +2,30 @@
 use std::fmt::Write;
 
 /// What stands for one in a message.
-const INSTEAD: char = '\u{fffd}';
+pub const INSTEAD: char = '\u{fffd}';
 
 /// Whether a character is one of these: the controls, the direction characters, and those without a shape.
 pub fn is_hidden(c: char) -> bool {
     c.is_control()
         || matches!(
             c,
-            '\u{ad}'                       // soft hyphen
-                | '\u{61c}'                // Arabic letter mark
-                | '\u{200b}'..='\u{200f}'  // zero width, left-to-right and right-to-left marks
-                | '\u{2028}'..='\u{202e}'  // line and paragraph separators, embeddings and overrides
-                | '\u{2060}'..='\u{206f}'  // joiners and operators without a shape, isolates
-                | '\u{feff}'               // byte order mark
-                | '\u{e0000}'..='\u{e007f}' // tags
+            '\u{ad}'                         // soft hyphen
+                | '\u{34f}'                  // grapheme joiner
+                | '\u{61c}'                  // Arabic letter mark
+                | '\u{115f}'..='\u{1160}'    // Hangul fillers
+                | '\u{17b4}'..='\u{17b5}'    // Khmer vowels that are not shown
+                | '\u{180b}'..='\u{180f}'    // Mongolian selectors and separator
+                | '\u{200b}'..='\u{200f}'    // zero width, left-to-right and right-to-left marks
+                | '\u{2028}'..='\u{202e}'    // line and paragraph separators, embeddings and overrides
+                | '\u{2060}'..='\u{206f}'    // joiners and operators without a shape, isolates
+                | '\u{3164}'                 // Hangul filler
+                | '\u{fe00}'..='\u{fe0f}'    // variation selectors
+                | '\u{feff}'                 // byte order mark
+                | '\u{ffa0}'                 // halfwidth Hangul filler
+                | '\u{fff0}'..='\u{fffb}'    // annotations
+                | '\u{1bca0}'..='\u{1bca3}'  // shorthand controls
+                | '\u{1d173}'..='\u{1d17a}'  // musical controls
+                | '\u{e0000}'..='\u{e0fff}'  // tags, more variation selectors
         )
 }
 

@@ -50,7 +50,7 @@ pub fn same_file(a: &Path, b: &Path) -> bool {
 /// The path of the file itself that a path leads to, which need not be there where no link leads to it.
 pub fn behind_links(path: &Path) -> io::Result<PathBuf> {
     let mut path = path.to_path_buf();
-    for links in 0..MOST_LINKS {
+    for links in 0..=MOST_LINKS {
         match fs::symlink_metadata(&path) {
             Ok(m) if m.is_symlink() => {
                 let to = fs::read_link(&path)?;

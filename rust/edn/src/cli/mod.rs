@@ -8,6 +8,8 @@ pub mod held;
 pub mod hidden;
 pub mod identity;
 pub mod lock;
+pub mod look;
+pub mod shell;
 pub mod show;
 pub mod source;
 pub mod standard;

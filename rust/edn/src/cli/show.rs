@@ -1,14 +1,17 @@
 //! How the command line shows a refusal: where it stands, the line itself with a caret, the number, and what to do.
-use super::hidden::shown;
-use edn::{Error, Place};
+use super::hidden::{shown, INSTEAD};
+use edn::{Error, Kind, Place};
 
-/// How many characters of a line are shown before and behind the place.
-const AROUND: usize = 60;
+/// How many characters of a line, and how many bytes, are shown before and behind the place.
+const CHARACTERS_AROUND: usize = 60;
+const BYTES_AROUND: usize = 12;
+/// What a shown line stands behind.
+const INDENT: &str = "    ";
 
 /// How many columns a character takes on a terminal, nearly always.
 fn columns(c: char) -> usize {
     match c as u32 {
-        0x300..=0x36f | 0x200b..=0x200f | 0xfe00..=0xfe0f => 0,
+        0x300..=0x36f => 0,
         0x1100..=0x115f
         | 0x2e80..=0xa4cf
         | 0xac00..=0xd7a3
@@ -27,7 +30,7 @@ fn characters(bytes: &[u8]) -> Vec<char> {
     let mut out = Vec::new();
     for chunk in bytes.utf8_chunks() {
         out.extend(chunk.valid().chars());
-        out.extend(chunk.invalid().iter().map(|_| '\u{fffd}'));
+        out.extend(chunk.invalid().iter().map(|_| INSTEAD));
     }
     out
 }
@@ -48,8 +51,8 @@ fn line_with_caret(text: &[u8], place: usize) -> String {
     }
     let before = characters(&text[start..place]);
     let behind = characters(&text[place..end]);
-    let from = before.len().saturating_sub(AROUND);
-    let (mut line, mut indent) = (String::from("    "), String::from("    "));
+    let from = before.len().saturating_sub(CHARACTERS_AROUND);
+    let (mut line, mut indent) = (String::from(INDENT), String::from(INDENT));
     if from > 0 {
         line.push('…');
         indent.push(' ');
@@ -65,36 +68,33 @@ fn line_with_caret(text: &[u8], place: usize) -> String {
             indent.extend(std::iter::repeat_n(' ', columns(c)));
         }
     }
-    for &c in behind.iter().take(AROUND) {
+    for &c in behind.iter().take(CHARACTERS_AROUND) {
         line.push(if c == '\t' { c } else { shown(c) });
     }
-    if behind.len() > AROUND {
+    if behind.len() > CHARACTERS_AROUND {
         line.push('…');
     }
     format!("{line}\n{indent}^")
-}
-
-/// Whether people could have written this.
-pub fn looks_like_text(bytes: &[u8]) -> bool {
-    std::str::from_utf8(bytes).is_ok_and(|s| !s.chars().any(|c| c.is_control() && !matches!(c, '\t' | '\n' | '\r')))
 }
 
 /// What helps in a case that people trip over.
 fn hint(text: &[u8], e: &Error) -> Option<&'static str> {
     let at = &text[e.place().min(text.len())..];
     let c = at.utf8_chunks().next().and_then(|c| c.valid().chars().next());
-    match (e.number(), c) {
-        (3, Some('\u{feff}')) => Some("The file begins with a byte order mark; save it as UTF-8 without one."),
-        (3, Some('\u{201c}' | '\u{201d}' | '\u{201e}' | '\u{2018}' | '\u{2019}')) => {
+    match (e.kind(), c) {
+        (Kind::NoToken, Some('\u{feff}')) => Some("The file begins with a byte order mark; save it as UTF-8 without one."),
+        (Kind::NoToken, Some('\u{201c}' | '\u{201d}' | '\u{201e}' | '\u{2018}' | '\u{2019}')) => {
             Some("This is a curly quote; write the straight ones, \" and '.")
         }
-        (3, Some('\u{a0}')) => Some("This is a no-break space; write an ordinary one."),
-        (3, Some('\u{2026}')) => Some("This character stands for three dots, \"left out here\"; write the data."),
-        (3, Some('+')) => Some("Write the number without its plus sign."),
-        (3, Some('/' | '#')) => {
+        (Kind::NoToken, Some('\u{a0}')) => Some("This is a no-break space; write an ordinary one."),
+        (Kind::NoToken, Some('\u{2026}')) => Some("This character stands for three dots, \"left out here\"; write the data."),
+        (Kind::NoToken, Some('+')) => Some("Write the number without its plus sign."),
+        (Kind::NoToken, Some('/' | '#')) => {
             Some("The comment is not ended: one from / runs to the next /, one from # to the end of its line, which must be there.")
         }
-        (2, _) if text.starts_with(&[0xff, 0xfe]) || text.starts_with(&[0xfe, 0xff]) => Some("The file is UTF-16; save it as UTF-8."),
+        (Kind::NotUtf8, _) if text.starts_with(&[0xff, 0xfe]) || text.starts_with(&[0xfe, 0xff]) => {
+            Some("The file is UTF-16; save it as UTF-8.")
+        }
         _ => None,
     }
 }
@@ -118,7 +118,7 @@ pub fn text_refusal(name: &str, text: &[u8], e: &Error) -> String {
     }
     // an end that comes too early is shown behind the last thing that is there, not on an empty line
     let ended = e.place() >= text.len();
-    let place = if ended { text.iter().rposition(|&b| !matches!(b, 9 | 10 | 13 | 32)).map_or(0, |i| i + 1) } else { e.place() };
+    let place = if ended { text.iter().rposition(|&b| !matches!(b, b'\t' | b'\n' | b'\r' | b' ')).map_or(0, |i| i + 1) } else { e.place() };
     let (line, column) = line_and_column(text, place);
     let end = if ended { ", where the text ends" } else { "" };
     let mut s = format!(
@@ -140,14 +140,13 @@ pub fn bytes_refusal(name: &str, bytes: &[u8], e: &Error) -> String {
     let mut s = format!("{name}: {}", refused(e));
     if e.counted() == Place::Bytes {
         let place = e.place().min(bytes.len());
-        let from = place.saturating_sub(12);
-        let to = (place + 12).min(bytes.len());
-        let mut line = String::from("    ");
+        let from = place.saturating_sub(BYTES_AROUND);
+        let to = (place + BYTES_AROUND).min(bytes.len());
+        let mut line = String::from(INDENT);
         line.push_str(if from > 0 { "… " } else { "" });
-        let caret = line.chars().count() + 3 * (place - from);
-        for b in &bytes[from..to] {
-            line.push_str(&format!("{b:02x} "));
-        }
+        let digits = |bytes: &[u8]| bytes.iter().map(|b| format!("{b:02x} ")).collect::<String>();
+        let caret = line.chars().count() + digits(&bytes[from..place]).len();
+        line.push_str(&digits(&bytes[from..to]));
         line.push_str(if to < bytes.len() { "…" } else { "" });
         s.push_str(&format!("\n{}\n{}^^", line.trim_end(), " ".repeat(caret)));
     }
