@@ -1,7 +1,7 @@
 //! The command line as its users meet it: what it writes, what it says, how it exits, and what it leaves of their files.
 mod run;
 
-use run::{edn, fails, ok, Folder, EDN};
+use run::{edn, fails, hidden, ok, Folder, EDN};
 use std::fs;
 use std::io::Write;
 use std::process::{Command, Stdio};
@@ -288,26 +288,10 @@ fn several_files_are_checked() {
     assert!(o.stderr.starts_with(b"    82 01\n          ^^\n"));
 }
 
-/// Characters that a terminal obeys, turns the line around by, or shows nothing for.
-fn hidden() -> String {
-    let ranges = [
-        0x1..=0x1f,
-        0x7f..=0x9f,
-        0xad..=0xad,
-        0x61c..=0x61c,
-        0x200b..=0x200f,
-        0x2028..=0x202e,
-        0x2066..=0x2069,
-        0xfeff..=0xfeff,
-        0xe0000..=0xe007f,
-    ];
-    ranges.into_iter().flatten().filter_map(char::from_u32).collect()
-}
-
 #[test]
 fn messages_hide_nothing() {
     let f = Folder::new("hidden");
-    let all = hidden();
+    let all: String = hidden().collect();
     // a name has at most 255 bytes
     for part in all.chars().collect::<Vec<_>>().chunks(50) {
         let odd: String = part.iter().collect();
@@ -347,7 +331,7 @@ fn messages_hide_nothing() {
 
 #[test]
 fn a_shown_line_hides_nothing() {
-    let all: String = hidden().chars().filter(|&c| c >= ' ').collect();
+    let all: String = hidden().filter(|&c| c >= ' ').collect();
     for part in all.chars().collect::<Vec<_>>().chunks(20) {
         let odd: String = part.iter().collect();
         let clean = "\u{fffd}".repeat(part.len());

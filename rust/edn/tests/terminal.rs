@@ -2,26 +2,10 @@
 mod run;
 
 use run::system::Terminal;
-use run::{edn, failed, ok, shell, Folder, EDN};
+use run::{edn, failed, hidden, ok, shell, Folder, EDN};
 use std::fs;
 use std::io::Write;
 use std::process::{Command, Stdio};
-
-/// Every character that a terminal obeys, turns the line around by, or shows nothing for.
-fn hidden() -> impl Iterator<Item = char> {
-    let ranges = [
-        0x0..=0x1f,
-        0x7f..=0x9f,
-        0xad..=0xad,
-        0x61c..=0x61c,
-        0x200b..=0x200f,
-        0x2028..=0x202e,
-        0x2060..=0x206f,
-        0xfeff..=0xfeff,
-        0xe0000..=0xe007f,
-    ];
-    ranges.into_iter().flatten().filter_map(char::from_u32)
-}
 
 /// A text string of CBOR.
 fn text_string(s: &str) -> Vec<u8> {
@@ -46,7 +30,7 @@ fn on_a_terminal(args: &[&str]) -> String {
 #[test]
 fn a_terminal_gets_no_hidden_character() {
     let f = Folder::new("terminal");
-    let odd: String = hidden().flat_map(|c| ['a', c, '\\', c, '"', c, 'ö', c, '水']).collect();
+    let odd: String = hidden().chain(['\0']).flat_map(|c| ['a', c, '\\', c, '"', c, 'ö', c, '水']).collect();
     let sheet = [text_string(&odd), vec![0x01], text_string("\u{9b}31m\u{202e}")].concat();
     let file = f.file("sheet", &sheet);
     // to a pipe or a file the text goes as the library prints it

@@ -89,3 +89,30 @@ pub fn failed(o: Output, status: i32) -> String {
     assert!(!said.is_empty());
     said
 }
+
+/// Characters that a terminal obeys, turns the line around by, or shows nothing for; of the longest range the ends.
+pub fn hidden() -> impl Iterator<Item = char> {
+    let ranges = [
+        0x1..=0x1f,
+        0x7f..=0x9f,
+        0xad..=0xad,
+        0x34f..=0x34f,
+        0x61c..=0x61c,
+        0x115f..=0x1160,
+        0x17b4..=0x17b5,
+        0x180b..=0x180f,
+        0x200b..=0x200f,
+        0x2028..=0x202e,
+        0x2060..=0x206f,
+        0x3164..=0x3164,
+        0xfe00..=0xfe0f,
+        0xfeff..=0xfeff,
+        0xffa0..=0xffa0,
+        0xfff0..=0xfffb,
+        0x1bca0..=0x1bca3,
+        0x1d173..=0x1d17a,
+        0xe0000..=0xe01ef,
+        0xe0fff..=0xe0fff,
+    ];
+    ranges.into_iter().flatten().filter_map(char::from_u32)
+}
