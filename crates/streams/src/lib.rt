@@ -7,16 +7,16 @@ ghost use Rattle.io.specs.Counts.{Counts};
 ghost use Rattle.streams.specs.Transfers.{transferOf};
 
 // What is to be done after a call of read or write.
-pub enum Next {
+enum Next {
     CallAgain,
     Stop,
     GiveUp,
 }
 
 // What a call of read or write came to: how many bytes it moved, and what is to be done.
-pub struct Transfer {
-    pub moved: usize,
-    pub next: Next,
+struct Transfer {
+    moved: usize,
+    next: Next,
 }
 
 // How many bytes were read, and whether those are all: the input has ended, or the buffer is full. If not, a read failed.
