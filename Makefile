@@ -16,6 +16,12 @@ CFLAGS ?= -O2
 WARNINGS = -std=c99 -Wall -Wextra -Wpedantic -Wconversion -Wshadow -Werror
 INSTALL = install
 
+# make takes a blank for the end of a name.
+ifneq ($(word 2,x$(EDN_LIB_DIR)x),)
+$(error EDN_LIB_DIR is "$(EDN_LIB_DIR)": that has a blank in it, and make cannot read a file there; \
+  move the folder, or name it by a symbolic link without one)
+endif
+
 made = target/c
 header = include/edn.h
 archive = $(if $(EDN_LIB_DIR),$(EDN_LIB_DIR),target/staticlib)/libedn_c.a
@@ -26,9 +32,12 @@ pc_dir = $(lib_dir)/pkgconfig
 
 all: $(archive)
 
+# What is hidden is no source: editors have their locks and swap files beside one.
+sources = crates.txt $(shell find crates -name '.*' -prune -o -type f -print)
+
 # `rt` does not prove again what is proved, and leaves an archive as it is that would not change: hence the touch.
 ifeq ($(EDN_LIB_DIR),)
-$(archive): crates.txt $(shell find crates -type f)
+$(archive): $(sources)
 	rt staticlib edn_c
 	@touch $@
 endif

@@ -2,10 +2,13 @@
 use std::fs::{self, File};
 use std::io::{self, Write};
 use std::path::{Path, PathBuf};
-use std::process;
+
+/// What is being written, until it is whole. One name for all builds, so that what a killed one left is overwritten by the next.
+const UNFINISHED: &str = "proved.new";
 
 /// One file: the record of the sources, and behind it the archive. Being one, it is replaced whole.
 pub struct Kept {
+    folder: PathBuf,
     file: PathBuf,
 }
 
@@ -16,7 +19,8 @@ impl Kept {
         let profile = out_dir.ancestors().find(|folder| folder.ends_with("build")).and_then(Path::parent);
         let shared = profile.and_then(Path::parent).unwrap_or(out_dir);
         let shared = if shared.ends_with(target) { shared.parent().unwrap_or(shared) } else { shared };
-        Kept { file: shared.join("edn_c").join("proved") }
+        let folder = shared.join("edn_c");
+        Kept { file: folder.join("proved"), folder }
     }
 
     pub fn file(&self) -> &Path {
@@ -31,14 +35,33 @@ impl Kept {
 
     /// Written beside and renamed: another build sees the old file or the new one, and nothing between.
     pub fn keep(&self, sources: &[u8], archive: &[u8]) -> io::Result<()> {
-        if let Some(folder) = self.file.parent() {
-            fs::create_dir_all(folder)?;
-        }
-        let beside = self.file.with_extension(format!("{}.tmp", process::id()));
-        let mut new = File::create(&beside)?;
+        fs::create_dir_all(&self.folder)?;
+        let held = hold(&self.folder);
+        let beside = self.folder.join(UNFINISHED);
+        let Some(mut new) = begin(&beside, held.is_some())? else { return Ok(()) };
         new.write_all(sources)?;
         new.write_all(archive)?;
         new.sync_all()?;
         fs::rename(&beside, &self.file)
+    }
+}
+
+/// Keeps other builds from writing in the folder as long as the answer lives; there is none where folders cannot be locked. The lock on the
+/// repository will not do: builds of two repositories may share one target folder.
+fn hold(folder: &Path) -> Option<File> {
+    let folder = File::open(folder).ok()?;
+    folder.lock().ok()?;
+    Some(folder)
+}
+
+/// Who holds the folder overwrites what is there. Who does not may not, since another build may be writing it now: then there is no file,
+/// and nothing is kept.
+fn begin(unfinished: &Path, held: bool) -> io::Result<Option<File>> {
+    if held {
+        return File::create(unfinished).map(Some);
+    }
+    match File::create_new(unfinished) {
+        Err(e) if e.kind() == io::ErrorKind::AlreadyExists => Ok(None),
+        new => new.map(Some),
     }
 }

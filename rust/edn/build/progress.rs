@@ -1,20 +1,41 @@
-//! How far the proof is, said where somebody can see it: cargo shows what a build script writes only where it fails or with -vv, so a terminal
-//! is told directly.
-use std::fs::OpenOptions;
+//! How far the proof is, said where somebody can see it: cargo shows what a build script writes only where it fails or with -vv, so the terminal
+//! that cargo itself writes to is told directly.
+use std::fs::File;
 use std::io::Write;
+use std::sync::LazyLock;
 use std::time::{Duration, Instant};
 
-const TERMINAL: &str = "/dev/tty";
+/// Looked for once: later cargo may be gone, and another process its script's parent.
+static TERMINAL: LazyLock<Option<File>> = LazyLock::new(terminal_of_cargo);
 /// Cargo's own line of progress may stand there: it is wiped, and cargo writes it anew.
 const WIPE_LINE: &str = "\r\x1b[K";
 const SECONDS_IN_A_MINUTE: u64 = 60;
 
-/// To the terminal, where there is one, and to the build script's own output. That nobody listens is no reason to stop.
+/// To cargo's terminal, where it has one, and to the build script's own output. That nobody listens is no reason to stop.
 pub fn say(line: &str) {
-    if let Ok(mut terminal) = OpenOptions::new().write(true).open(TERMINAL) {
+    if let Some(mut terminal) = TERMINAL.as_ref() {
         let _ = terminal.write_all(format!("{WIPE_LINE}{line}\n").as_bytes());
     }
     eprintln!("{line}");
+}
+
+/// Cargo's standard error, where that is a terminal. Where it is sent elsewhere, something else may stand at the terminal.
+#[cfg(target_os = "linux")]
+fn terminal_of_cargo() -> Option<File> {
+    use std::io::IsTerminal;
+    use std::os::unix::fs::FileTypeExt;
+    let error = format!("/proc/{}/fd/2", std::os::unix::process::parent_id());
+    // looked at before it is opened: a named pipe opens only when somebody reads it
+    if !std::fs::metadata(&error).ok()?.file_type().is_char_device() {
+        return None;
+    }
+    File::options().write(true).open(error).ok().filter(File::is_terminal)
+}
+
+/// `rt` runs on Linux only; elsewhere nothing is proved.
+#[cfg(not(target_os = "linux"))]
+fn terminal_of_cargo() -> Option<File> {
+    None
 }
 
 pub struct Progress {
@@ -25,7 +46,7 @@ pub struct Progress {
 
 impl Progress {
     pub fn begin(crates: usize) -> Progress {
-        say(&format!("edn: proving the library, {crates} crates, before it is built: some 5 to 8 minutes on two quiet cores, and once"));
+        say(&format!("edn: proving the library, {crates} crates, before it is built: 4 to 8 minutes on two quiet cores, and once"));
         Progress { started: Instant::now(), crates, proved: 0 }
     }
 

@@ -1,5 +1,6 @@
 //! The repository that the package stands in: the crates that the library is made of.
 use crate::progress::say;
+use std::ffi::OsStr;
 use std::fs::{self, File, TryLockError};
 use std::io;
 use std::path::{Path, PathBuf};
@@ -81,9 +82,14 @@ fn put(record: &mut Vec<u8>, bytes: &[u8]) {
     record.extend_from_slice(bytes);
 }
 
+/// All but what is hidden: the locks and swap files that editors have beside a source are none.
 fn add_files(folder: &Path, files: &mut Vec<PathBuf>) -> io::Result<()> {
     for entry in fs::read_dir(folder)? {
-        let path = entry?.path();
+        let entry = entry?;
+        if is_hidden(&entry.file_name()) {
+            continue;
+        }
+        let path = entry.path();
         if path.is_dir() {
             add_files(&path, files)?;
         } else {
@@ -91,6 +97,10 @@ fn add_files(folder: &Path, files: &mut Vec<PathBuf>) -> io::Result<()> {
         }
     }
     Ok(())
+}
+
+fn is_hidden(name: &OsStr) -> bool {
+    name.as_encoded_bytes().starts_with(b".")
 }
 
 /// `edn_c` and all that it stands on, by the list; what has no folder here comes with the toolchain.

@@ -160,3 +160,30 @@ fn make_runs_the_example_and_cleans_up() {
     let said = run_to_fail(make(&made).env("EDN_LIB_DIR", folder.path("nowhere")));
     assert!(said.contains("nowhere/libedn_c.a"), "{said}");
 }
+
+/// make takes a blank for the end of a name, and would speak of files that nobody named.
+#[test]
+fn make_refuses_a_folder_with_a_blank() {
+    let folder = Folder::new("blank");
+    let archive = std::fs::read(ARCHIVE).unwrap();
+    for name in ["a folder", " begins", "ends "] {
+        folder.write(&format!("{name}/libedn_c.a"), &archive);
+        let said = run_to_fail(make(&folder.path("made")).env("EDN_LIB_DIR", folder.path(name)));
+        assert!(said.contains(&format!("{name}\": that has a blank in it")), "{said}");
+        assert!(said.contains("name it by a symbolic link without one"), "{said}");
+    }
+}
+
+/// The repository may stand in a folder with a blank, and be installed to one.
+#[test]
+fn make_works_in_a_folder_with_a_blank() {
+    let folder = Folder::new("blank-above");
+    let there = folder.path("a folder");
+    std::fs::create_dir(&there).unwrap();
+    let parts = ["Makefile", "edn.pc.in", "include", "examples", "crates.txt", "crates"];
+    run(Command::new("cp").arg("-r").args(parts.map(|f| root().join(f))).arg(&there));
+    let mut make = Command::new("make");
+    make.arg("-C").arg(&there).args(["example", "install", "DESTDIR=to here"]);
+    run(make.env("EDN_LIB_DIR", archive_folder()).env_remove("MAKEFLAGS"));
+    assert!(there.join("to here/usr/local/lib/libedn_c.a").is_file());
+}

@@ -4,7 +4,7 @@ mod support;
 use std::fs;
 use std::path::PathBuf;
 use std::process::Command;
-use support::{cargo, package, run, Folder, ARCHIVE};
+use support::{cargo, package, root, run, Folder, ARCHIVE};
 
 /// A package that depends on this one.
 fn dependent(folder: &Folder, features: &str, rest: &str) -> PathBuf {
@@ -121,6 +121,20 @@ fn packs_what_it_is_built_of() {
     for name in files.lines() {
         assert!(listed.lines().any(|l| l == name), "{name} is not packed:\n{listed}");
     }
+}
+
+/// Packed it has the licence that it names, and not only a link to it.
+#[test]
+fn packs_its_licence() {
+    let folder = Folder::new("licence");
+    let listed = run(&mut cargo(&folder, package(), &["package", "--list", "--allow-dirty"]));
+    assert!(listed.lines().any(|l| l == "LICENSE"), "{listed}");
+
+    run(&mut cargo(&folder, package(), &["package", "--no-verify", "--allow-dirty"]));
+    let name = concat!("edn-", env!("CARGO_PKG_VERSION"));
+    let packed = folder.path(&format!("built/package/{name}.crate"));
+    let licence = run(Command::new("tar").arg("-xzOf").arg(packed).arg(format!("{name}/LICENSE")));
+    assert_eq!(licence, fs::read_to_string(root().join("LICENSE")).unwrap());
 }
 
 /// The documentation is made without a warning, with all features and with none.

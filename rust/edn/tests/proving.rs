@@ -3,8 +3,11 @@ mod support;
 
 use std::ffi::OsString;
 use std::fs;
-use std::os::unix::fs::PermissionsExt;
+use std::os::unix::fs::{symlink, PermissionsExt};
+use std::path::PathBuf;
 use std::process::{Command, Stdio};
+use std::thread::sleep;
+use std::time::Duration;
 use support::{cargo, package, root, run, run_to_fail, written, Folder, ARCHIVE};
 
 /// A small repository with this package in it, and a toolchain that counts its runs and hands out the archive that these tests have.
@@ -68,6 +71,15 @@ impl Pretended {
         c
     }
 
+    /// `make` in a repository that has what it needs beside the crates.
+    fn make(&self) -> Command {
+        let there = self.folder.path("repository");
+        run(Command::new("cp").arg("-r").args(["Makefile", "edn.pc.in", "include"].map(|f| root().join(f))).arg(&there));
+        let mut c = Command::new("make");
+        c.arg("-C").arg(there).env_remove("EDN_LIB_DIR").env_remove("MAKEFLAGS").env("PATH", self.programs());
+        c
+    }
+
     /// How often the library was proved up to now.
     fn runs(&self) -> usize {
         fs::read_to_string(self.folder.path("rt/runs")).unwrap_or_default().lines().count()
@@ -75,8 +87,33 @@ impl Pretended {
 
     /// Changes a source. Cargo sees that by the time of the change alone, and may have built in the same instant.
     fn change(&self, name: &str, content: &str) {
-        std::thread::sleep(std::time::Duration::from_millis(20));
+        sleep(Duration::from_millis(20));
         self.folder.write(&format!("repository/{name}"), content);
+    }
+
+    /// What an editor has beside a source that is being written: a lock, which is a link to no file, a swap file, and a folder of its own.
+    fn open_in_an_editor(&self) {
+        symlink("nowhere", self.folder.path("repository/crates/edn_c/src/.#lib.rt")).unwrap();
+        self.change("crates/edn_c/src/.lib.rt.swp", "half a source");
+        self.change("crates/edn_c/.editor/lib.rt", "half a source");
+    }
+
+    /// Where the build keeps what was proved.
+    fn kept(&self) -> PathBuf {
+        self.folder.path("built/edn_c")
+    }
+
+    /// The names of the files there.
+    fn names_kept(&self) -> Vec<OsString> {
+        fs::read_dir(self.kept()).unwrap().map(|e| e.unwrap().file_name()).collect()
+    }
+
+    /// A library of C that stands in for functions of the system where a program is run with it (LD_PRELOAD).
+    fn stand_in(&self, name: &str, source: &str) -> PathBuf {
+        let source = self.folder.write(&format!("{name}.c"), source);
+        let library = source.with_extension("so");
+        run(Command::new("cc").args(["-shared", "-fPIC"]).arg(source).arg("-o").arg(&library));
+        library
     }
 }
 
@@ -114,13 +151,36 @@ fn proves_again_what_changes() {
     assert_eq!(p.runs(), 4, "another toolchain");
 }
 
+#[test]
+fn an_editors_files_are_no_sources() {
+    let p = Pretended::new("editor");
+    run(&mut p.cargo(&["build"]));
+    p.open_in_an_editor();
+    run(&mut p.cargo(&["build"]));
+    assert_eq!(p.runs(), 1);
+    p.change("crates/edn_c/src/lib.rt", "written");
+    run(&mut p.cargo(&["build"]));
+    assert_eq!(p.runs(), 2);
+}
+
+#[test]
+fn an_editors_files_are_no_sources_for_make() {
+    let p = Pretended::new("make-editor");
+    let mut make = p.make();
+    run(&mut make);
+    p.open_in_an_editor();
+    run(&mut make);
+    assert_eq!(p.runs(), 1);
+    p.change("crates/edn_c/src/lib.rt", "written");
+    run(&mut make);
+    assert_eq!(p.runs(), 2);
+}
+
 /// `make` too builds the archive by the toolchain, and only where a source is newer.
 #[test]
 fn make_proves_what_changes() {
     let p = Pretended::new("make-proves");
-    run(Command::new("cp").arg("-r").args(["Makefile", "edn.pc.in", "include"].map(|f| root().join(f))).arg(p.folder.path("repository")));
-    let mut make = Command::new("make");
-    make.arg("-C").arg(p.folder.path("repository")).env_remove("EDN_LIB_DIR").env_remove("MAKEFLAGS").env("PATH", p.programs());
+    let mut make = p.make();
     run(&mut make);
     run(&mut make);
     assert_eq!(p.runs(), 1);
@@ -141,9 +201,78 @@ fn two_builds_at_once_prove_once() {
         assert!(o.status.success(), "{}", written(&o));
     }
     assert_eq!(p.runs(), 1);
-    let kept: Vec<_> = fs::read_dir(p.folder.path("built/edn_c")).unwrap().map(|e| e.unwrap().file_name()).collect();
-    assert_eq!(kept, ["proved"], "nothing unfinished is left beside it");
-    assert!(fs::read(p.folder.path("built/edn_c/proved")).unwrap().ends_with(&fs::read(ARCHIVE).unwrap()));
+    assert_eq!(p.names_kept(), ["proved"], "nothing unfinished is left beside it");
+    assert!(fs::read(p.kept().join("proved")).unwrap().ends_with(&fs::read(ARCHIVE).unwrap()));
+}
+
+/// Kills a build script where it has written what is to be kept, and not yet put it in its place.
+const KILLED_AS_IT_KEEPS: &str = r#"#define _GNU_SOURCE
+#include <errno.h>
+#include <signal.h>
+#include <string.h>
+int fsync(int file) {
+    (void)file;
+    return strncmp(program_invocation_short_name, "build-script", 12) == 0 ? raise(SIGKILL) : 0;
+}
+"#;
+
+#[test]
+fn what_a_killed_build_left_is_gone_after_the_next() {
+    let p = Pretended::new("killed");
+    let killing = p.stand_in("killing", KILLED_AS_IT_KEEPS);
+    for _ in 0..2 {
+        run_to_fail(p.cargo(&["build"]).env("LD_PRELOAD", &killing));
+        assert_eq!(p.names_kept().len(), 1, "one file unfinished, however often it is killed");
+    }
+    run(&mut p.cargo(&["build"]));
+    assert_eq!(p.names_kept(), ["proved"]);
+    assert!(fs::read(p.kept().join("proved")).unwrap().ends_with(&fs::read(ARCHIVE).unwrap()));
+}
+
+/// As on a file system that has no locks.
+const NO_LOCKS: &str = r#"#include <errno.h>
+int flock(int file, int how) {
+    (void)file, (void)how;
+    errno = ENOTSUP;
+    return -1;
+}
+"#;
+
+/// Without a lock an unfinished file may be one that another build is writing: it is left alone, and the build goes on.
+#[test]
+fn without_locks_an_unfinished_file_is_left_alone() {
+    let p = Pretended::new("no-locks");
+    let no_locks = p.stand_in("no_locks", NO_LOCKS);
+    // compiling by parts needs locks
+    let build = || run(p.cargo(&["build"]).env("LD_PRELOAD", &no_locks).env("CARGO_INCREMENTAL", "0"));
+    let unfinished = p.folder.write("built/edn_c/proved.new", "half");
+    build();
+    assert_eq!(p.names_kept(), ["proved.new"]);
+    assert_eq!(fs::read(&unfinished).unwrap(), b"half");
+
+    fs::remove_file(unfinished).unwrap();
+    p.change("crates/tiny/src/lib.rt", "tinY");
+    build();
+    assert_eq!(p.names_kept(), ["proved"]);
+}
+
+/// Builds of two repositories may share the folder: one that keeps there waits for another that does.
+#[test]
+fn one_build_at_a_time_keeps() {
+    let p = Pretended::new("one-keeps");
+    fs::create_dir_all(p.kept()).unwrap();
+    let other = fs::File::open(p.kept()).unwrap();
+    other.lock().unwrap();
+    let mut build = p.cargo(&["build"]).stderr(Stdio::null()).spawn().unwrap();
+    while p.runs() == 0 && build.try_wait().unwrap().is_none() {
+        sleep(Duration::from_millis(20));
+    }
+    sleep(Duration::from_millis(500));
+    assert_eq!(build.try_wait().unwrap(), None, "it waits");
+    assert!(p.names_kept().is_empty());
+    drop(other);
+    assert!(build.wait().unwrap().success());
+    assert_eq!(p.names_kept(), ["proved"]);
 }
 
 #[test]
@@ -161,7 +290,7 @@ fn a_failing_proof_shows_all_that_was_written() {
 }
 
 const SHOWN: [&str; 4] = [
-    "edn: proving the library, 3 crates, before it is built: some 5 to 8 minutes",
+    "edn: proving the library, 3 crates, before it is built: 4 to 8 minutes",
     "edn: proving the library, 1 of 3 crates (tiny), ",
     "edn: proving the library, 2 of 3 crates (small), ",
     "edn: the library is proved and built, ",
@@ -177,23 +306,59 @@ fn the_build_says_how_far_it_is() {
     }
 }
 
-/// At a terminal it is shown in any case. `script` runs a command at one, and writes what it shows.
-#[test]
-fn the_build_shows_at_a_terminal_how_far_it_is() {
-    let p = Pretended::new("shows");
+/// A build at a terminal, with its standard error where `redirected` says, and what the terminal shows. `script` runs a command at one.
+fn shown_at_a_terminal(p: &Pretended, redirected: &str) -> String {
     let inner = p.cargo(&["build"]);
-    // without setsid, which would take the terminal away
+    // without setsid: as somebody who sits there runs it
     let words: Vec<String> = inner.get_args().skip(1).map(|w| format!("'{}'", w.to_str().unwrap())).collect();
     let mut c = Command::new("script");
-    c.args(["--quiet", "--return", "--command", &words.join(" "), "/dev/null"]).stdin(Stdio::null());
+    c.args(["--quiet", "--return", "--command", &format!("{} {redirected}", words.join(" ")), "/dev/null"]).stdin(Stdio::null());
     for (name, value) in inner.get_envs() {
         match value {
             Some(value) => c.env(name, value),
             None => c.env_remove(name),
         };
     }
-    let shown = run(&mut c);
+    run(&mut c)
+}
+
+/// At a terminal it is shown in any case.
+#[test]
+fn the_build_shows_at_a_terminal_how_far_it_is() {
+    let p = Pretended::new("shows");
+    let shown = shown_at_a_terminal(&p, "");
     for line in SHOWN {
         assert!(shown.contains(line), "{shown}");
     }
+}
+
+/// Who sends cargo's words elsewhere may have something else at the terminal: an editor that builds, say.
+#[test]
+fn a_build_whose_words_go_elsewhere_shows_nothing_at_the_terminal() {
+    let p = Pretended::new("elsewhere");
+    let file = p.folder.path("words");
+    assert_eq!(shown_at_a_terminal(&p, &format!("2> '{}'", file.display())), "");
+    assert_eq!(p.runs(), 1);
+    assert!(fs::read_to_string(file).unwrap().contains("Finished"));
+}
+
+/// Nor does it wait for somebody to read them, which a named pipe would have it do.
+#[test]
+fn a_build_to_whose_words_nobody_listens_ends() {
+    let p = Pretended::new("nobody");
+    let pipe = p.folder.path("pipe");
+    run(Command::new("mkfifo").arg(&pipe));
+    let read = || fs::File::options().read(true).write(true).open(&pipe).unwrap();
+    let reader = read();
+    let writer = fs::File::options().write(true).open(&pipe).unwrap();
+    drop(reader);
+    let mut build = p.cargo(&["build", "--quiet"]).stderr(writer).spawn().unwrap();
+    let ended = (0..600).find_map(|_| {
+        sleep(Duration::from_millis(100));
+        build.try_wait().unwrap()
+    });
+    // one that does wait goes on, and is not left behind
+    let _reader = read();
+    assert!(ended.expect("within a minute").success());
+    assert_eq!(p.runs(), 1);
 }
