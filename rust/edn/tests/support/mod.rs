@@ -80,8 +80,7 @@ pub fn is_there(program: &str) -> bool {
     Command::new(program).arg("--version").output().is_ok_and(|o| o.status.success())
 }
 
-/// Cargo over a package, with the archive that these tests have. setsid takes the terminal from it, so that what the build script says to
-/// one does not come to whoever runs the tests.
+/// Cargo over a package, with the archive that these tests have, and without a terminal wherever the tests are run.
 pub fn cargo(folder: &Folder, package: &Path, words: &[&str]) -> Command {
     let mut c = Command::new("setsid");
     c.arg("--wait").arg(env!("CARGO")).args(words).args(["--offline", "--manifest-path"]).arg(package.join("Cargo.toml"));
