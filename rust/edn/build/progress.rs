@@ -46,7 +46,7 @@ pub struct Progress {
 
 impl Progress {
     pub fn begin(crates: usize) -> Progress {
-        say(&format!("edn: proving the library, {crates} crates, before it is built: 4 to 8 minutes on two quiet cores, and once"));
+        say(&format!("edn: proving the library, {crates} crates, before it is built: 4 to 9 minutes on two quiet cores, and once"));
         Progress { started: Instant::now(), crates, proved: 0 }
     }
 

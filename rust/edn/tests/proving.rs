@@ -290,7 +290,7 @@ fn a_failing_proof_shows_all_that_was_written() {
 }
 
 const SHOWN: [&str; 4] = [
-    "edn: proving the library, 3 crates, before it is built: 4 to 8 minutes",
+    "edn: proving the library, 3 crates, before it is built: 4 to 9 minutes",
     "edn: proving the library, 1 of 3 crates (tiny), ",
     "edn: proving the library, 2 of 3 crates (small), ",
     "edn: the library is proved and built, ",
