@@ -3,12 +3,7 @@
  * Each call is run on a stack of our own that was painted before; the deepest byte that the call changed says how far it went. The calls are made
  * through the header, so what its looking takes is in the figures. The inputs: every kind of bracket, none of it up to one level too many, around
  * every kind of item, as short as it can be and so long that the text has EDN_MOST bytes, ended and not; the bytes of each text that is accepted,
- * and those bytes damaged.
- *
- * The machine code agrees: the frames that its instructions make, added up along the deepest chain of calls that 16 levels allow, are 83,432 bytes
- * of edn_read, 8,416 of edn_print, 8,576 of edn_look_up, 83,256 of edn_correct and 8,400 of edn_check. What is measured is that, less up to 64
- * bytes at the end of the last frame that no instruction writes, and with the frames of the header's own functions (some 100 bytes where the
- * compiler does not optimise). */
+ * and those bytes damaged. */
 #define _XOPEN_SOURCE 700 /* for ucontext.h */
 
 #include <stdio.h>

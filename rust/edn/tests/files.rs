@@ -313,6 +313,43 @@ fn what_a_killed_run_leaves() {
     assert_eq!(f.names(), ["sheet", "text"]);
 }
 
+/// The system follows 40 links, and names a file that was removed by a link that leads to another name.
+#[test]
+fn links_are_followed_as_the_system_does() {
+    let f = Folder::new("chain");
+    let sheet = f.file("0", SHEET);
+    for i in 1..=41 {
+        symlink((i - 1).to_string(), f.path(&i.to_string())).unwrap();
+    }
+    assert_eq!(fs::read(f.path("40")).unwrap(), SHEET);
+    ok(&["correct", &f.path("40"), "0/0", "9"], b"");
+    assert!(fs::read(f.path("41")).is_err());
+    fails(&["correct", &f.path("41"), "0/0", "8"], b"", 2);
+    assert_eq!(fs::read(&sheet).unwrap(), [0x82, 9, 2]);
+
+    let other = f.file("removed (deleted)", SHEET);
+    f.file("removed", SHEET);
+    let script = "cd \"$(dirname \"$2\")\" && exec 7<>removed && rm removed && exec \"$1\" correct /dev/fd/7 0/0 9";
+    one_line(shell(script, &[&other]));
+    assert_eq!(fs::read(&other).unwrap(), SHEET);
+}
+
+/// A file that is removed while a run waits for it is made anew.
+#[test]
+fn a_file_that_is_removed_meanwhile() {
+    let f = Folder::new("removed");
+    let (text, out) = (f.file("text", "7"), f.file("out", SHEET));
+    let held = File::open(&out).unwrap();
+    held.try_lock().unwrap();
+    let child = Command::new(EDN).args(["read", &text, "-o", &out]).stderr(Stdio::piped()).spawn().unwrap();
+    sleep(Duration::from_millis(150));
+    fs::remove_file(&out).unwrap();
+    held.unlock().unwrap();
+    let o = child.wait_with_output().unwrap();
+    assert!(o.status.success(), "{}", String::from_utf8_lossy(&o.stderr));
+    assert_eq!((fs::read(&out).unwrap(), f.names()), (vec![7], vec!["out".to_string(), "text".to_string()]));
+}
+
 /// Nothing stands in the new file before its owner is right, its mode is set when all else is, and it is on the disk before it takes the
 /// sheet's place.
 #[test]
