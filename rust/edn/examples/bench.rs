@@ -1,146 +1,253 @@
-//! How fast the library is beside the plain model of the tests, in one run: `cargo run --release --example bench`.
+//! How fast the library is beside a plain Rust opponent that was written to be fast, in one run: `cargo run --release --example bench`.
 //!
-//! For each operation and kind of sheet: the library's time over the model's near 60,000 bytes, and the library's time for a byte near 60,000
-//! bytes over that near 1,000 (1 is growth in step with the size). Times are the least of many rounds, the two taken in turn.
-#[path = "../tests/model/mod.rs"]
-mod model;
+//! Every row is a ratio of least times, the two taken in turn: the library's over the opponent's, or, for growth, the library's time for a
+//! byte near 60,000 bytes over that near 1,000. A shape has several texts, and all of them are timed together. Words behind `--` choose rows:
+//! `-- read flat` takes those with both in them.
+#[path = "../tests/opponent/mod.rs"]
+mod opponent;
+#[path = "../tests/stored/mod.rs"]
+mod stored;
 
+use opponent::Opponent;
 use std::hint::black_box;
 use std::time::{Duration, Instant};
+use stored::{Shape, Sheet};
 
-/// The least time of a call, of each of two that are taken in turn.
-fn times(mut a: impl FnMut(), mut b: impl FnMut()) -> (f64, f64) {
-    let mut least = [f64::MAX; 2];
+/// How long a row is measured.
+const ROW: Duration = Duration::from_millis(600);
+const LEAST_ROUNDS: usize = 20;
+/// What is shorter than this is done again and again while the clock runs, which is too coarse for it.
+const SAMPLE: f64 = 20e-6;
+/// Inputs are timed in so many parts, each with its own least time: on a busy machine short times are the better ones.
+const PARTS: usize = 5;
+
+/// The least seconds that each of two calls takes for all of its inputs, given their numbers. The two take turns: one has all of its inputs,
+/// then the other, so that neither meets an input while the processor still foretells its branches from the time before.
+fn least(inputs: [usize; 2], mut a: impl FnMut(usize), mut b: impl FnMut(usize)) -> (f64, f64) {
     let started = Instant::now();
+    (0..inputs[0]).for_each(&mut a);
+    let times = (SAMPLE * PARTS as f64 / started.elapsed().as_secs_f64()) as usize + 1;
+    let mut least = [[f64::MAX; PARTS]; 2];
     let mut rounds = 0;
-    while rounds < 10 || started.elapsed() < Duration::from_millis(800) {
-        for (i, f) in [&mut a as &mut dyn FnMut(), &mut b].into_iter().enumerate() {
-            let t = Instant::now();
-            f();
-            least[i] = least[i].min(t.elapsed().as_secs_f64());
+    while rounds < LEAST_ROUNDS || started.elapsed() < ROW {
+        let calls = [&mut a as &mut dyn FnMut(usize), &mut b];
+        for (call, (least, count)) in calls.into_iter().zip(least.iter_mut().zip(inputs)) {
+            for (part, least) in least.iter_mut().enumerate() {
+                let clock = Instant::now();
+                for _ in 0..times {
+                    (count * part / PARTS..count * (part + 1) / PARTS).for_each(&mut *call);
+                }
+                *least = least.min(clock.elapsed().as_secs_f64() / times as f64);
+            }
         }
         rounds += 1;
     }
-    (least[0], least[1])
+    least.map(|parts| parts.iter().sum()).into()
 }
 
-fn filled(part: &str, open: &str, close: &str, size: usize) -> String {
-    let mut s = String::from(open);
-    s.push_str(part);
-    while s.len() + close.len() + part.len() + 2 <= size {
-        s.push_str(", ");
-        s.push_str(part);
-    }
-    s.push_str(close);
-    s
+/// The rows that were asked for, and how many of them are over their bound.
+struct Table {
+    wanted: Vec<String>,
+    rows: usize,
+    over: usize,
 }
 
-/// A text of a kind, about so long.
-fn text(kind: &str, size: usize) -> String {
-    let flat = "1, -1000, \"catalyst\", h'0102030405060708', true";
-    match kind {
-        "flat" => filled(flat, "", "", size),
-        "nested" => filled("[1, {2: [3, \"four\"], 5: 6(h'07')}, [_ 8, [9]]]", "[", "]", size),
-        "deep <<" => filled(flat, &"<<".repeat(16), &">>".repeat(16), size),
-        "strings" => filled(&format!("\"{}\", h'{}'", "text of some length ".repeat(20), "00112233".repeat(50)), "", "", size),
-        // all of it is read before the last token is refused
-        _ => filled(flat, "", ", ...", size),
+impl Table {
+    fn wants(&self, operation: &str, sheet: &str) -> bool {
+        let row = format!("{operation} {sheet}");
+        self.wanted.iter().all(|w| row.contains(w.as_str()))
     }
+
+    /// A row, from the sums of so many calls of each.
+    fn row(&mut self, operation: &str, shape: &str, bound: f64, (library, plain): (f64, f64), calls: usize) {
+        let ratio = library / plain;
+        let met = ratio <= bound;
+        self.rows += 1;
+        self.over += !met as usize;
+        let met = if met { "met" } else { "OVER" };
+        let [library, plain] = [library, plain].map(|t| time(t / calls as f64));
+        println!("| {operation} | {shape} | {ratio:.2} | {bound:.1} | {met} | {library} | {plain} |");
+    }
+}
+
+fn time(seconds: f64) -> String {
+    if seconds < 1e-5 {
+        format!("{:.0} ns", seconds * 1e9)
+    } else {
+        format!("{:.0} us", seconds * 1e6)
+    }
+}
+
+/// The most that reading a sheet may take, beside the opponent.
+fn read_bound(name: &str) -> f64 {
+    let tight = ["flat", "nested", "deep <<", "long strings"];
+    if tight.contains(&name) || name.starts_with("refused") {
+        1.0
+    } else {
+        1.5
+    }
+}
+
+#[inline(never)]
+fn library_read(text: &[u8], out: &mut [u8]) -> u8 {
+    edn::read_into(text, out).map_or_else(|e| e.number(), |_| 0)
+}
+
+#[inline(never)]
+fn opponent_read(o: &mut Opponent, text: &[u8], out: &mut [u8]) -> u8 {
+    o.read(text, out).map_or_else(|e| e.number, |_| 0)
+}
+
+/// The library's time and the opponent's for reading the texts of a shape.
+fn read_times(o: &mut Opponent, Shape { sheets, .. }: &Shape) -> (f64, f64) {
+    let room = sheets[0].room;
+    let (mut out, mut out2) = (vec![0u8; room], vec![0u8; room]);
+    for sheet in sheets {
+        assert_eq!(library_read(&sheet.text, &mut out), sheet.number, "{}", sheet.name);
+        assert_eq!(opponent_read(o, &sheet.text, &mut out2), sheet.number, "{}", sheet.name);
+        assert!(out == out2, "{}: the bytes differ", sheet.name);
+    }
+    let library = |i: usize| {
+        black_box(library_read(black_box(&sheets[i].text), black_box(&mut out)));
+    };
+    let plain = |i: usize| {
+        black_box(opponent_read(o, black_box(&sheets[i].text), black_box(&mut out2)));
+    };
+    least([sheets.len(); 2], library, plain)
+}
+
+fn reading(table: &mut Table, o: &mut Opponent) {
+    for shape in stored::shapes().into_iter().chain([stored::small()]) {
+        if table.wants("read", shape.name) {
+            let times = read_times(o, &shape);
+            table.row("read", shape.name, read_bound(shape.name), times, shape.sheets.len());
+        }
+    }
+}
+
+/// The bytes of a stored text, a path to an item in the middle, and a buffer with these bytes in it.
+#[derive(Clone)]
+struct Stored {
+    bytes: Vec<u8>,
+    path: Vec<u16>,
+    buffer: Vec<u8>,
+}
+
+impl Stored {
+    fn new(shape: &str, text: &[u8]) -> Stored {
+        let bytes = edn::read(std::str::from_utf8(text).unwrap()).unwrap();
+        let path = middle(&bytes, if shape == "nested" { vec![0, 0] } else { vec![0] });
+        let mut buffer = vec![0; edn::MOST];
+        buffer[..bytes.len()].copy_from_slice(&bytes);
+        Stored { bytes, path, buffer }
+    }
+}
+
+/// The path with its last step moved on to the last item that starts in the first half.
+fn middle(bytes: &[u8], mut path: Vec<u16>) -> Vec<u16> {
+    let last = path.len() - 1;
+    for step in (0..15).rev().map(|bit| 1 << bit) {
+        path[last] += step;
+        if !edn::locate(bytes, &path).is_ok_and(|part| part.start < bytes.len() / 2) {
+            path[last] -= step;
+        }
+    }
+    path
+}
+
+/// How long the texts are whose bytes are printed: byte strings get longer, and what is printed has to find room.
+const PRINTED: usize = 40_000;
+/// An item made longer and then shorter again, so that all that is behind it is moved twice.
+const CORRECTIONS: [&[u8]; 2] = [b"[1, 1000000]", b"1"];
+
+#[inline(never)]
+fn library_call(operation: &str, s: &mut Stored, out: &mut [u8]) -> usize {
+    match operation {
+        "check" => edn::check(&s.bytes).is_ok() as usize,
+        "look up" => edn::locate(&s.bytes, &s.path).unwrap().end,
+        "print" => edn::print_into(&s.bytes, out).unwrap(),
+        _ => CORRECTIONS.iter().fold(s.bytes.len(), |used, text| edn::correct_in(&mut s.buffer, used, &s.path, text).unwrap()),
+    }
+}
+
+#[inline(never)]
+fn opponent_call(o: &mut Opponent, operation: &str, s: &mut Stored, out: &mut [u8]) -> usize {
+    match operation {
+        "check" => o.check(&s.bytes).is_ok() as usize,
+        "look up" => o.look_up(&s.bytes, &s.path).ok().unwrap().1,
+        "print" => o.print(&s.bytes, out).ok().unwrap(),
+        _ => CORRECTIONS.iter().fold(s.bytes.len(), |used, text| o.correct(&mut s.buffer, used, &s.path, text).ok().unwrap()),
+    }
+}
+
+fn byte_times(o: &mut Opponent, operation: &str, shape: &Shape) -> (f64, f64) {
+    let (mut out, mut out2) = (vec![0u8; edn::MOST], vec![0u8; edn::MOST]);
+    let mut ours: Vec<Stored> = shape.sheets.iter().map(|sheet| Stored::new(shape.name, &sheet.text)).collect();
+    let mut theirs = ours.clone();
+    for (a, b) in ours.iter_mut().zip(&mut theirs) {
+        let result = library_call(operation, a, &mut out);
+        assert_eq!(result, opponent_call(o, operation, b, &mut out2), "{operation} {}", shape.name);
+        assert!(out == out2 && a.buffer == b.buffer, "{operation} {}: the bytes differ", shape.name);
+        if operation == "correct" {
+            // as long as every further correction leaves it
+            a.bytes.truncate(result);
+            b.bytes.truncate(result);
+            assert_eq!(a.bytes.len(), result);
+        }
+    }
+    let library = |i: usize| {
+        black_box(library_call(operation, black_box(&mut ours[i]), black_box(&mut out)));
+    };
+    let plain = |i: usize| {
+        black_box(opponent_call(o, operation, black_box(&mut theirs[i]), black_box(&mut out2)));
+    };
+    least([shape.sheets.len(); 2], library, plain)
+}
+
+fn working_on_bytes(table: &mut Table, o: &mut Opponent) {
+    for operation in ["check", "look up", "correct", "print"] {
+        let shapes = stored::shapes_near(if operation == "print" { PRINTED } else { stored::LONG });
+        for (name, bound) in [("flat", 1.0), ("nested", 1.0), ("long strings", 1.5), ("deep <<", 1.5)] {
+            if table.wants(operation, name) {
+                let shape = shapes.iter().find(|shape| shape.name == name).unwrap();
+                let times = byte_times(o, operation, shape);
+                table.row(operation, name, bound, times, shape.sheets.len());
+            }
+        }
+    }
+}
+
+/// The library's time for a byte of long texts over that of short ones.
+fn growth(table: &Table) {
+    println!("\n| growth | library's time for a byte, near 60,000 / near 1,000 |");
+    println!("|--|--|");
+    let shapes = |size| stored::shapes_near(size).into_iter().chain(stored::hostile(size));
+    for (long, short) in shapes(stored::LONG).zip(shapes(stored::SHORT)) {
+        if table.wants("growth", long.name) {
+            let sizes = [&long, &short].map(|shape| shape.sheets.iter().map(|s| s.text.len()).sum::<usize>() as f64);
+            let (mut out, mut out2) = (vec![0u8; edn::MOST], vec![0u8; edn::MOST]);
+            let counts = [long.sheets.len(), short.sheets.len()];
+            let times = least(counts, |i| read_again(&long.sheets[i], &mut out), |i| read_again(&short.sheets[i], &mut out2));
+            println!("| {} | {:.2} |", long.name, times.0 / sizes[0] / (times.1 / sizes[1]));
+        }
+    }
+}
+
+fn read_again(sheet: &Sheet, out: &mut [u8]) {
+    let number = black_box(library_read(black_box(&sheet.text), black_box(&mut out[..sheet.room])));
+    assert_eq!(number, sheet.number, "{}", sheet.name);
 }
 
 fn main() {
     if cfg!(debug_assertions) {
         eprintln!("a debug build says nothing: cargo run --release --example bench");
     }
-    println!("| operation | sheet | library / model near 60,000 bytes | library's time for a byte, near 60,000 / near 1,000 |");
-    println!("|--|--|--|--|");
-    for operation in ["read", "print", "look up", "correct", "check"] {
-        for kind in ["flat", "nested", "deep <<", "strings", "refused"] {
-            let (library, plain) = measure(operation, kind, 60_000);
-            let (small, _) = measure(operation, kind, 1_000);
-            let longer = text(kind, 60_000).len() as f64 / text(kind, 1_000).len() as f64;
-            println!("| {operation} | {kind} | {:.2} | {:.2} |", library / plain, library / small / longer);
-        }
-    }
-}
-
-fn measure(operation: &str, kind: &str, size: usize) -> (f64, f64) {
-    let (mut out, mut out2) = (vec![0u8; edn::MOST], vec![0u8; edn::MOST]);
-    if operation == "read" {
-        let text = text(kind, size);
-        let text = text.as_bytes();
-        assert_eq!(edn::read_into(text, &mut out).is_ok(), kind != "refused");
-        return times(
-            || {
-                let _ = black_box(edn::read_into(black_box(text), &mut out));
-            },
-            || {
-                let _ = black_box(model::read(black_box(text), &mut out2));
-            },
-        );
-    }
-    // the other four work on bytes: those of a text of that length
-    let refused = kind == "refused";
-    let mut bytes = edn::read(text(if refused { "flat" } else { kind }, size)).unwrap();
-    if refused {
-        bytes.push(0xff);
-    }
-    assert_eq!(edn::check(&bytes).is_ok(), !refused);
-    match operation {
-        "print" => times(
-            || {
-                let _ = black_box(edn::print_into(black_box(&bytes), &mut out));
-            },
-            || {
-                let _ = black_box(model::print(black_box(&bytes), &mut out2));
-            },
-        ),
-        "check" => times(
-            || {
-                let _ = black_box(edn::check(black_box(&bytes)));
-            },
-            || {
-                let _ = black_box(model::check(black_box(&bytes)));
-            },
-        ),
-        _ => {
-            // an item in the middle
-            let mut path: Vec<u16> = if kind == "nested" { vec![0, 0] } else { vec![0] };
-            for step in [4096, 1024, 256, 64, 16, 4, 1].iter().flat_map(|s| std::iter::repeat_n(*s, 3)) {
-                *path.last_mut().unwrap() += step;
-                if edn::locate(&bytes, &path).is_ok_and(|p| p.start < bytes.len() / 2) {
-                    continue;
-                }
-                *path.last_mut().unwrap() -= step;
-            }
-            if operation == "look up" {
-                return times(
-                    || {
-                        let _ = black_box(edn::locate(black_box(&bytes), &path));
-                    },
-                    || {
-                        let _ = black_box(model::look_up(black_box(&bytes), &path));
-                    },
-                );
-            }
-            // made longer, then shorter again: everything behind it is moved twice
-            let used = bytes.len();
-            let (mut a, mut b) = (vec![0; edn::MOST], vec![0; edn::MOST]);
-            a[..used].copy_from_slice(&bytes);
-            b[..used].copy_from_slice(&bytes);
-            let first = edn::correct_in(&mut a, used, &path, b"1");
-            let used = first.unwrap_or(used);
-            let _ = model::correct(&mut b, bytes.len(), &path, b"1");
-            times(
-                || {
-                    let n = black_box(edn::correct_in(&mut a, used, &path, b"[1, 1000000]"));
-                    let _ = black_box(edn::correct_in(&mut a, n.unwrap_or(used), &path, b"1"));
-                },
-                || {
-                    let n = black_box(model::correct(&mut b, used, &path, b"[1, 1000000]"));
-                    let _ = black_box(model::correct(&mut b, n.unwrap_or(used), &path, b"1"));
-                },
-            )
-        }
-    }
+    let mut table = Table { wanted: std::env::args().skip(1).collect(), rows: 0, over: 0 };
+    let mut o = Opponent::new();
+    println!("| operation | sheet | library / opponent | bound | | library | opponent |");
+    println!("|--|--|--|--|--|--|--|");
+    reading(&mut table, &mut o);
+    working_on_bytes(&mut table, &mut o);
+    growth(&table);
+    println!("\n{} of {} rows are over their bound", table.over, table.rows);
 }
