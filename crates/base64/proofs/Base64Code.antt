@@ -1,24 +1,24 @@
 -- Base64 text: a letter, a group of letters, and the loops that count and write what they stand for.
 -- Assumes nothing.
-use mathlib.Core.Path.{_≡_, refl, sym, ap, _∙_, subst⁻¹}
-use mathlib.Core.List.{List, [], _∷_, _++_, append-assoc, append-nil}
+use mathlib.Core.Path.{_≡_, refl, sym, ap, _∙_}
+use mathlib.Core.List.{List, [], _∷_}
 use mathlib.Core.Bool.{Bool, true, false, _&&_, _||_}
-use Prim.Native.Nat.{ℕ, zero, suc, _+_, _-_, _*_, _/_, _%_, _≤_, _<_, min}
+use Prim.Native.Nat.{ℕ, zero, suc, _+_, _-_, _*_, _/_, _%_, _≤_, _<_}
 use native.Mathlib.Omega.{arith}
-use lib.Dec.{T, leb, eqb, eqb→eq, leb→le}
-use lib.ListN.{length, take, drop, getD, replicate, length-append}
-use borrow.Author.Tests.{le-leb, lt-leb, leb-true, leb-false, eq-eqb, ne-eqb, lt-ltb, le-ltb}
+use lib.Dec.{T, leb, eqb, eqb→eq}
+use lib.ListN.{length, take, replicate}
+use mir.Val as Bits
+use borrow.Author.Tests.{le-leb, lt-leb, leb-true, eq-eqb, ne-eqb, lt-ltb, le-ltb}
 use Rattle.cbor.specs.Utf8.{isIn}
-use Rattle.memory.specs.Buffer.{over}
-use Rattle.cbor.proofs.Table.{every, between, byte}
+use Rattle.cbor.proofs.Table.{every, between}
 use Rattle.cbor.proofs.Utf8Laws.{both-true}
-use Rattle.notation.specs.Classes.{blank, is}
-use Rattle.notation.specs.Literals.{Content, standsFor, bad, after, Sextet, sextet, padding, nonAlphabet, sextetAt, sextets, valued, lastTwo, lastThree, isPadding, lastFour, fullFour, base64From, base64Content}
-use Rattle.literal_body.specs.LiteralAnswers.{decodedBy, Decodes, Put, Fills}
-use Rattle.base64.specs.Base64Answers.{sextetNumber, sextetOf, sign, lettered, Letter, waits, waitingOf, Pushed, allSextets, firstByte, secondOf, thirdOf, base64Bytes, flowing, Steps, fullSize, lastTwoSize, lastThreeSize, lastFourSize, Last}
+use Rattle.notation.specs.Classes.{is}
+use Rattle.notation.specs.Literals.{Content, standsFor, bad, after, Sextet, sextet, padding, nonAlphabet, sextetAt, valued, lastTwo, lastThree, isPadding, lastFour, fullFour, base64From}
+use Rattle.literal_body.specs.LiteralAnswers.{Put}
+use Rattle.base64.specs.Base64Answers.{sextetNumber, sextetOf, sign, waits, waitingOf, allSextets, firstByte, secondOf, thirdOf, base64Bytes, flowing, fullSize, lastTwoSize, lastThreeSize, lastFourSize, Last}
 use Rattle.base64.specs.declared.Group.{Group}
-use Rattle.notation.proofs.SoundContent.{Fits, sextet-fits}
-use Rattle.literal_body.proofs.LiteralCode.{take-none, front-part, part-end, put-none, put-more, after-nil, after-after, decodes, content-is}
+use Rattle.notation.proofs.SoundContent.{Fits}
+use Rattle.literal_body.proofs.LiteralCode.{take-none, put-none, put-more}
 
 -- LETTERS
 
@@ -87,67 +87,17 @@ module _ {b : ℕ} where
 
 pub ruleset sextet-ways = (sextet-below, sextet-digit, sextet-between, sextet-upper, sextet-beyond, sextet-lower, sextet-above)
 
-sextet-most : (b : ℕ) → b < 256 → sextetNumber (sextetAt b) ≤ 65
-unfolding sextetAt sextetNumber isIn
-sextet-most b h = leb→le (sextetNumber (sextetAt b)) 65 (byte (λ k. leb (sextetNumber (sextetAt k)) 65) tt b h)
-
-sextet-back : (x : Sextet) → Fits x → sextetOf (sextetNumber x) ≡ x
+pub sextet-back : (x : Sextet) → Fits x → sextetOf (sextetNumber x) ≡ x
 unfolding sextetOf sextetNumber
 sextet-back (sextet v) f = rw (le-leb v 63 f, sextetOf)
 sextet-back padding f = refl
 sextet-back nonAlphabet f = refl
 
-module _ (b : ℕ) {t : Bool} (x : t ≡ is blank b) where
-  pub letter-blank : t ≡ true → Letter b 66
-  unfolding sextets lettered
-  letter-blank e = record { is = λ s. rw (sym x ∙ e, sextets) }
-
-  pub letter-other : {v : ℕ} → b < 256 → t ≡ false → v ≡ sextetNumber (sextetAt b) → Letter b v
-  unfolding sextets lettered
-  letter-other {v} u e d =
-      let n : v ≡ 66 → ⊥ = omega (arith, sextet-most b u) in
-      record { is = λ s. (rw (sym x ∙ e, sextets)) ∙ ap (λ (k : Sextet). k ∷ sextets s) (sym (ap sextetOf d ∙ sextet-back (sextetAt b) (sextet-fits b))) ∙ sym (rw (ne-eqb v 66 n, lettered)) }
-
-pub ruleset letter-ways = (letter-blank, letter-other)
-
-lettered-on : (x : ℕ) (s : List Sextet) → (x ≡ 66 → ⊥) → lettered x s ≡ sextetOf x ∷ s
-unfolding lettered
-lettered-on x s n = rw (ne-eqb x 66 n, lettered)
-
 -- GROUPS
 
-counted : (g : Group) (n : ℕ) → g .count ≡ n → waitingOf g ≡ waits n (sextetOf (g .a)) (sextetOf (g .b)) (sextetOf (g .c)) (sextetOf (g .d))
+pub counted : (g : Group) (n : ℕ) → g .count ≡ n → waitingOf g ≡ waits n (sextetOf (g .a)) (sextetOf (g .b)) (sextetOf (g .c)) (sextetOf (g .d))
 unfolding waitingOf
 counted g n e = ap (λ (k : ℕ). waits k (sextetOf (g .a)) (sextetOf (g .b)) (sextetOf (g .c)) (sextetOf (g .d))) e
-
-module _ (g : Group) (x : ℕ) where
-  pub push-first : {r : Group} → g .count ≡ 0 → r ≡ record { count = 1; a = x; b = 0; c = 0; d = 0; flows = 0 } → Pushed g x r
-  unfolding waitingOf waits
-  push-first e p =
-      subst⁻¹ (Pushed g x) p (record { is = λ h. sym (ap (λ (u : List Sextet). u ++ (sextetOf x ∷ [])) (counted g 0 e)); count = λ h. omega arith; flows = refl })
-
-  pub push-second : {r : Group} → g .count ≡ 1 → r ≡ record { count = 2; a = g .a; b = x; c = 0; d = 0; flows = 0 } → Pushed g x r
-  unfolding waitingOf waits
-  push-second e p =
-      subst⁻¹ (Pushed g x) p (record { is = λ h. sym (ap (λ (u : List Sextet). u ++ (sextetOf x ∷ [])) (counted g 1 e)); count = λ h. omega arith; flows = refl })
-
-  pub push-third : {r : Group} → g .count ≡ 2 → r ≡ record { count = 3; a = g .a; b = g .b; c = x; d = 0; flows = 0 } → Pushed g x r
-  unfolding waitingOf waits
-  push-third e p =
-      subst⁻¹ (Pushed g x) p (record { is = λ h. sym (ap (λ (u : List Sextet). u ++ (sextetOf x ∷ [])) (counted g 2 e)); count = λ h. omega arith; flows = refl })
-
-  pub push-fourth : {r : Group} → (g .count ≡ 0 → ⊥) → (g .count ≡ 1 → ⊥) → (g .count ≡ 2 → ⊥)
-      → r ≡ record { count = 4; a = g .a; b = g .b; c = g .c; d = x; flows = 0 } → Pushed g x r
-  unfolding waitingOf waits
-  push-fourth n₀ n₁ n₂ p =
-      subst⁻¹ (Pushed g x) p
-      (record {
-        is = λ h. let e : g .count ≡ 3 = omega arith in sym (ap (λ (u : List Sextet). u ++ (sextetOf x ∷ [])) (counted g 3 e));
-        count = λ h. omega arith;
-        flows = refl;
-      })
-
-pub ruleset push-ways = (push-first, push-second, push-third, push-fourth)
 
 module _ (g : Group) where
   pub all-a : 63 < g .a → false ≡ allSextets g
@@ -256,10 +206,6 @@ pub ruleset four-ways = (four-two, four-three, four-full)
 
 -- WHAT A GROUP STANDS FOR
 
-flow-none : (g : Group) (c : Content) → flowing 0 g c ≡ c
-unfolding flowing
-flow-none g c = after-nil c
-
 -- letters by their numbers
 module _ (n : ℕ) (k : ℕ → Content) where
   valued-is : valued (sextetOf n) k ≡ elim (leb n 63) [ true ↦ k n | false ↦ bad ]
@@ -288,7 +234,7 @@ padding-is n = go (leb n 63) refl (eqb n 64) refl
     go false e false f = refl
 
 -- four letters with what follows
-full-is : (g : Group) (k : Content) → fullFour (sextetOf (g .a)) (sextetOf (g .b)) (sextetOf (g .c)) (sextetOf (g .d)) k ≡ flowing (fullSize g) g k
+pub full-is : (g : Group) (k : Content) → fullFour (sextetOf (g .a)) (sextetOf (g .b)) (sextetOf (g .c)) (sextetOf (g .d)) k ≡ flowing (fullSize g) g k
 unfolding fullFour fullSize allSextets flowing base64Bytes firstByte secondOf thirdOf
 full-is g k =
     valued-and (g .a) _ _ _ (valued-and (g .b) _ _ _ (valued-and (g .c) _ _ _ (valued-is (g .d) _)))
@@ -377,6 +323,10 @@ three-most : (a b c : ℕ) → lastThreeSize a b c ≤ 4
 unfolding lastThreeSize
 three-most a b c = picked (λ (k : ℕ). k ≤ 4) (leb a 63 && (leb b 63 && (leb c 63 && eqb (c % 4) 0))) 2 4 (omega arith) (omega arith)
 
+two-short : (a b : ℕ) → lastTwoSize a b ≤ 3 → lastTwoSize a b ≤ 2
+unfolding lastTwoSize
+two-short a b = picked (λ (k : ℕ). k ≤ 3 → k ≤ 2) (leb a 63 && (leb b 63 && eqb (b % 16) 0)) 1 4 (λ h. omega arith) (λ h. absurd (omega arith))
+
 four-most : (g : Group) → lastFourSize g ≤ 4
 unfolding lastFourSize
 four-most g =
@@ -389,21 +339,21 @@ module _ (g : Group) where
 
   pub last-none : g .count ≡ 0 → Last g 0
   unfolding waits base64From flowing after
-  last-none e = record { is = λ h. last-by 0 e; most = omega arith }
+  last-none e = record { is = λ h. last-by 0 e; most = omega arith; short = λ k h. omega arith }
 
   pub last-one : g .count ≡ 1 → Last g 4
   unfolding waits base64From flowing
-  last-one e = record { is = λ h. last-by 1 e; most = omega arith }
+  last-one e = record { is = λ h. last-by 1 e; most = omega arith; short = λ k h. absurd (omega arith) }
 
   pub last-pair : {r : ℕ} → g .count ≡ 2 → r ≡ lastTwoSize (g .a) (g .b) → Last g r
   unfolding waits base64From
   last-pair {r} e p =
-      record { is = λ h. last-by 2 e ∙ two-is g ∙ ap (λ (k : ℕ). flowing k g (standsFor [])) (sym p); most = omega (arith, two-most (g .a) (g .b)) }
+      record { is = λ h. last-by 2 e ∙ two-is g ∙ ap (λ (k : ℕ). flowing k g (standsFor [])) (sym p); most = omega (arith, two-most (g .a) (g .b)); short = λ k h. omega (arith, two-short (g .a) (g .b) (omega arith)) }
 
   pub last-triple : {r : ℕ} → g .count ≡ 3 → r ≡ lastThreeSize (g .a) (g .b) (g .c) → Last g r
   unfolding waits base64From
   last-triple {r} e p =
-      record { is = λ h. last-by 3 e ∙ three-is g ∙ ap (λ (k : ℕ). flowing k g (standsFor [])) (sym p); most = omega (arith, three-most (g .a) (g .b) (g .c)) }
+      record { is = λ h. last-by 3 e ∙ three-is g ∙ ap (λ (k : ℕ). flowing k g (standsFor [])) (sym p); most = omega (arith, three-most (g .a) (g .b) (g .c)); short = λ k h. omega arith }
 
   pub last-whole : {r : ℕ} → (g .count ≡ 0 → ⊥) → (g .count ≡ 1 → ⊥) → (g .count ≡ 2 → ⊥) → (g .count ≡ 3 → ⊥) → r ≡ lastFourSize g → Last g r
   unfolding waits
@@ -411,58 +361,10 @@ module _ (g : Group) where
       record {
         is = λ h. let e : g .count ≡ 4 = omega arith in last-by 4 e ∙ four-is g ∙ ap (λ (k : ℕ). flowing k g (standsFor [])) (sym p);
         most = omega (arith, four-most g);
+        short = λ k h. omega arith;
       }
 
 pub ruleset last-ways = (last-none, last-one, last-pair, last-triple, last-whole)
-
--- A STEP
-
-module _ (g : Group) (b : ℕ) {x : ℕ} (y : Letter b x) where
-  pub step-blank : {r : Group} → x ≡ 66 → r ≡ record { count = g .count; a = g .a; b = g .b; c = g .c; d = g .d; flows = 0 } → Steps g b r
-  unfolding lettered waitingOf
-  step-blank e p =
-      subst⁻¹ (Steps g b) p
-      (record {
-        is = λ h s.
-            ap (λ (u : List Sextet). base64From (waitingOf g ++ u)) (y .is s ∙ ap (λ (k : ℕ). lettered k (sextets s)) e) ∙ sym (flow-none g (base64From (waitingOf g ++ sextets s)));
-        most = omega arith;
-        count = λ h. h;
-        short = λ h k. omega arith;
-      })
-
-  module _ (n : x ≡ 66 → ⊥) where
-    joined : (s : List ℕ) → base64From (waitingOf g ++ sextets (b ∷ s)) ≡ base64From (waitingOf g ++ (sextetOf x ∷ sextets s))
-    joined s = ap (λ (u : List Sextet). base64From (waitingOf g ++ u)) (y .is s ∙ lettered-on x (sextets s) n)
-
-    pub step-push : {r : Group} → g .count < 4 → Pushed g x r → Steps g b r
-    step-push {r} h z =
-        record {
-          is = λ k s.
-              joined s
-              ∙ ap base64From (sym (append-assoc (waitingOf g) (sextetOf x ∷ []) (sextets s)) ∙ ap (λ (u : List Sextet). u ++ sextets s) (sym (z .is h)))
-              ∙ sym (flow-none g (base64From (waitingOf r ++ sextets s)))
-              ∙ ap (λ (m : ℕ). flowing m g (base64From (waitingOf r ++ sextets s))) (sym (z .flows));
-          most = omega (arith, z .flows);
-          count = λ k. omega (arith, z .count h);
-          short = λ k l. omega (arith, z .count h, z .flows);
-        }
-
-    pub step-full : {m : ℕ} → 4 ≤ g .count → m ≡ fullSize g → Steps g b (record { count = 1; a = x; b = 0; c = 0; d = 0; flows = m })
-    unfolding waitingOf waits base64From
-    step-full {m} h p =
-        record {
-          is = λ k s.
-              let e : g .count ≡ 4 = omega arith in
-              joined s
-              ∙ ap (λ (u : List Sextet). base64From (u ++ (sextetOf x ∷ sextets s))) (counted g 4 e)
-              ∙ full-is g (base64From (sextetOf x ∷ sextets s))
-              ∙ ap (λ (z : ℕ). flowing z g (base64From (sextetOf x ∷ sextets s))) (sym p);
-          most = omega (arith, full-most g);
-          count = λ k. omega arith;
-          short = λ k l. omega arith;
-        }
-
-pub ruleset base64-step-ways = (step-blank, step-push, step-full)
 
 -- BYTES OF A GROUP, WRITTEN
 
@@ -472,7 +374,7 @@ take-three (suc zero) x y z h = absurd (omega arith)
 take-three (suc (suc zero)) x y z h = absurd (omega arith)
 take-three (suc (suc (suc n))) x y z h = ap (λ (u : List ℕ). x ∷ y ∷ z ∷ u) (take-none n)
 
-length-some : (n : ℕ) (g : Group) → n ≤ 3 → length (take n (base64Bytes g)) ≡ n
+pub length-some : (n : ℕ) (g : Group) → n ≤ 3 → length (take n (base64Bytes g)) ≡ n
 unfolding base64Bytes
 length-some zero g h = refl
 length-some (suc zero) g h = refl
@@ -502,158 +404,10 @@ module _ {b b₁ : List ℕ} {p p₁ v₁ : ℕ} (n : ℕ) (g : Group) (e₁ : v
 
 pub ruleset bytes-ways = (bytes-none, bytes-one, bytes-two, bytes-three)
 
--- THE LOOPS: `done` is made up to i
-
-pub record GroupRun (s : List ℕ) (at end i : ℕ) (g : Group) (done : List ℕ) : Type 0 where
-  pub from : at ≤ i
-  pub left : base64Content (take (end - at) (drop at s)) ≡ after done (base64From (waitingOf g ++ sextets (take (end - i) (drop i s))))
-  pub count : g .count ≤ 4
-  pub short : length done + g .count ≤ i - at
-
-run-start : (s : List ℕ) (at end : ℕ) {g : Group} → g ≡ record { count = 0; a = 0; b = 0; c = 0; d = 0; flows = 0 } → GroupRun s at end at g []
-unfolding base64Content waitingOf waits
-run-start s at end e =
-    subst⁻¹ (λ (g : Group). GroupRun s at end at g []) e
-    (record { from = omega arith; left = sym (after-nil (base64From (sextets (take (end - at) (drop at s))))); count = omega arith; short = omega arith })
-
-flow-bad : (n : ℕ) (g : Group) (c : Content) → 3 < n → flowing n g c ≡ bad
+pub flow-bad : (n : ℕ) (g : Group) (c : Content) → 3 < n → flowing n g c ≡ bad
 unfolding flowing
 flow-bad n g c h = rw (lt-ltb 3 n h, flowing)
 
-flow-on : (n : ℕ) (g : Group) (c : Content) → n ≤ 3 → flowing n g c ≡ after (take n (base64Bytes g)) c
+pub flow-on : (n : ℕ) (g : Group) (c : Content) → n ≤ 3 → flowing n g c ≡ after (take n (base64Bytes g)) c
 unfolding flowing
 flow-on n g c h = rw (le-ltb 3 n h, flowing)
-
-module _ {s : List ℕ} {at end i stop : ℕ} {g : Group} {done : List ℕ} (inv : GroupRun s at end i g done) (es : stop ≡ min end (length s)) where
-  module _ {r : Group} (l : i < stop) (x : Steps g (getD s i 0) r) where
-    abbrev rest : Content
-    rest = base64From (waitingOf r ++ sextets (take (end - (i + 1)) (drop (i + 1) s)))
-
-    run-here : base64Content (take (end - at) (drop at s)) ≡ after done (flowing (r .flows) g rest)
-    run-here =
-        let l′ : i < min end (length s) = omega arith in
-        inv .left
-        ∙ ap (λ (u : List ℕ). after done (base64From (waitingOf g ++ sextets u))) (front-part s i end l′)
-        ∙ ap (after done) (x .is (inv .count) (take (end - (i + 1)) (drop (i + 1) s)))
-
-    run-wrong : 3 < r .flows → base64Content (take (end - at) (drop at s)) ≡ bad
-    unfolding after
-    run-wrong h = run-here ∙ ap (after done) (flow-bad (r .flows) g rest h)
-
-    run-on : r .flows ≤ 3 → GroupRun s at end (i + 1) r (done ++ take (r .flows) (base64Bytes g))
-    run-on h =
-        let e = length-append done (take (r .flows) (base64Bytes g)) in
-        let e₂ = length-some (r .flows) g h in
-        record {
-          from = omega (arith, inv .from);
-          left = run-here ∙ ap (after done) (flow-on (r .flows) g rest h) ∙ after-after done (take (r .flows) (base64Bytes g)) rest;
-          count = x .count (inv .count);
-          short = omega (arith, inv .short, inv .from, x .short (inv .count) h);
-        }
-
-  module _ {n : ℕ} (l : stop ≤ i) (x : Last g n) where
-    run-end : base64Content (take (end - at) (drop at s)) ≡ after done (flowing n g (standsFor []))
-    unfolding sextets
-    run-end =
-        let l′ : min end (length s) ≤ i = omega arith in
-        inv .left
-        ∙ ap (λ (u : List ℕ). after done (base64From (waitingOf g ++ sextets u))) (part-end s i end l′)
-        ∙ ap (λ (u : List Sextet). after done (base64From u)) (append-nil (waitingOf g))
-        ∙ ap (after done) (x .is (inv .count))
-
-    run-none : 3 < n → base64Content (take (end - at) (drop at s)) ≡ bad
-    unfolding after
-    run-none h = run-end ∙ ap (after done) (flow-bad n g (standsFor []) h)
-
-    run-whole : n ≤ 3 → base64Content (take (end - at) (drop at s)) ≡ standsFor (done ++ take n (base64Bytes g))
-    unfolding after
-    run-whole h =
-        run-end
-        ∙ ap (after done) (flow-on n g (standsFor []) h)
-        ∙ ap (λ (u : List ℕ). standsFor (done ++ u)) (append-nil (take n (base64Bytes g)))
-
--- counting
-pub record GroupScan (s : List ℕ) (at end stop i size : ℕ) (g : Group) : Type 0 where
-  pub done : List ℕ
-  pub run : GroupRun s at end i g done
-  pub stops : stop ≡ min end (length s)
-  pub sized : size ≡ length done
-  pub inside : size ≤ length s
-
-pub group-start : {s : List ℕ} {at end stop : ℕ} {g : Group} → stop ≡ min end (length s) → g ≡ record { count = 0; a = 0; b = 0; c = 0; d = 0; flows = 0 } → GroupScan s at end stop at 0 g
-group-start {s} {at} {end} e p = record { done = []; run = run-start s at end p; stops = e; sized = refl; inside = omega arith }
-
-module _ {s : List ℕ} {at end stop i size : ℕ} {g : Group} (inv : GroupScan s at end stop i size g) where
-  module _ {r : Group} (l : i < stop) (x : Steps g (getD s i 0) r) where
-    pub group-wrong : 3 < r .flows → Decodes (record { good = false; next = end; size = 0 }) (base64Content (take (end - at) (drop at s)))
-    unfolding decodedBy
-    group-wrong h = decodes bad (run-wrong (inv .run) (inv .stops) l x h) refl
-
-    pub group-on : r .flows ≤ 3 → GroupScan s at end stop (i + 1) (size + r .flows) r
-    group-on h =
-        let y = run-on (inv .run) (inv .stops) l x h in
-        let e = length-append (inv .done) (take (r .flows) (base64Bytes g)) in
-        let e₂ = length-some (r .flows) g h in
-        record {
-          done = inv .done ++ take (r .flows) (base64Bytes g);
-          run = y;
-          stops = inv .stops;
-          sized = omega (arith, inv .sized);
-          inside = omega (arith, inv .sized, inv .stops, y .short);
-        }
-
-  module _ {n : ℕ} (l : stop ≤ i) (x : Last g n) where
-    pub group-none : 3 < n → Decodes (record { good = false; next = end; size = 0 }) (base64Content (take (end - at) (drop at s)))
-    unfolding decodedBy
-    group-none h = decodes bad (run-none (inv .run) (inv .stops) l x h) refl
-
-    pub group-end : n ≤ 3 → Decodes (record { good = true; next = end; size = size + n }) (base64Content (take (end - at) (drop at s)))
-    unfolding decodedBy
-    group-end h =
-        let e : size + n ≡ length (inv .done ++ take n (base64Bytes g)) = omega (arith, inv .sized, length-append (inv .done) (take n (base64Bytes g)), length-some n g h) in
-        decodes (standsFor (inv .done ++ take n (base64Bytes g))) (run-whole (inv .run) (inv .stops) l x h) (refl, e)
-
--- writing
-pub record GroupPut (s b : List ℕ) (at end pos stop i p : ℕ) (g : Group) (b′ : List ℕ) : Type 0 where
-  pub done : List ℕ
-  pub run : GroupRun s at end i g done
-  pub stops : stop ≡ min end (length s)
-  pub wrote : Put b b′ pos p done
-  pub same : length b′ ≡ length b
-
-pub group-put-start : {s : List ℕ} {at end stop : ℕ} {g : Group} (b : List ℕ) (pos : ℕ) → stop ≡ min end (length s)
-    → g ≡ record { count = 0; a = 0; b = 0; c = 0; d = 0; flows = 0 } → GroupPut s b at end pos stop at pos g b
-group-put-start {s} {at} {end} b pos e q = record { done = []; run = run-start s at end q; stops = e; wrote = put-none b pos; same = refl }
-
-module _ {s b b′ : List ℕ} {at end pos stop i p : ℕ} {g : Group} (inv : GroupPut s b at end pos stop i p g b′) where
-  module _ {r : Group} (l : i < stop) (x : Steps g (getD s i 0) r) where
-    pub group-put-wrong : 3 < r .flows → Fills b b′ pos (base64Content (take (end - at) (drop at s)))
-    group-put-wrong h =
-        let f = run-wrong (inv .run) (inv .stops) l x h in
-        record { same = inv .same; is = λ c q. let w : _≡_ {A = ℕ} 0 1 = cc in absurd (omega arith) }
-
-    pub group-put-on : {b″ : List ℕ} {p′ : ℕ} → r .flows ≤ 3 → Put b′ b″ p p′ (take (r .flows) (base64Bytes g)) → GroupPut s b at end pos stop (i + 1) p′ r b″
-    group-put-on h y =
-        let w = put-more (inv .wrote) y in
-        record { done = inv .done ++ take (r .flows) (base64Bytes g); run = run-on (inv .run) (inv .stops) l x h; stops = inv .stops; wrote = w; same = w .same }
-
-  module _ {n : ℕ} (l : stop ≤ i) (x : Last g n) where
-    pub group-put-end : {b″ : List ℕ} {p′ : ℕ} → Put b′ b″ p p′ (take n (base64Bytes g)) → Fills b b″ pos (base64Content (take (end - at) (drop at s)))
-    group-put-end {b″} {p′} y = go (leb n 3) refl
-      where
-        w : Put b b″ pos p′ (inv .done ++ take n (base64Bytes g))
-        w = put-more (inv .wrote) y
-
-        go : (t : Bool) → leb n 3 ≡ t → Fills b b″ pos (base64Content (take (end - at) (drop at s)))
-        go true e =
-            let f = run-whole (inv .run) (inv .stops) l x (leb-true n 3 e) in
-            record {
-              same = w .same;
-              is = λ c q k.
-                  let d : c ≡ inv .done ++ take n (base64Bytes g) = content-is (sym q ∙ f) in
-                  let k′ : pos + length (inv .done ++ take n (base64Bytes g)) ≤ length b = rw d at k in
-                  w .is k′ ∙ ap (over b pos) (sym d);
-            }
-        go false e =
-            let f = run-none (inv .run) (inv .stops) l x (leb-false n 3 e) in
-            record { same = w .same; is = λ c q. let z : _≡_ {A = ℕ} 0 1 = cc in absurd (omega arith) }

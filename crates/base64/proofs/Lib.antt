@@ -1,1 +1,3 @@
 pub mod Base64Code
+pub mod WordCode
+pub mod LoopCode

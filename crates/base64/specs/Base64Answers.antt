@@ -4,8 +4,10 @@ use mathlib.Core.Path.{_≡_}
 use mathlib.Core.List.{List, [], _∷_, _++_}
 use mathlib.Core.Bool.{Bool, true, false, _&&_, _||_}
 use lib.Dec.{eqb, leb, ltb}
-use lib.ListN.{take}
-use Rattle.notation.specs.Literals.{Content, standsFor, bad, after, Sextet, sextet, padding, nonAlphabet, sextets, base64From}
+use lib.ListN.{take, getD}
+use Rattle.notation.specs.Classes.{blank, is}
+use Rattle.notation.specs.Literals.{Content, standsFor, bad, after, Sextet, sextet, padding, nonAlphabet, sextetAt, sextets, base64From}
+use Rattle.scanning.specs.Stands.{span}
 use Rattle.base64.specs.declared.Group.{Group}
 
 -- the number of a sextet, and the sextet of a number
@@ -21,14 +23,26 @@ sextetOf n = elim (leb n 63) [ true ↦ sextet n | false ↦ elim (eqb n 64) [ t
 unfoldable pub sign : ℕ → ℕ
 sign b = elim (eqb b 0x2b || eqb b 0x2d) [ true ↦ 62 | false ↦ elim (eqb b 0x2f || eqb b 0x5f) [ true ↦ 63 | false ↦ elim (eqb b 0x3d) [ true ↦ 64 | false ↦ 65 ] ] ]
 
--- a letter before others; 66 is a blank
-unfoldable pub lettered : ℕ → List Sextet → List Sextet
-lettered x s = elim (eqb x 66) [ true ↦ s | false ↦ sextetOf x ∷ s ]
+-- what a byte adds to a word of four letters; 2^24: it has no value
+unfoldable pub sextetWeight : ℕ → ℕ
+sextetWeight b = elim (sextetAt b) [ sextet v ↦ v | padding ↦ 0x100_0000 | nonAlphabet ↦ 0x100_0000 ]
 
-pub record Letter (b r : ℕ) : Type 0 where
-  pub is : (s : List ℕ) → sextets (b ∷ s) ≡ lettered r (sextets s)
+pub record Weighs (b r : ℕ) : Type 0 where
+  pub is : r ≡ sextetWeight b
 
--- the letters that wait
+-- the word of k bytes
+unfoldable pub wordAt : List ℕ → ℕ → ℕ → ℕ
+wordAt s at zero = 0
+wordAt s at (suc k) = wordAt s at k * 64 + sextetWeight (getD s (at + k) 0)
+
+-- nothing but blanks stands between two places
+pub record Blanks (s : List ℕ) (stop from r : ℕ) : Type 0 where
+  pub same : sextets (span from stop s) ≡ sextets (span r stop s)
+  pub ahead : from ≤ r
+  pub inside : r ≤ stop
+  pub letter : r < stop → is blank (getD s r 0) ≡ false
+
+-- the letters of a group
 unfoldable pub waits : ℕ → Sextet → Sextet → Sextet → Sextet → List Sextet
 waits zero a b c d = []
 waits (suc zero) a b c d = a ∷ []
@@ -39,13 +53,20 @@ waits (suc (suc (suc (suc k)))) a b c d = a ∷ b ∷ c ∷ d ∷ []
 unfoldable pub waitingOf : Group → List Sextet
 waitingOf g = waits (g .count) (sextetOf (g .a)) (sextetOf (g .b)) (sextetOf (g .c)) (sextetOf (g .d))
 
-pub record Pushed (g : Group) (x : ℕ) (r : Group) : Type 0 where
-  pub is : g .count < 4 → waitingOf r ≡ waitingOf g ++ (sextetOf x ∷ [])
-  pub count : g .count < 4 → r .count ≡ g .count + 1
-  pub flows : r .flows ≡ 0
+pub record Letters (s : List ℕ) (stop from : ℕ) (g : Group) : Type 0 where
+  pub is : sextets (span from stop s) ≡ waitingOf g ++ sextets (span (g .next) stop s)
+  pub few : g .count < 4 → stop ≤ g .next
+  pub most : g .count ≤ 4
+  pub ahead : from + g .count ≤ g .next
+  pub inside : g .next ≤ stop
 
 unfoldable pub allSextets : Group → Bool
 allSextets g = leb (g .a) 63 && (leb (g .b) 63 && (leb (g .c) 63 && leb (g .d) 63))
+
+-- r: the group is no four with values
+pub record IsLast (g : Group) (r : Bool) : Type 0 where
+  pub four : r ≡ false → (4 ≤ g .count) × (allSextets g ≡ true)
+  pub last : r ≡ true → 4 ≤ g .count → allSextets g ≡ false
 
 -- the bytes of a group
 unfoldable pub firstByte : Group → ℕ
@@ -64,13 +85,6 @@ base64Bytes g = firstByte g ∷ secondOf g ∷ thirdOf g ∷ []
 unfoldable pub flowing : ℕ → Group → Content → Content
 flowing n g c = elim (ltb 3 n) [ true ↦ bad | false ↦ after (take n (base64Bytes g)) c ]
 
--- a step at the byte b
-pub record Steps (g : Group) (b : ℕ) (r : Group) : Type 0 where
-  pub is : g .count ≤ 4 → (s : List ℕ) → base64From (waitingOf g ++ sextets (b ∷ s)) ≡ flowing (r .flows) g (base64From (waitingOf r ++ sextets s))
-  pub most : r .flows ≤ 4
-  pub count : g .count ≤ 4 → r .count ≤ 4
-  pub short : g .count ≤ 4 → r .flows ≤ 3 → r .flows + r .count ≤ g .count + 1
-
 unfoldable pub fullSize : Group → ℕ
 fullSize g = elim (allSextets g) [ true ↦ 3 | false ↦ 4 ]
 
@@ -83,7 +97,14 @@ lastThreeSize a b c = elim (leb a 63 && (leb b 63 && (leb c 63 && eqb (c % 4) 0)
 unfoldable pub lastFourSize : Group → ℕ
 lastFourSize g = elim (eqb (g .d) 64) [ true ↦ elim (eqb (g .c) 64) [ true ↦ lastTwoSize (g .a) (g .b) | false ↦ lastThreeSize (g .a) (g .b) (g .c) ] | false ↦ fullSize g ]
 
--- the letters that wait are the last
+-- the letters of a group are the last
 pub record Last (g : Group) (r : ℕ) : Type 0 where
   pub is : g .count ≤ 4 → base64From (waitingOf g) ≡ flowing r g (standsFor [])
   pub most : r ≤ 4
+  pub short : r ≤ 3 → g .count ≤ 4 → r ≤ g .count
+
+-- they are, or what follows makes them wrong
+pub record Ending (s : List ℕ) (stop : ℕ) (g : Group) (r : ℕ) : Type 0 where
+  pub is : g .count ≤ 4 → (g .count < 4 → stop ≤ g .next) → (4 ≤ g .count → allSextets g ≡ false)
+      → base64From (waitingOf g ++ sextets (span (g .next) stop s)) ≡ flowing r g (standsFor [])
+  pub short : r ≤ 3 → g .count ≤ 4 → r ≤ g .count

@@ -1,4 +1,7 @@
 // Base64 text: what stands between the quotes of b64'..'.
+pub mod fours;
+
+use crate::fours::put_fours;
 use literal_body::LiteralScan;
 use literal_body::is_blank;
 use literal_body::least;
@@ -7,17 +10,26 @@ ghost use mathlib.Core.Path.{_≡_};
 ghost use Prim.Native.Nat.{_-_};
 ghost use lib.ListN.{take, drop};
 ghost use Rattle.notation.specs.Literals.{sextetAt, base64Content};
-ghost use Rattle.literal_body.specs.LiteralAnswers.{Decodes, Fills, Put};
-ghost use Rattle.base64.specs.Base64Answers.{sextetNumber, sign, Letter, Pushed, allSextets, firstByte, secondOf, thirdOf, base64Bytes, Steps, Last, lastTwoSize, lastThreeSize, lastFourSize, fullSize};
+ghost use Rattle.literal_body.specs.LiteralAnswers.{Decodes, Put};
+ghost use Rattle.literal_body.specs.LiteralReading.{Within, DecodesInto};
+ghost use Rattle.base64.specs.Base64Answers.{sextetNumber, sign, Blanks, Letters, allSextets, IsLast, firstByte, secondOf, thirdOf, base64Bytes, Last, Ending, lastTwoSize, lastThreeSize, lastFourSize, fullSize};
 
-// Up to four letters that wait for the next one, and how many bytes those before them made; 4: they make none.
+// The numbers of `=` and of what is in neither alphabet, above those of the 64 letters.
+const PADDING: u8 = 64;
+
+const NO_LETTER: u8 = 65;
+
+// More bytes than letters make: they may not stand so.
+const WRONG: usize = 4;
+
+// Up to four letters, and the place behind them.
 struct Group {
     count: u8,
     a: u8,
     b: u8,
     c: u8,
     d: u8,
-    flows: usize,
+    next: usize,
 }
 
 // What is no letter and no digit.
@@ -29,8 +41,8 @@ fn sign_value(b: u8) -> u8
         0x2d => 62,
         0x2f => 63,
         0x5f => 63,
-        0x3d => 64,
-        _ => 65,
+        0x3d => PADDING,
+        _ => NO_LETTER,
     }
 }
 
@@ -58,18 +70,23 @@ fn sextet_value(b: u8) -> u8
     sign_value(b)
 }
 
-// The same, and 66 for a blank.
-fn letter(b: u8) -> u8
-    ensures { λ r. ⌜ Letter b r ⌝ }
+fn past_blanks(text: &[u8], from: usize, stop: usize) -> usize
+    requires { ⌜ Within (now text) from stop ⌝ }
+    ensures { λ r. ⌜ Blanks (now (text .entry)) stop from r ⌝ }
 {
-    if is_blank(b) {
-        return 66;
+    let mut at = from;
+    while at < stop {
+        if is_blank(text[at]) {
+            at += 1;
+        } else {
+            return at;
+        }
     }
-    sextet_value(b)
+    at
 }
 
-fn waiting(count: u8, a: u8, b: u8, c: u8, d: u8) -> Group
-    ensures { λ r. ⌜ r ≡ record { count = count; a = a; b = b; c = c; d = d; flows = 0 } ⌝ }
+fn grouped(count: u8, a: u8, b: u8, c: u8, d: u8, next: usize) -> Group
+    ensures { λ r. ⌜ r ≡ record { count = count; a = a; b = b; c = c; d = d; next = next } ⌝ }
 {
     Group {
         count,
@@ -77,21 +94,36 @@ fn waiting(count: u8, a: u8, b: u8, c: u8, d: u8) -> Group
         b,
         c,
         d,
-        flows: 0,
+        next,
     }
 }
 
-// A letter behind those that wait, if they are fewer than four.
-fn pushed(g: Group, x: u8) -> Group
-    ensures { λ r. ⌜ Pushed g x r ⌝ }
+// The next four letters, whatever blanks stand between; fewer where the text ends.
+fn letters(text: &[u8], from: usize, stop: usize) -> Group
+    requires { ⌜ Within (now text) from stop ⌝ }
+    ensures { λ r. ⌜ Letters (now (text .entry)) stop from r ⌝ }
 {
-    let count = g.count;
-    match count {
-        0 => waiting(1, x, 0, 0, 0),
-        1 => waiting(2, g.a, x, 0, 0),
-        2 => waiting(3, g.a, g.b, x, 0),
-        _ => waiting(4, g.a, g.b, g.c, x),
+    let i = past_blanks(text, from, stop);
+    if stop <= i {
+        return grouped(0, 0, 0, 0, 0, i);
     }
+    let a = sextet_value(text[i]);
+    let j = past_blanks(text, i + 1, stop);
+    if stop <= j {
+        return grouped(1, a, 0, 0, 0, j);
+    }
+    let b = sextet_value(text[j]);
+    let k = past_blanks(text, j + 1, stop);
+    if stop <= k {
+        return grouped(2, a, b, 0, 0, k);
+    }
+    let c = sextet_value(text[k]);
+    let l = past_blanks(text, k + 1, stop);
+    if stop <= l {
+        return grouped(3, a, b, c, 0, l);
+    }
+    let d = sextet_value(text[l]);
+    grouped(4, a, b, c, d, l + 1)
 }
 
 fn all_sextets(g: Group) -> bool
@@ -109,6 +141,19 @@ fn all_sextets(g: Group) -> bool
     g.d <= 63
 }
 
+// Whether letters are the last of a text or stand wrongly, being no four with values.
+fn is_last(g: Group) -> bool
+    ensures { λ r. ⌜ IsLast g r ⌝ }
+{
+    if g.count < 4 {
+        return true;
+    }
+    if all_sextets(g) {
+        return false;
+    }
+    true
+}
+
 // How many bytes four letters with others behind them make.
 fn full_size(g: Group) -> usize
     ensures { λ r. ⌜ r ≡ fullSize g ⌝ }
@@ -116,27 +161,7 @@ fn full_size(g: Group) -> usize
     if all_sextets(g) {
         return 3;
     }
-    4
-}
-
-fn base64_step(g: Group, b: u8) -> Group
-    ensures { λ r. ⌜ Steps g b r ⌝ }
-{
-    let x = letter(b);
-    if x == 66 {
-        return waiting(g.count, g.a, g.b, g.c, g.d);
-    }
-    if g.count < 4 {
-        return pushed(g, x);
-    }
-    Group {
-        count: 1,
-        a: x,
-        b: 0,
-        c: 0,
-        d: 0,
-        flows: full_size(g),
-    }
+    WRONG
 }
 
 fn first_byte(g: Group) -> u8
@@ -157,102 +182,6 @@ fn third_byte(g: Group) -> u8
     g.c % 4 * 64 + g.d % 64
 }
 
-// How many bytes two letters at the end make; 4: none may stand so.
-fn last_two(a: u8, b: u8) -> usize
-    ensures { λ r. ⌜ r ≡ lastTwoSize a b ⌝ }
-{
-    if 63 < a {
-        return 4;
-    }
-    if 63 < b {
-        return 4;
-    }
-    if b % 16 == 0 {
-        return 1;
-    }
-    4
-}
-
-fn last_three(a: u8, b: u8, c: u8) -> usize
-    ensures { λ r. ⌜ r ≡ lastThreeSize a b c ⌝ }
-{
-    if 63 < a {
-        return 4;
-    }
-    if 63 < b {
-        return 4;
-    }
-    if 63 < c {
-        return 4;
-    }
-    if c % 4 == 0 {
-        return 2;
-    }
-    4
-}
-
-// Four letters at the end, the last of them perhaps `=`.
-fn last_four(g: Group) -> usize
-    ensures { λ r. ⌜ r ≡ lastFourSize g ⌝ }
-{
-    if g.d == 64 {
-        if g.c == 64 {
-            return last_two(g.a, g.b);
-        }
-        return last_three(g.a, g.b, g.c);
-    }
-    full_size(g)
-}
-
-fn last_size(g: Group) -> usize
-    ensures { λ r. ⌜ Last g r ⌝ }
-{
-    let count = g.count;
-    match count {
-        0 => 0,
-        1 => 4,
-        2 => last_two(g.a, g.b),
-        3 => last_three(g.a, g.b, g.c),
-        _ => last_four(g),
-    }
-}
-
-// Whether the text from `at` to `end` stands for bytes, and for how many.
-pub fn scan_base64(text: &[u8], at: usize, end: usize) -> LiteralScan
-    ensures { λ r. ⌜ Decodes r (base64Content (take (end - at) (drop at (now (text .entry))))) ⌝ }
-{
-    let stop = least(end, text.len());
-    let mut i = at;
-    let mut size: usize = 0;
-    let mut g = waiting(0, 0, 0, 0, 0);
-    while i < stop {
-        let m = base64_step(g, text[i]);
-        if 3 < m.flows {
-            return LiteralScan {
-                good: false,
-                next: end,
-                size: 0,
-            };
-        }
-        size += m.flows;
-        g = m;
-        i += 1;
-    }
-    let n = last_size(g);
-    if 3 < n {
-        return LiteralScan {
-            good: false,
-            next: end,
-            size: 0,
-        };
-    }
-    LiteralScan {
-        good: true,
-        next: end,
-        size: size + n,
-    }
-}
-
 // Writes the first bytes of a group.
 fn put_bytes(out: &mut [u8], p: usize, g: Group, n: usize) -> usize
     ensures { λ r. ⌜ Put (now (out .entry)) (now (out .exit)) p r (take n (base64Bytes g)) ⌝ }
@@ -271,22 +200,121 @@ fn put_bytes(out: &mut [u8], p: usize, g: Group, n: usize) -> usize
     put(out, r, third_byte(g))
 }
 
-// Writes those bytes from `pos` on, if they all fit.
-pub fn put_base64(text: &[u8], at: usize, end: usize, out: &mut [u8], pos: usize)
-    ensures { λ _. ⌜ Fills (now (out .entry)) (now (out .exit)) pos (base64Content (take (end - at) (drop at (now (text .entry))))) ⌝ }
+// How many bytes two letters at the end make.
+fn last_two(a: u8, b: u8) -> usize
+    ensures { λ r. ⌜ r ≡ lastTwoSize a b ⌝ }
+{
+    if 63 < a {
+        return WRONG;
+    }
+    if 63 < b {
+        return WRONG;
+    }
+    if b % 16 == 0 {
+        return 1;
+    }
+    WRONG
+}
+
+fn last_three(a: u8, b: u8, c: u8) -> usize
+    ensures { λ r. ⌜ r ≡ lastThreeSize a b c ⌝ }
+{
+    if 63 < a {
+        return WRONG;
+    }
+    if 63 < b {
+        return WRONG;
+    }
+    if 63 < c {
+        return WRONG;
+    }
+    if c % 4 == 0 {
+        return 2;
+    }
+    WRONG
+}
+
+// Four letters at the end, the last of them perhaps `=`.
+fn last_four(g: Group) -> usize
+    ensures { λ r. ⌜ r ≡ lastFourSize g ⌝ }
+{
+    if g.d == PADDING {
+        if g.c == PADDING {
+            return last_two(g.a, g.b);
+        }
+        return last_three(g.a, g.b, g.c);
+    }
+    full_size(g)
+}
+
+fn last_size(g: Group) -> usize
+    ensures { λ r. ⌜ Last g r ⌝ }
+{
+    let count = g.count;
+    match count {
+        0 => 0,
+        1 => WRONG,
+        2 => last_two(g.a, g.b),
+        3 => last_three(g.a, g.b, g.c),
+        _ => last_four(g),
+    }
+}
+
+// How many bytes the last letters make, if only blanks follow them.
+fn ending_size(text: &[u8], g: Group, stop: usize) -> usize
+    requires { ⌜ Within (now text) (g .next) stop ⌝ }
+    ensures { λ r. ⌜ Ending (now (text .entry)) stop g r ⌝ }
+{
+    if past_blanks(text, g.next, stop) < stop {
+        return WRONG;
+    }
+    last_size(g)
+}
+
+// Whether the text from `at` to `end` stands for bytes, and for how many; these are written from `pos` on, if they all fit.
+pub fn read_base64(text: &[u8], at: usize, end: usize, out: &mut [u8], pos: usize) -> LiteralScan
+    ensures { λ r. ⌜ DecodesInto (now (out .entry)) (now (out .exit)) pos r (base64Content (take (end - at) (drop at (now (text .entry))))) ⌝ }
 {
     let stop = least(end, text.len());
     let mut i = at;
     let mut p = pos;
-    let mut g = waiting(0, 0, 0, 0, 0);
+    let mut size: usize = 0;
     while i < stop {
-        let m = base64_step(g, text[i]);
-        if 3 < m.flows {
-            return;
+        let run = put_fours(text, i, stop, out, p);
+        size += run.size;
+        let g = letters(text, run.next, stop);
+        if is_last(g) {
+            let n = ending_size(text, g, stop);
+            if WRONG <= n {
+                return LiteralScan {
+                    good: false,
+                    next: end,
+                    size: 0,
+                };
+            }
+            size += n;
+            put_bytes(out, run.pos, g, n);
+            return LiteralScan {
+                good: true,
+                next: end,
+                size,
+            };
         }
-        p = put_bytes(out, p, g, m.flows);
-        g = m;
-        i += 1;
+        p = put_bytes(out, run.pos, g, 3);
+        size += 3;
+        i = g.next;
     }
-    put_bytes(out, p, g, last_size(g));
+    LiteralScan {
+        good: true,
+        next: end,
+        size,
+    }
+}
+
+// The same, and nothing is written.
+pub fn scan_base64(text: &[u8], at: usize, end: usize) -> LiteralScan
+    ensures { λ r. ⌜ Decodes r (base64Content (take (end - at) (drop at (now (text .entry))))) ⌝ }
+{
+    let mut none = [0u8; 1];
+    read_base64(text, at, end, &mut none, 1)
 }

@@ -23,7 +23,8 @@ use Rattle.cbor.proofs.Results.{refused-not-accepted}
 use Rattle.cbor.proofs.Paths.{part-at-path}
 use Rattle.notation.specs.Reading.{single, readItem}
 use Rattle.notation.specs.Alone.{plus}
-use Rattle.encoding.specs.ReadAnswers.{ReadTold, ofItem}
+use Rattle.encoding.specs.ReadAnswers.{Wrote, ReadTold, ofItem}
+use Rattle.encoding.proofs.Wrote.{wrote-held}
 use Rattle.one_item.proofs.ReadOne.{one-accepted, one-denied}
 use Rattle.encoding.specs.declared.answer.MadeItem.{MadeItem as MadeS}
 use Rattle.encoding.specs.declared.answer.ReadAnswer.{ReadAnswer}
@@ -44,7 +45,7 @@ use Rattle.looking.specs.declared.Part.{Part}
 use Rattle.planning.specs.declared.Plan.{Plan}
 use Rattle.planning.specs.declared.Decision.{Decision}
 use Rattle.planning.specs.declared.Decision.the-variants.{Replace, Refused}
-use Rattle.operations.proofs.Verdicts.{and-then-ok, and-then-is, and-then-refused, front-all}
+use Rattle.operations.proofs.Verdicts.{and-then-ok, and-then-is, and-then-refused}
 use Rattle.text_check.proofs.Texts.{passes, fails, passed-short}
 use Rattle.operations.proofs.Demands.{itemsOf-ok}
 use Rattle.planning.proofs.Putting.{whole-length}
@@ -52,6 +53,9 @@ use Rattle.planning.proofs.Putting.{whole-length}
 -- THE NEW ITEM
 newly : (s : List ℕ) (levels : ℕ) (item : List ℕ) (a : ReadAnswer) (v : Verdict Item) → readItem levels s ≡ v → NewRead item a v → Newly s levels item a
 newly s levels item a v e n = record { read = rw e n }
+
+stands : {b b′ ws : List ℕ} {n : ℕ} → n ≡ length ws → Wrote b b′ 0 ws → n ≤ length b → take n b′ ≡ ws
+stands {b} {b′} {ws} {n} e w f = let g : length ws ≤ length b = omega arith in rw e (wrote-held w g)
 
 module _ (s : List ℕ) {t : Text} (h : textTold t ≡ passing s) where
   pub new-short : t ≡ Good → length s ≤ 65535
@@ -71,13 +75,10 @@ module _ (s : List ℕ) {t : Text} (h : textTold t ≡ passing s) where
       passed : readItem levels s ≡ verdictOf (length s) (single levels s)
       passed = passes s (verdictOf (length s) (single levels s)) (sym h ∙ rw i)
 
-      held-of : {n : ℕ} (y : Item) → n ≡ length (encode y) → item′ ≡ over item 0 (encode y) → take n item′ ≡ encode y
-      held-of y e f = rw (e, f) (front-all item (encode y))
-
       go : (a : ReadAnswer) → ReadTold ofItem s item item′ most 0 a (plus (single levels s)) → Newly s levels item′ a
       go (ReadMade m) x =
           let o = one-accepted levels (ReadMade m) x refl in
-          let w : m .size ≤ mostBytes → take (m .size) item′ ≡ encode (o .item) = λ n. held-of (o .item) (o .size) (o .wrote .is (omega (arith, o .size))) in
+          let w : m .size ≤ mostBytes → take (m .size) item′ ≡ encode (o .item) = λ n. stands (o .size) (o .wrote) (omega (arith, n, l)) in
           newly s levels item′ (ReadMade m) _ (passed ∙ o .is) (m, refl, record { sized = o .size; held = w }, o .wrote .same ∙ l)
       go (ReadRefused e) x = newly s levels item′ (ReadRefused e) _ (passed ∙ one-denied levels (ReadRefused e) x refl) (e, refl, refl, refl)
 

@@ -1,4 +1,5 @@
 pub mod ReadRules
+pub mod Wrote
 pub mod ReadSmall
 pub mod ReadTokens
 pub mod ReadWriting

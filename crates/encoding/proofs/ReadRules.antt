@@ -8,14 +8,13 @@ use native.Mathlib.Omega.{arith}
 use lib.Dec.{leb, eqb}
 use borrow.Author.Tests.{eq-eqb, ne-eqb}
 use Rattle.cbor.specs.Refusals.{Result, ok, refuse, bind}
-use Rattle.cbor.specs.Items.{unsigned, negative, byteString, textString, Item, int, string, chunked, array, map, tag, simple, none, more, Pairs, none₂, more₂}
+use Rattle.cbor.specs.Items.{unsigned, negative, byteString, textString, Item, int, string, chunked, array, map, tag, simple, none, more, none₂}
 use Rattle.notation.specs.Indicators.{Indicator, absent}
 use Rattle.notation.specs.Tokens.{bracket, brace, tagging, embedding, Beginning, leaf, literal, chunking, opens, Shape, square, curly, round, angle, whole, Token, begins, closes, aComma, aColon}
 use Rattle.notation.specs.Cutting.{next, place}
 use Rattle.notation.specs.Form.{atStart, behindComma, only, one, items, pairs, Closed, Rule, give, take, then, stray, strays, shapeNumber, closingRule, beginning, oneRule, addItem, afterItem, itemsRule, afterValue, afterKey, pairsRule, rules, obey, reads}
 use Rattle.token.specs.TokenAnswers.{itemCode, openCode, kindCode, beginCode, shapeCode, codeOf}
-use Rattle.encoding.specs.ReadAnswers.{followBy, followed, entryRead}
-use Rattle.cbor.specs.Decode.{Entry}
+use Rattle.encoding.specs.ReadAnswers.{followBy}
 use Rattle.notation.proofs.ByName.{bind-ok, bind-refuse, reads-is}
 use Rattle.notation.proofs.Equations.{bind-same, bind-assoc, first-is, obey-if}
 
@@ -67,6 +66,31 @@ shape-low curly = omega arith
 shape-low round = omega arith
 shape-low angle = omega arith
 shape-low whole = omega arith
+
+item-some : (x : Item) → 1 ≤ itemCode x
+unfolding itemCode
+item-some (int unsigned w n) = omega arith
+item-some (int negative w n) = omega arith
+item-some (string k w b) = omega arith
+item-some (chunked k cs) = omega arith
+item-some (array z xs) = omega arith
+item-some (map z ps) = omega arith
+item-some (tag w n x) = omega arith
+item-some (simple n) = omega arith
+
+pub code-some : (tok : Token) → 1 ≤ codeOf tok
+unfolding codeOf beginCode kindCode openCode
+code-some (begins (leaf x)) = item-some x
+code-some (begins (literal byteString z b)) = omega arith
+code-some (begins (literal textString z b)) = omega arith
+code-some (begins chunking) = omega arith
+code-some (begins (opens (bracket i))) = omega arith
+code-some (begins (opens (brace i))) = omega arith
+code-some (begins (opens (tagging w n))) = omega arith
+code-some (begins (opens embedding)) = omega arith
+code-some (closes h i) = omega (arith, shape-low h)
+code-some aComma = omega arith
+code-some aColon = omega arith
 
 numberBy : ℕ → ℕ
 numberBy c = elim (eqb c 16) [ true ↦ 0 | false ↦ elim (eqb c 18) [ true ↦ 1 | false ↦ elim (eqb c 14) [ true ↦ 2 | false ↦ elim (eqb c 20) [ true ↦ 3 | false ↦ 4 ] ] ] ]
@@ -208,13 +232,6 @@ pub items-start : (h : Shape) (d : ℕ) (s : List ℕ) → ((tok : Token) (r : L
 unfolding rules
 items-start h d s n = reads-is (items h atStart d) s ∙ start-same h (next s) _ _ n (λ tok r c. items-by h d tok (place s) r c) ∙ sym (reads-is (items h behindComma d) s)
 
--- PAIRS
-unfoldable pub addPair : Entry → Pairs → Pairs
-addPair e ps = more₂ (e .key) (e .value) ps
-
-unfoldable pub lastPair : Entry → Indicator → Pairs
-lastPair e i = more₂ (e .key) (e .value) none₂
-
 -- an item, and behind it the token of a code
 pub follow-yes : (code d : ℕ) (x : Item) (tok : Token) (p : ℕ) (r : List ℕ) → codeOf tok ≡ code → followBy code d x tok p r ≡ ok x r
 unfolding followBy
@@ -224,33 +241,10 @@ pub follow-no : (code d : ℕ) (x : Item) (tok : Token) (p : ℕ) (r : List ℕ)
 unfolding followBy
 follow-no code d x tok p r n = rw (ne-eqb (codeOf tok) code n, followBy)
 
-value-step : (d : ℕ) (k x : Item) (u : Token) (p q : ℕ) (r : List ℕ) → obey reads (afterValue d k x u) p q r ≡ step (reads (pairs behindComma d)) addPair lastPair d curly (record { key = k; value = x }) u q r
-unfolding obey afterValue step strays closingRule addPair lastPair
-value-step d k x (begins g) p q r = refl
-value-step d k x (closes h′ i) p q r = obey-if (eqb (shapeNumber curly) (shapeNumber h′)) (give (more₂ k x none₂)) (strays d (closes h′ i)) p q r
-value-step d k x aComma p q r = refl
-value-step d k x aColon p q r = refl
-
--- behind a key: the colon, the value, and what stands behind that
-abbrev Rest : ℕ → Item → List ℕ → Result Pairs
-Rest d k r = bind (reads (one d) r) (λ x r′. bind (next r′) (λ u r″. step (reads (pairs behindComma d)) addPair lastPair d curly (record { key = k; value = x }) u (place r′) r″))
-
-key-step : (d : ℕ) (k : Item) (u : Token) (p q : ℕ) (r : List ℕ) → obey reads (afterKey d k u) p q r ≡ bind (followBy 12 d k u q r) (λ k r. Rest d k r)
-unfolding obey afterKey strays codeOf bind opensBy
-key-step d k (begins g) p q r = sym (bind-refuse _ (follow-no 12 d k (begins g) q r (λ e. begin-not g 12 refl e)))
-key-step d k (closes h i) p q r = sym (bind-refuse _ (follow-no 12 d k (closes h i) q r (λ e. absurd (omega (arith, shape-low h)))))
-key-step d k aComma p q r = sym (bind-refuse _ (follow-no 12 d k aComma q r (λ e. absurd (omega arith))))
-key-step d k aColon p q r =
-    bind-same (reads (one d) r) _ _ (λ x r′ e. bind-same (next r′) _ _ (λ u r″ e′. value-step d k x u p (place r′) r″)) ∙ sym (bind-ok _ (follow-yes 12 d k aColon q r refl))
-
-pub pairs-more : (d : ℕ) (s : List ℕ) → reads (pairs behindComma d) s ≡ bind (entryRead d s) (λ e r. bind (next r) (λ u r′. step (reads (pairs behindComma d)) addPair lastPair d curly e u (place r) r′))
-unfolding rules pairsRule entryRead followed bind
-pairs-more d s =
-    reads-is (pairs behindComma d) s ∙ after-one (pairsRule behindComma d) (afterKey d) d (λ g. refl) (λ h′ i. refl) refl refl s
-    ∙ bind-same (reads (one d) s) _ _ (λ k r e. bind-same (next r) _ _ (λ u r′ e′. key-step d k u (place s) (place r) r′) ∙ sym (bind-assoc (next r) _ _))
-    ∙ sym (bind-assoc (reads (one d) s) _ _)
-    ∙ bind-same (followed 12 d s) _ _ (λ k r e. sym (bind-assoc (reads (one d) r) _ _))
-    ∙ sym (bind-assoc (followed 12 d s) _ _)
+-- PAIRS: a key, and what the token behind it decides
+pub pairs-more : (d : ℕ) (s : List ℕ) → reads (pairs behindComma d) s ≡ bind (reads (one d) s) (λ k r. bind (next r) (λ u r′. obey reads (afterKey d k u) (place s) (place r) r′))
+unfolding rules pairsRule
+pairs-more d s = reads-is (pairs behindComma d) s ∙ after-one (pairsRule behindComma d) (afterKey d) d (λ g. refl) (λ h′ i. refl) refl refl s
 
 pub pairs-end : (d : ℕ) (s r : List ℕ) (tok : Token) → next s ≡ ok tok r → codeOf tok ≡ shapeCode curly → reads (pairs atStart d) s ≡ ok none₂ r
 unfolding rules pairsRule codeOf

@@ -10,18 +10,17 @@ use lib.ListN.{length}
 use mir.Syntax.{w8 as bits8, w64 as bits64}
 use mir.Val.{Fits}
 use borrow.Author.Tests.{le-leb, lt-leb, eq-eqb, ne-eqb}
-use Rattle.cbor.specs.Refusals.{badIndicator, badTypedArray}
-use Rattle.cbor.specs.Widths.{w0, w1, w2, w4, w8, limit, fits, shortest, information}
-use Rattle.typed_array.specs.TypedArrayAnswers.{mayTagBy}
+use Rattle.cbor.specs.Refusals.{badIndicator}
+use Rattle.cbor.specs.Widths.{w0, w1, w2, w4, w8, limit, fits, shortest, information, bigEndian}
 use Rattle.refusal.specs.RefusalKinds.{kindNumber, Kinded}
-use Rattle.memory.specs.Buffer.{headPut}
+use Rattle.memory.specs.Buffer.{overIfFits, headPut}
 use Rattle.head.specs.HeadAnswers.{argumentSize, headBytes}
-use Rattle.refusal.specs.declared.Refusal.{Refusal}
 use Rattle.refusal.specs.declared.RefusalKind.{RefusalKind}
 use Rattle.cbor.proofs.Arguments.{length-big}
-use Rattle.encoding.specs.ReadAnswers.{infoBy, Informed, majorBy, initialBy, MajorBy, HeadSize, strayBy, mayTagNoted, noteBy, Light, Heavy, Strayed, Denies, Finished, TagMade, joinedAs}
+use Rattle.numbers.specs.NumberAnswers.{chooseBy}
+use Rattle.encoding.specs.ReadAnswers.{infoBy, Informed, majorBy, initialBy, MajorBy, HeadSize, strayBy, Heavy, Strayed, Denies, Closes, Finished}
 use Rattle.token.specs.declared.Token.{Token as Cut}
-use Rattle.encoding.specs.declared.answer.MadeItem.{MadeItem as MadeS}
+use Rattle.encoding.proofs.Wrote.{wrote-front, wrote-closed}
 use Rattle.encoding.specs.declared.answer.ReadAnswer.{ReadAnswer}
 use Rattle.encoding.specs.declared.answer.ReadAnswer.the-variants.{Made, Refused}
 
@@ -54,7 +53,7 @@ module _ {c : ℕ} where
 pub ruleset major-ways = (major-1, major-2, major-3, major-4, major-5, major-6)
 
 -- ADDITIONAL INFORMATION
-short-most : (n : ℕ) → information (shortest n) n ≤ 27
+pub short-most : (n : ℕ) → information (shortest n) n ≤ 27
 unfolding shortest fits limit information
 short-most n = go (leb n 23) refl (leb n 0xff) (leb n 0xffff) (leb n 0xffff_ffff)
   where
@@ -136,34 +135,6 @@ pub initial-is : {major info : ℕ} (t : Cut) → MajorBy (t .code) major → In
 unfolding initialBy
 initial-is t a b = rw (a .is, b .is)
 
--- NOTES
-module _ (k n : ℕ) where
-  pub note-text : k ≡ 4 → 0 ≡ noteBy k n
-  unfolding noteBy
-  note-text e = rw e
-
-  pub note-bytes : (k ≡ 4 → ⊥) → n + 1 ≡ noteBy k n
-  unfolding noteBy
-  note-bytes m = simp (noteBy, ne-eqb k 4 m) (omega arith)
-
-pub ruleset note-ways = (note-text, note-bytes)
-
-pub light-more : {n : ℕ} → Light n → Fits bits64 (n + 1)
-light-more l = record { fits = omega (arith, l .fits) }
-
--- TYPED ARRAYS
-module _ (n : ℕ) {r : Bool} where
-  pub may-none : (note : ℕ) → note ≡ 0 → r ≡ mayTagBy n false 0 → r ≡ mayTagNoted n note
-  unfolding mayTagNoted
-  may-none note e f = rw e f
-
-  pub may-some : (note : ℕ) → (note ≡ 0 → ⊥) → r ≡ mayTagBy n true (note - 1) → r ≡ mayTagNoted n note
-  unfolding mayTagNoted
-  may-some zero z f = absurd (z refl)
-  may-some (suc l) z f = let e : suc l - 1 ≡ l = omega arith in rw e at f
-
-pub ruleset may-ways = (may-none, may-some)
-
 -- REFUSALS AND ANSWERS
 pub denies-is : {k : RefusalKind} {at : ℕ} → Denies (kindNumber k) at (Refused (record { kind = k; place = at }))
 denies-is {k} {at} = record { refusal = record { kind = k; place = at }; is = refl; number = refl; place = refl }
@@ -218,19 +189,39 @@ module _ (d code mark : ℕ) where
 
 pub ruleset stray-ways = (stray-none, stray-angle-1, stray-angle-2, stray-angle, stray-plain, stray-6, stray-15, stray-17, stray-19, stray-rest)
 
--- containers
-module _ {b : List ℕ} {pos major width n : ℕ} {m : MadeS} {place note : ℕ} {a : ReadAnswer} where
-  pub finish-none : width ≡ 0 → Denies badIndicator place a → Finished b b pos major width n m place note a
-  finish-none e f = record { refused = λ z. f; made = λ k. absurd (k e); closed = λ k. absurd (k e) }
+-- CONTAINERS
+pub one-byte : (i n : ℕ) → length (headBytes i n) ≡ 1 → headBytes i n ≡ i ∷ []
+unfolding headBytes
+one-byte i n e = ap (λ (l : List ℕ). i ∷ l) (nothing (bigEndian (argumentSize (i % 32)) n) (omega arith))
+  where
+    nothing : (l : List ℕ) → length l ≡ 0 → l ≡ []
+    nothing [] z = refl
+    nothing (x ∷ l) z = absurd (omega arith)
 
-  pub finish-done : {b′ : List ℕ} {info size : ℕ} → (width ≡ 0 → ⊥) → Informed width n info → HeadSize (major * 32 + info) size → b′ ≡ headPut b pos (headBytes (major * 32 + info) n) (m .size)
-      → a ≡ Made (record { next = m .next; size = size + m .size; count = 1; note = note }) → Finished b b′ pos major width n m place note a
-  finish-done {b′} {info} {size} k i h e f =
-      let q : size ≡ length (headBytes (major * 32 + infoBy width n) n) = h .is n ∙ ap (λ (x : ℕ). length (headBytes (major * 32 + x) n)) (i .is) in
+module _ {b b′ : List ℕ} {pos first size r : ℕ} (n : ℕ) (h : HeadSize first r) where
+  pub before-short : r ≡ 1 → b′ ≡ overIfFits b pos (first ∷ []) → Closes b b′ pos (headBytes first n) size 1
+  before-short e f =
+      let l : length (headBytes first n) ≡ 1 = sym (h .is n) ∙ e in
+      record { is = λ b₀ ws w z. rw (one-byte first n l) (wrote-front w f); sized = sym l }
+
+  pub before-long : b′ ≡ headPut b pos (headBytes first n) size → Closes b b′ pos (headBytes first n) size r
+  before-long f = record { is = λ b₀ ws w z. wrote-closed (headBytes first n) (head-some first n) w z f; sized = h .is n }
+
+pub ruleset before-ways = (before-short, before-long)
+
+module _ {b : List ℕ} {pos major indicator n next size place width : ℕ} {binary : Bool} {length′ : ℕ} {a : ReadAnswer} (c : width ≡ chooseBy indicator n) where
+  pub finish-none : width ≡ 0 → Denies badIndicator place a → Finished b b pos major indicator n next size place binary length′ a
+  finish-none e f = record { refused = λ z. f; made = λ k. absurd (k (sym c ∙ e)); closed = λ k. absurd (k (sym c ∙ e)) }
+
+  pub finish-done : {b′ : List ℕ} {info head : ℕ} → (width ≡ 0 → ⊥) → Informed width n info → Closes b b′ pos (headBytes (major * 32 + info) n) size head
+      → a ≡ Made (record { next = next; size = head + size; count = 1; indicator = 0; binary = binary; length = length′ }) → Finished b b′ pos major indicator n next size place binary length′ a
+  finish-done {b′} {info} {head} k i h f =
+      let j : info ≡ infoBy (chooseBy indicator n) n = i .is ∙ ap (λ (w : ℕ). infoBy w n) c in
+      let q : head ≡ length (headBytes (major * 32 + infoBy (chooseBy indicator n) n) n) = h .sized ∙ ap (λ (x : ℕ). length (headBytes (major * 32 + x) n)) j in
       record {
-        refused = λ z. absurd (k z);
-        made = λ z. f ∙ ap (λ (x : ℕ). Made (record { next = m .next; size = x + m .size; count = 1; note = note })) q;
-        closed = λ z. e ∙ ap (λ (x : ℕ). headPut b pos (headBytes (major * 32 + x) n) (m .size)) (i .is);
+        refused = λ z. absurd (k (c ∙ z));
+        made = λ z. f ∙ ap (λ (x : ℕ). Made (record { next = next; size = x + size; count = 1; indicator = 0; binary = binary; length = length′ })) q;
+        closed = λ z b₀ ws w e. rw j at (h .is b₀ ws w e);
       }
 
 pub ruleset finish-ways = (finish-none, finish-done)
@@ -241,28 +232,5 @@ finish-first h i = record { fits = omega (arith, h .most, i .most) }
 pub heavy-mul : {major size : ℕ} → Heavy major size → Fits bits8 (major * 32)
 heavy-mul h = record { fits = omega (arith, h .most) }
 
-pub finish-size : {major size i r : ℕ} → Heavy major size → HeadSize i r → Fits bits64 (r + size)
-finish-size h s = record { fits = omega (arith, h .fits, s .most) }
-
-module _ {n size : ℕ} {m : MadeS} {place : ℕ} {a : ReadAnswer} (r : Bool) (e : r ≡ mayTagNoted n (m .note)) where
-  pub tagged-yes : {k : ℕ} → r ≡ true → k ≡ min (size + m .size) (2 ^ 64 - 1) → a ≡ Made (record { next = m .next; size = k; count = 1; note = 0 }) → TagMade n size m place a
-  tagged-yes {k} t q f =
-      record {
-        refused = λ z. let c : _≡_ {A = Bool} true false = sym t ∙ e ∙ z in absurd (mathlib.Core.Bool.true≢false c);
-        made = λ z. f ∙ ap (λ (x : ℕ). Made (record { next = m .next; size = x; count = 1; note = 0 })) q;
-      }
-
-  pub tagged-no : r ≡ false → Denies badTypedArray place a → TagMade n size m place a
-  tagged-no t f = record { refused = λ z. f; made = λ z. let c : _≡_ {A = Bool} true false = sym z ∙ sym e ∙ t in absurd (mathlib.Core.Bool.true≢false c) }
-
-pub ruleset tagged-ways = (tagged-yes, tagged-no)
-
-pub joined-made : {m : MadeS} {r : ReadAnswer} (size k : ℕ) (a : ReadAnswer) → a ≡ Made m → k ≡ min (size + m .size) (2 ^ 64 - 1) → r ≡ Made (record { next = m .next; size = k; count = 1; note = 0 }) → r ≡ joinedAs size a
-unfolding joinedAs
-joined-made size k a e q f = rw (e, joinedAs) (f ∙ cc)
-
-pub joined-lost : {e : Refusal} (size : ℕ) (a : ReadAnswer) → a ≡ Refused e → Refused e ≡ joinedAs size a
-unfolding joinedAs
-joined-lost size a e = rw (e, joinedAs)
-
-pub ruleset joined-ways = (joined-made, joined-lost)
+pub finish-size : {b b′ : List ℕ} {pos major size r : ℕ} (i n : ℕ) → Heavy major size → Closes b b′ pos (headBytes i n) size r → Fits bits64 (r + size)
+finish-size i n h s = record { fits = omega (arith, h .fits, s .sized, head-short i n) }

@@ -15,7 +15,7 @@ use Rattle.cbor.specs.Items.{Sign, unsigned, negative, Kind, byteString, textSt
 use Rattle.cbor.specs.Utf8.{_to_, isIn}
 use Rattle.cbor.specs.Valid.{isSimple}
 use Rattle.cbor.proofs.DecodeEncode.{shortest-simple}
-use Rattle.notation.specs.Classes.{Class, other, blank, digit, letter, underscore, minus, dot, quote, apostrophe, slash, hash, comma, colon, openParen, closeParen, openBracket, closeBracket, openBrace, closeBrace, less, greater, endMark, classOf, is, isWord}
+use Rattle.notation.specs.Classes.{Class, other, blank, digit, letter, underscore, minus, dot, quote, apostrophe, slash, hash, comma, colon, openParen, closeParen, openBracket, closeBracket, openBrace, closeBrace, less, greater, endMark, classNumber, classOf, is, isWord}
 use Rattle.notation.specs.Scanning.{skip, fault, run, whether, expect}
 use Rattle.notation.specs.Indicators.{Indicator, absent, indefinitely, unknown, wide, indicator, Chosen, chosen, misfit, choose}
 use Rattle.notation.specs.Numbers.{digitValue, isDigit, numberFrom, digits, isFloating, Radix, inRadix, noRadix, radixOf, judged, integerToken, integer, otherInteger, decimal, based, afterZero, number}
@@ -24,6 +24,7 @@ use Rattle.notation.specs.Literals.{literalToken, quotedToken, quoted, isBody, 
 use Rattle.notation.specs.Words.{same, falseWord, trueWord, nullWord, undefinedWord, simpleWord, infinityWord, hexPrefix, base64Prefix, isFloatWord, isPlainDecimal, simpleBy, simpleToken, value, worded, prefixed, word}
 use Rattle.notation.specs.Tokens.{Opener, bracket, brace, tagging, embedding, Beginning, leaf, literal, chunking, opens, Token, begins, closes, aComma, aColon}
 use Rattle.notation.specs.Cutting.{startsWith, afterMinus, openingToken, cutBy, cut, place, placed, next}
+use Rattle.token.specs.TokenAnswers.{shapeCode}
 use Rattle.notation.proofs.TextScan.{tested}
 use Rattle.notation.proofs.SoundContent.{Holds, hex-content, base64-content}
 use Rattle.notation.proofs.SoundToken.{Chose, choose-fits}
@@ -78,6 +79,20 @@ Fine n (closes h i) k = Unit {0}
 Fine n aComma k = Unit {0}
 Fine n aColon k = Unit {0}
 
+-- the same where it begins an item
+abbrev Begun : ℕ → Token → ℕ → Type 0
+Begun n (begins g) k = BeginFine n g k
+Begun n (closes h i) k = ⊥
+Begun n aComma k = ⊥
+Begun n aColon k = ⊥
+
+-- and where its first byte has the class c: the code of a token that begins no item is the number of that class
+abbrev pub Led : Class → ℕ → Token → ℕ → Type 0
+Led c n (begins g) k = BeginFine n g k
+Led c n (closes h i) k = shapeCode h ≡ classNumber c
+Led c n aComma k = 11 ≡ classNumber c
+Led c n aColon k = 12 ≡ classNumber c
+
 -- STEPS
 module _ (n : ℕ) where
   run-keeps : (test : ℕ → Bool) (s : List ℕ) → length s ≤ n → Keeps (Upto n) (run test s)
@@ -103,60 +118,60 @@ module _ (n : ℕ) where
       (λ there r k. tested (Keeps (Upto n)) there _ _ (λ e. keeps-bind (Upto n) (Upto n) (run isWord r) _ (run-keeps isWord r k) (λ w u j. j)) (λ e. k))
 
   -- INTEGERS AND TAGS
-  judged-keeps : (m : ℕ) (i : Indicator) (make : Width → Token) (r : List ℕ) → ((w : Width) → m ≤ limit w → Fine n (make w) (length r)) → Keeps (Fine n) (judged m (choose i m) make r)
+  judged-keeps : (m : ℕ) (i : Indicator) (make : Width → Token) (r : List ℕ) → ((w : Width) → m ≤ limit w → Begun n (make w) (length r)) → Keeps (Begun n) (judged m (choose i m) make r)
   unfolding judged
   judged-keeps m i make r h =
-      tested (Keeps (Fine n)) (leb m (limit w8)) _ _ (λ e. go (choose i m) (choose-fits i m (leb-true m (limit w8) e))) (λ e. record { low = omega arith; high = omega arith })
+      tested (Keeps (Begun n)) (leb m (limit w8)) _ _ (λ e. go (choose i m) (choose-fits i m (leb-true m (limit w8) e))) (λ e. record { low = omega arith; high = omega arith })
     where
-      go : (c : Chosen) → Chose m c → Keeps (Fine n) (elim c [ chosen w ↦ ok (make w) r | misfit ↦ fault badIndicator ])
+      go : (c : Chosen) → Chose m c → Keeps (Begun n) (elim c [ chosen w ↦ ok (make w) r | misfit ↦ fault badIndicator ])
       go (chosen w) f = h w f
       go misfit f = record { low = omega arith; high = omega arith }
 
-  integer-keeps : (g : Sign) (m : ℕ) (i : Indicator) (r : List ℕ) → Keeps (Fine n) (integer g m i r)
+  integer-keeps : (g : Sign) (m : ℕ) (i : Indicator) (r : List ℕ) → Keeps (Begun n) (integer g m i r)
   unfolding integer integerToken
   integer-keeps unsigned m i r = judged-keeps m i (integerToken unsigned m) r (λ w h. h)
   integer-keeps negative zero i r = record { low = omega arith; high = omega arith }
   integer-keeps negative (suc m) i r = judged-keeps m i (integerToken negative m) r (λ w h. h)
 
-  other-keeps : (g : Sign) (m : ℕ) (s : List ℕ) → length s ≤ n → Keeps (Fine n) (otherInteger g m s)
+  other-keeps : (g : Sign) (m : ℕ) (s : List ℕ) → length s ≤ n → Keeps (Begun n) (otherInteger g m s)
   unfolding otherInteger
-  other-keeps g m s l = keeps-bind (Upto n) (Fine n) (indicator s) _ (indicator-keeps s l) (λ i r k. integer-keeps g m i r)
+  other-keeps g m s l = keeps-bind (Upto n) (Begun n) (indicator s) _ (indicator-keeps s l) (λ i r k. integer-keeps g m i r)
 
-  decimal-keeps : (g : Sign) (m : ℕ) (s : List ℕ) → length s ≤ n → Keeps (Fine n) (decimal g m s)
+  decimal-keeps : (g : Sign) (m : ℕ) (s : List ℕ) → length s ≤ n → Keeps (Begun n) (decimal g m s)
   unfolding decimal
   decimal-keeps unsigned m s l =
-      keeps-bind (Upto n) (Fine n) (indicator s) _ (indicator-keeps s l)
-      (λ i r k. keeps-bind (Upto n) (Fine n) (whether 0x28 r) _ (whether-keeps 0x28 r k)
-      (λ tag u j. tested (Keeps (Fine n)) tag _ _ (λ e. judged-keeps m i (λ w. begins (opens (tagging w m))) u (λ w h. h)) (λ e. integer-keeps unsigned m i u)))
+      keeps-bind (Upto n) (Begun n) (indicator s) _ (indicator-keeps s l)
+      (λ i r k. keeps-bind (Upto n) (Begun n) (whether 0x28 r) _ (whether-keeps 0x28 r k)
+      (λ tag u j. tested (Keeps (Begun n)) tag _ _ (λ e. judged-keeps m i (λ w. begins (opens (tagging w m))) u (λ w h. h)) (λ e. integer-keeps unsigned m i u)))
   decimal-keeps negative m s l = other-keeps negative m s l
 
   digits-keeps : (radix v : ℕ) (s : List ℕ) → length s ≤ n → Keeps (Upto n) (digits radix v s)
   unfolding digits
   digits-keeps radix v s l = keeps-bind (Upto n) (Upto n) (run (isDigit radix) s) _ (run-keeps (isDigit radix) s l) (λ w r k. k)
 
-  based-keeps : (g : Sign) (radix v : ℕ) (s : List ℕ) → length s ≤ n → Keeps (Fine n) (based g radix v s)
+  based-keeps : (g : Sign) (radix v : ℕ) (s : List ℕ) → length s ≤ n → Keeps (Begun n) (based g radix v s)
   unfolding based
   based-keeps g radix v s l =
-      tested (Keeps (Fine n)) (isFloating radix s) _ _ (λ e. record { low = omega arith; high = omega arith })
-      (λ e. keeps-bind (Upto n) (Fine n) (digits radix v s) _ (digits-keeps radix v s l) (λ m r k. other-keeps g m r k))
+      tested (Keeps (Begun n)) (isFloating radix s) _ _ (λ e. record { low = omega arith; high = omega arith })
+      (λ e. keeps-bind (Upto n) (Begun n) (digits radix v s) _ (digits-keeps radix v s l) (λ m r k. other-keeps g m r k))
 
-  zero-keeps : (g : Sign) (s : List ℕ) → length s ≤ n → Keeps (Fine n) (afterZero g s)
+  zero-keeps : (g : Sign) (s : List ℕ) → length s ≤ n → Keeps (Begun n) (afterZero g s)
   unfolding afterZero
   zero-keeps g [] l = decimal-keeps g 0 [] l
   zero-keeps g (c ∷ []) l = decimal-keeps g 0 (c ∷ []) l
   zero-keeps g (c ∷ d ∷ s) l = go (radixOf c)
     where
       go : (x : Radix)
-          → Keeps {A = Token} (Fine n) (elim x [ inRadix m ↦ elim (isDigit m d) [ true ↦ based g m (digitValue d) s | false ↦ decimal g 0 (c ∷ d ∷ s) ] | noRadix ↦ decimal g 0 (c ∷ d ∷ s) ])
-      go (inRadix m) = tested (Keeps (Fine n)) (isDigit m d) _ _ (λ e. based-keeps g m (digitValue d) s (omega arith)) (λ e. decimal-keeps g 0 (c ∷ d ∷ s) l)
+          → Keeps {A = Token} (Begun n) (elim x [ inRadix m ↦ elim (isDigit m d) [ true ↦ based g m (digitValue d) s | false ↦ decimal g 0 (c ∷ d ∷ s) ] | noRadix ↦ decimal g 0 (c ∷ d ∷ s) ])
+      go (inRadix m) = tested (Keeps (Begun n)) (isDigit m d) _ _ (λ e. based-keeps g m (digitValue d) s (omega arith)) (λ e. decimal-keeps g 0 (c ∷ d ∷ s) l)
       go noRadix = decimal-keeps g 0 (c ∷ d ∷ s) l
 
-  number-keeps : (g : Sign) (b : ℕ) (s : List ℕ) → length s ≤ n → Keeps (Fine n) (number g b s)
+  number-keeps : (g : Sign) (b : ℕ) (s : List ℕ) → length s ≤ n → Keeps (Begun n) (number g b s)
   unfolding number
   number-keeps g b s l =
-      tested (Keeps (Fine n)) (isFloating 10 s) _ _ (λ e. record { low = omega arith; high = omega arith })
-      (λ e. tested (Keeps (Fine n)) (eqb b 0x30) _ _ (λ e. zero-keeps g s l)
-      (λ e. keeps-bind (Upto n) (Fine n) (digits 10 (digitValue b) s) _ (digits-keeps 10 (digitValue b) s l) (λ m r k. decimal-keeps g m r k)))
+      tested (Keeps (Begun n)) (isFloating 10 s) _ _ (λ e. record { low = omega arith; high = omega arith })
+      (λ e. tested (Keeps (Begun n)) (eqb b 0x30) _ _ (λ e. zero-keeps g s l)
+      (λ e. keeps-bind (Upto n) (Begun n) (digits 10 (digitValue b) s) _ (digits-keeps 10 (digitValue b) s l) (λ m r k. decimal-keeps g m r k)))
 
 -- QUOTED STRINGS: what may still be given for what is read already
 credit : Quoting → ℕ
@@ -230,15 +245,15 @@ body-keeps (b ∷ s) =
 
 -- LITERALS
 module _ (n : ℕ) where
-  literal-keeps : (k : Kind) (b : List ℕ) (i : Indicator) (r : List ℕ) → length b + length r ≤ n → Keeps (Fine n) (literalToken k b i r)
+  literal-keeps : (k : Kind) (b : List ℕ) (i : Indicator) (r : List ℕ) → length b + length r ≤ n → Keeps (Begun n) (literalToken k b i r)
   unfolding literalToken
   literal-keeps k b i r l = go (choose i (length b)) (λ h. choose-fits i (length b) h)
     where
-      go : (c : Chosen) → (length b ≤ limit w8 → Chose (length b) c) → Keeps (Fine n) (elim c [ chosen w ↦ ok (begins (literal k (definite w) b)) r | misfit ↦ fault badIndicator ])
+      go : (c : Chosen) → (length b ≤ limit w8 → Chose (length b) c) → Keeps (Begun n) (elim c [ chosen w ↦ ok (begins (literal k (definite w) b)) r | misfit ↦ fault badIndicator ])
       go (chosen w) f = (f, l)
       go misfit f = record { low = omega arith; high = omega arith }
 
-  quoted-token : (k : Kind) (b : List ℕ) (i : Indicator) (r : List ℕ) → length b + length r ≤ n → Keeps (Fine n) (quotedToken k b i r)
+  quoted-token : (k : Kind) (b : List ℕ) (i : Indicator) (r : List ℕ) → length b + length r ≤ n → Keeps (Begun n) (quotedToken k b i r)
   unfolding quotedToken
   quoted-token k b absent r l = literal-keeps k b absent r l
   quoted-token k b unknown r l = literal-keeps k b unknown r l
@@ -246,72 +261,72 @@ module _ (n : ℕ) where
   quoted-token k [] indefinitely r l = (tt, l)
   quoted-token k (c ∷ b) indefinitely r l = literal-keeps k (c ∷ b) indefinitely r l
 
-  quoted-keeps : (k : Kind) (q : ℕ) (s : List ℕ) → length s ≤ n → Keeps (Fine n) (quoted k q s)
+  quoted-keeps : (k : Kind) (q : ℕ) (s : List ℕ) → length s ≤ n → Keeps (Begun n) (quoted k q s)
   unfolding quoted credit
   quoted-keeps k q s l =
-      keeps-bind (Held (length s + 0)) (Fine n) (unquote q character s) _ (unquote-keeps q character s)
-      (λ b r m. keeps-bind (Upto (length r)) (Fine n) (indicator r) _ (indicator-keeps (length r) r (omega arith)) (λ i v j. quoted-token k b i v (omega arith)))
+      keeps-bind (Held (length s + 0)) (Begun n) (unquote q character s) _ (unquote-keeps q character s)
+      (λ b r m. keeps-bind (Upto (length r)) (Begun n) (indicator r) _ (indicator-keeps (length r) r (omega arith)) (λ i v j. quoted-token k b i v (omega arith)))
 
-  contained-keeps : (c : Content) (m : ℕ) (i : Indicator) (r : List ℕ) → Holds m c → m + length r ≤ n → Keeps (Fine n) (contained c i r)
+  contained-keeps : (c : Content) (m : ℕ) (i : Indicator) (r : List ℕ) → Holds m c → m + length r ≤ n → Keeps (Begun n) (contained c i r)
   unfolding contained
   contained-keeps (standsFor b) m i r h l = literal-keeps byteString b i r (omega (arith, h .1))
   contained-keeps bad m i r h l = record { low = omega arith; high = omega arith }
 
-  encoded-keeps : (read : List ℕ → Content) → ((b : List ℕ) → Holds (length b) (read b)) → (s : List ℕ) → length s ≤ n → Keeps (Fine n) (encodedLiteral read s)
+  encoded-keeps : (read : List ℕ → Content) → ((b : List ℕ) → Holds (length b) (read b)) → (s : List ℕ) → length s ≤ n → Keeps (Begun n) (encodedLiteral read s)
   unfolding encodedLiteral
   encoded-keeps read h s l =
-      keeps-bind (Held (length s)) (Fine n) (body s) _ (body-keeps s)
-      (λ b r m. keeps-bind (Upto (length r)) (Fine n) (indicator r) _ (indicator-keeps (length r) r (omega arith)) (λ i v j. contained-keeps (read b) (length b) i v (h b) (omega arith)))
+      keeps-bind (Held (length s)) (Begun n) (body s) _ (body-keeps s)
+      (λ b r m. keeps-bind (Upto (length r)) (Begun n) (indicator r) _ (indicator-keeps (length r) r (omega arith)) (λ i v j. contained-keeps (read b) (length b) i v (h b) (omega arith)))
 
   -- WORDS
-  simple-keeps : (s : List ℕ) → length s ≤ n → Keeps (Fine n) (simpleToken s)
+  simple-keeps : (s : List ℕ) → length s ≤ n → Keeps (Begun n) (simpleToken s)
   unfolding simpleToken simpleBy
   simple-keeps s l =
-      keeps-bind (Upto n) (Fine n) (whether 0x28 s) _ (whether-keeps n 0x28 s l)
-      (λ there r k. tested (Keeps (Fine n)) there _ _
-      (λ e. keeps-bind (Upto n) (Fine n) (run (isDigit 10) r) _ (run-keeps n (isDigit 10) r k)
-      (λ w u j. keeps-bind (Upto n) (Fine n) (expect 0x29 unknownWord u) _ (expect-keeps n 0x29 unknownWord (record { low = omega arith; high = omega arith }) u j)
-      (λ o v i. tested (Keeps (Fine n)) (isPlainDecimal w) _ _
-      (λ e. tested (Keeps (Fine n)) (isSimple (numberFrom 10 0 w)) _ _ (λ f. shortest-simple (numberFrom 10 0 w) f .fit) (λ f. record { low = omega arith; high = omega arith })) (λ e. record { low = omega arith; high = omega arith }))))
+      keeps-bind (Upto n) (Begun n) (whether 0x28 s) _ (whether-keeps n 0x28 s l)
+      (λ there r k. tested (Keeps (Begun n)) there _ _
+      (λ e. keeps-bind (Upto n) (Begun n) (run (isDigit 10) r) _ (run-keeps n (isDigit 10) r k)
+      (λ w u j. keeps-bind (Upto n) (Begun n) (expect 0x29 unknownWord u) _ (expect-keeps n 0x29 unknownWord (record { low = omega arith; high = omega arith }) u j)
+      (λ o v i. tested (Keeps (Begun n)) (isPlainDecimal w) _ _
+      (λ e. tested (Keeps (Begun n)) (isSimple (numberFrom 10 0 w)) _ _ (λ f. shortest-simple (numberFrom 10 0 w) f .fit) (λ f. record { low = omega arith; high = omega arith })) (λ e. record { low = omega arith; high = omega arith }))))
       (λ e. record { low = omega arith; high = omega arith }))
 
-  worded-keeps : (w r : List ℕ) → length r ≤ n → Keeps (Fine n) (worded w r)
+  worded-keeps : (w r : List ℕ) → length r ≤ n → Keeps (Begun n) (worded w r)
   unfolding worded value isSimple
   worded-keeps w r l =
-      tested (Keeps (Fine n)) (same w falseWord) _ _ (λ e. shortest-simple 20 refl .fit)
-      (λ e. tested (Keeps (Fine n)) (same w trueWord) _ _ (λ e. shortest-simple 21 refl .fit)
-      (λ e. tested (Keeps (Fine n)) (same w nullWord) _ _ (λ e. shortest-simple 22 refl .fit)
-      (λ e. tested (Keeps (Fine n)) (same w undefinedWord) _ _ (λ e. shortest-simple 23 refl .fit)
-      (λ e. tested (Keeps (Fine n)) (same w simpleWord) _ _ (λ e. simple-keeps r l)
-      (λ e. tested (Keeps (Fine n)) (isFloatWord w) _ _ (λ e. record { low = omega arith; high = omega arith }) (λ e. record { low = omega arith; high = omega arith }))))))
+      tested (Keeps (Begun n)) (same w falseWord) _ _ (λ e. shortest-simple 20 refl .fit)
+      (λ e. tested (Keeps (Begun n)) (same w trueWord) _ _ (λ e. shortest-simple 21 refl .fit)
+      (λ e. tested (Keeps (Begun n)) (same w nullWord) _ _ (λ e. shortest-simple 22 refl .fit)
+      (λ e. tested (Keeps (Begun n)) (same w undefinedWord) _ _ (λ e. shortest-simple 23 refl .fit)
+      (λ e. tested (Keeps (Begun n)) (same w simpleWord) _ _ (λ e. simple-keeps r l)
+      (λ e. tested (Keeps (Begun n)) (isFloatWord w) _ _ (λ e. record { low = omega arith; high = omega arith }) (λ e. record { low = omega arith; high = omega arith }))))))
 
-  prefixed-keeps : (w r : List ℕ) → length r ≤ n → Keeps (Fine n) (prefixed w r)
+  prefixed-keeps : (w r : List ℕ) → length r ≤ n → Keeps (Begun n) (prefixed w r)
   unfolding prefixed
   prefixed-keeps w r l =
-      tested (Keeps (Fine n)) (same w hexPrefix) _ _ (λ e. encoded-keeps hexContent hex-content r l)
-      (λ e. tested (Keeps (Fine n)) (same w base64Prefix) _ _ (λ e. encoded-keeps base64Content base64-content r l)
-      (λ e. tested (Keeps (Fine n)) (isFloatWord w) _ _ (λ e. record { low = omega arith; high = omega arith }) (λ e. record { low = omega arith; high = omega arith })))
+      tested (Keeps (Begun n)) (same w hexPrefix) _ _ (λ e. encoded-keeps hexContent hex-content r l)
+      (λ e. tested (Keeps (Begun n)) (same w base64Prefix) _ _ (λ e. encoded-keeps base64Content base64-content r l)
+      (λ e. tested (Keeps (Begun n)) (isFloatWord w) _ _ (λ e. record { low = omega arith; high = omega arith }) (λ e. record { low = omega arith; high = omega arith })))
 
-  word-keeps : (b : ℕ) (s : List ℕ) → length s ≤ n → Keeps (Fine n) (word b s)
+  word-keeps : (b : ℕ) (s : List ℕ) → length s ≤ n → Keeps (Begun n) (word b s)
   unfolding word
   word-keeps b s l =
-      keeps-bind (Upto n) (Fine n) (run isWord s) _ (run-keeps n isWord s l)
-      (λ w r k. keeps-bind (Upto n) (Fine n) (whether 0x27 r) _ (whether-keeps n 0x27 r k)
-      (λ q v j. tested (Keeps (Fine n)) q _ _ (λ e. prefixed-keeps (b ∷ w) v j) (λ e. worded-keeps (b ∷ w) v j)))
+      keeps-bind (Upto n) (Begun n) (run isWord s) _ (run-keeps n isWord s l)
+      (λ w r k. keeps-bind (Upto n) (Begun n) (whether 0x27 r) _ (whether-keeps n 0x27 r k)
+      (λ q v j. tested (Keeps (Begun n)) q _ _ (λ e. prefixed-keeps (b ∷ w) v j) (λ e. worded-keeps (b ∷ w) v j)))
 
   -- EVERY TOKEN
-  minus-keeps : (s : List ℕ) → length s ≤ n → Keeps (Fine n) (afterMinus s)
+  minus-keeps : (s : List ℕ) → length s ≤ n → Keeps (Begun n) (afterMinus s)
   unfolding afterMinus
   minus-keeps [] l = record { low = omega arith; high = omega arith }
   minus-keeps (b ∷ s) l =
-      tested (Keeps (Fine n)) (is digit b) _ _ (λ e. number-keeps n negative b s (omega arith))
-      (λ e. tested (Keeps (Fine n)) (startsWith infinityWord (b ∷ s)) _ _ (λ e. record { low = omega arith; high = omega arith }) (λ e. record { low = omega arith; high = omega arith }))
+      tested (Keeps (Begun n)) (is digit b) _ _ (λ e. number-keeps n negative b s (omega arith))
+      (λ e. tested (Keeps (Begun n)) (startsWith infinityWord (b ∷ s)) _ _ (λ e. record { low = omega arith; high = omega arith }) (λ e. record { low = omega arith; high = omega arith }))
 
-  opening-keeps : (o : Indicator → Opener) → ((i : Indicator) → OpenerFine (o i)) → (s : List ℕ) → length s ≤ n → Keeps (Fine n) (bind (indicator s) (openingToken o))
+  opening-keeps : (o : Indicator → Opener) → ((i : Indicator) → OpenerFine (o i)) → (s : List ℕ) → length s ≤ n → Keeps (Begun n) (bind (indicator s) (openingToken o))
   unfolding openingToken
-  opening-keeps o h s l = keeps-bind (Upto n) (Fine n) (indicator s) _ (indicator-keeps n s l) go
+  opening-keeps o h s l = keeps-bind (Upto n) (Begun n) (indicator s) _ (indicator-keeps n s l) go
     where
-      go : (i : Indicator) (r : List ℕ) → length r ≤ n → Keeps (Fine n) (openingToken o i r)
+      go : (i : Indicator) (r : List ℕ) → length r ≤ n → Keeps (Begun n) (openingToken o i r)
       go absent r k = h absent
       go indefinitely r k = h indefinitely
       go (wide w) r k = h (wide w)
@@ -320,34 +335,51 @@ module _ (n : ℕ) where
   none : Known noToken
   none = record { low = omega arith; high = omega arith }
 
-  cut-keeps : (c : Class) (b : ℕ) (s : List ℕ) → length s ≤ n → Keeps (Fine n) (cutBy c b s)
-  unfolding cutBy
-  cut-keeps digit b s l = number-keeps n unsigned b s l
-  cut-keeps minus b s l = minus-keeps s l
-  cut-keeps letter b s l = word-keeps b s l
-  cut-keeps quote b s l = quoted-keeps textString 0x22 s l
-  cut-keeps apostrophe b s l = quoted-keeps byteString 0x27 s l
-  cut-keeps openBracket b s l = opening-keeps bracket (λ i. tt) s l
-  cut-keeps openBrace b s l = opening-keeps brace (λ i. tt) s l
-  cut-keeps openParen b s l = keeps-bind (Upto n) (Fine n) (expect 0x5f noToken s) _ (expect-keeps n 0x5f noToken none s l) (λ u r k. tt)
-  cut-keeps less b s l = keeps-bind (Upto n) (Fine n) (expect 0x3c noToken s) _ (expect-keeps n 0x3c noToken none s l) (λ u r k. tt)
+  led : (c : Class) (R : Result Token) → Keeps (Begun n) R → Keeps (Led c n) R
+  led c (ok (begins g) r) h = h
+  led c (ok (closes h′ i) r) h = absurd h
+  led c (ok aComma r) h = absurd h
+  led c (ok aColon r) h = absurd h
+  led c (refuse k w) h = h
+
+  cut-keeps : (c : Class) (b : ℕ) (s : List ℕ) → length s ≤ n → Keeps (Led c n) (cutBy c b s)
+  unfolding cutBy shapeCode classNumber
+  cut-keeps digit b s l = led digit (number unsigned b s) (number-keeps n unsigned b s l)
+  cut-keeps minus b s l = led minus (afterMinus s) (minus-keeps s l)
+  cut-keeps letter b s l = led letter (word b s) (word-keeps b s l)
+  cut-keeps quote b s l = led quote (quoted textString 0x22 s) (quoted-keeps textString 0x22 s l)
+  cut-keeps apostrophe b s l = led apostrophe (quoted byteString 0x27 s) (quoted-keeps byteString 0x27 s l)
+  cut-keeps openBracket b s l = led openBracket (bind (indicator s) (openingToken bracket)) (opening-keeps bracket (λ i. tt) s l)
+  cut-keeps openBrace b s l = led openBrace (bind (indicator s) (openingToken brace)) (opening-keeps brace (λ i. tt) s l)
+  cut-keeps openParen b s l = keeps-bind (Upto n) (Led openParen n) (expect 0x5f noToken s) _ (expect-keeps n 0x5f noToken none s l) (λ u r k. tt)
+  cut-keeps less b s l = keeps-bind (Upto n) (Led less n) (expect 0x3c noToken s) _ (expect-keeps n 0x3c noToken none s l) (λ u r k. tt)
   cut-keeps greater b s l =
-      keeps-bind (Upto n) (Fine n) (expect 0x3e noToken s) _ (expect-keeps n 0x3e noToken none s l)
-      (λ u r k. keeps-bind (Upto n) (Fine n) (indicator r) _ (indicator-keeps n r k) (λ i v j. tt))
+      keeps-bind (Upto n) (Led greater n) (expect 0x3e noToken s) _ (expect-keeps n 0x3e noToken none s l)
+      (λ u r k. keeps-bind (Upto n) (Led greater n) (indicator r) _ (indicator-keeps n r k) (λ i v j. refl))
   cut-keeps dot b s l =
-      keeps-bind (Upto n) (Fine n) (expect 0x2e noToken s) _ (expect-keeps n 0x2e noToken none s l)
-      (λ u r k. keeps-bind (Upto n) (Fine n) (expect 0x2e noToken r) _ (expect-keeps n 0x2e noToken none r k) (λ u v j. record { low = omega arith; high = omega arith }))
-  cut-keeps closeBracket b s l = tt
-  cut-keeps closeBrace b s l = tt
-  cut-keeps closeParen b s l = tt
-  cut-keeps comma b s l = tt
-  cut-keeps colon b s l = tt
-  cut-keeps endMark b s l = tt
+      keeps-bind (Upto n) (Led dot n) (expect 0x2e noToken s) _ (expect-keeps n 0x2e noToken none s l)
+      (λ u r k. keeps-bind (Upto n) (Led dot n) (expect 0x2e noToken r) _ (expect-keeps n 0x2e noToken none r k) (λ u v j. record { low = omega arith; high = omega arith }))
+  cut-keeps closeBracket b s l = refl
+  cut-keeps closeBrace b s l = refl
+  cut-keeps closeParen b s l = refl
+  cut-keeps comma b s l = refl
+  cut-keeps colon b s l = refl
+  cut-keeps endMark b s l = refl
   cut-keeps other b s l = none
   cut-keeps blank b s l = none
   cut-keeps underscore b s l = none
   cut-keeps slash b s l = none
   cut-keeps hash b s l = none
+
+pub cut-led : (b : ℕ) (u r : List ℕ) (tok : Token) → cut (b ∷ u) ≡ ok tok r → Led (classOf b) (length u) tok (length r)
+unfolding cut
+cut-led b u r tok e = rw e at (cut-keeps (length u) (classOf b) b u (omega arith))
+
+led-fine : (c : Class) (n : ℕ) (tok : Token) (k : ℕ) → Led c n tok k → Fine n tok k
+led-fine c n (begins g) k h = h
+led-fine c n (closes h′ i) k h = tt
+led-fine c n aComma k h = tt
+led-fine c n aColon k h = tt
 
 -- of a token before which p is left; a refusal stands there
 abbrev pub Cuts : ℕ → Result Token → Type 0
@@ -358,10 +390,10 @@ pub next-fine : (s : List ℕ) → Cuts (place s) (next s)
 unfolding next placed cut place
 next-fine s = go (skip s)
   where
-    shut : (n p : ℕ) → n + 1 ≡ p → (R : Result Token) → Keeps (Fine n) R → Cuts p (placed p R)
-    shut n p e (ok t r) h = let q : n ≡ p - 1 = omega arith in (rw q at h, omega arith)
-    shut n p e (refuse k w) h = (h, refl)
+    shut : (c : Class) (n p : ℕ) → n + 1 ≡ p → (R : Result Token) → Keeps (Led c n) R → Cuts p (placed p R)
+    shut c n p e (ok t r) h = let q : n ≡ p - 1 = omega arith in (rw q at (led-fine c n t (length r) h), omega arith)
+    shut c n p e (refuse k w) h = (h, refl)
 
     go : (u : List ℕ) → Cuts (length u) (placed (length u) (cut u))
     go [] = (record { low = omega arith; high = omega arith }, refl)
-    go (b ∷ u) = shut (length u) (suc (length u)) (omega arith) (cutBy (classOf b) b u) (cut-keeps (length u) (classOf b) b u (omega arith))
+    go (b ∷ u) = shut (classOf b) (length u) (suc (length u)) (omega arith) (cutBy (classOf b) b u) (cut-keeps (length u) (classOf b) b u (omega arith))

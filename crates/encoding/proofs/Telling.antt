@@ -113,7 +113,7 @@ after-more v s b b′ m m′ pos a (ok x r) le f =
     record {
       made = f .made;
       is = f .is;
-      moved = record { stands = f .moved .stands; sized = f .moved .sized; counted = f .moved .counted; noted = f .moved .noted; many = f .moved .many; short = omega (arith, f .moved .short); wrote = f .moved .wrote };
+      moved = record { stands = f .moved .stands; sized = f .moved .sized; counted = f .moved .counted; indicated = f .moved .indicated; tells = f .moved .tells; many = f .moved .many; short = omega (arith, f .moved .short); wrote = f .moved .wrote };
     }
 after-more v s b b′ m m′ pos a (refuse k left) le f = f
 

@@ -1,18 +1,17 @@
 -- Of the code: what the readers of the code answer. s is a text; the definitions read it with its end mark.
-use Prim.Native.Nat.{ℕ, zero, suc, _+_, _-_, _*_, _%_, _≤_, _<_, _^_, min}
+use Prim.Native.Nat.{ℕ, _+_, _-_, _*_, _%_, _≤_, _<_, _^_}
 use mathlib.Core.Path.{_≡_}
 use mathlib.Core.Bool.{Bool, true, false}
 use mathlib.Core.List.{List, [], _∷_, _++_}
 use lib.Dec.{eqb}
-use lib.ListN.{length}
+use lib.ListN.{length, take}
 use Rattle.cbor.specs.Refusals.{Result, ok, refuse, bind, badIndicator, tooDeep, notAllowed, mixedChunks, badTypedArray}
 use Rattle.cbor.specs.Widths.{Width, w0, w1, w2, w4, w8, limit, shortest, information}
 use Rattle.cbor.specs.Items.{Kind, byteString, textString, Size, definite, indefinite, Chunk, Item, int, string, chunked, array, map, tag, simple, Pairs, count, count₂}
 use Rattle.cbor.specs.Encode.{encodeString, encodeChunks, encode, encodeAll, encodeAll₂}
 use Rattle.cbor.specs.TypedArrays.{chunksLength, mayTag}
-use Rattle.cbor.specs.Decode.{Entry}
-use Rattle.typed_array.specs.TypedArrayAnswers.{mayTagBy}
-use Rattle.memory.specs.Buffer.{over, headPut}
+use Rattle.numbers.specs.NumberAnswers.{chooseBy}
+use Rattle.memory.specs.Buffer.{overIfFits}
 use Rattle.refusal.specs.RefusalKinds.{kindNumber}
 use Rattle.head.specs.HeadAnswers.{headBytes}
 use Rattle.refusal.specs.declared.Refusal.{Refusal}
@@ -28,47 +27,54 @@ use Rattle.encoding.specs.declared.answer.MadeItem.{MadeItem as MadeS}
 use Rattle.encoding.specs.declared.answer.ReadAnswer.{ReadAnswer}
 use Rattle.encoding.specs.declared.answer.ReadAnswer.the-variants.{Made, Refused}
 
--- WHAT THE CODE KNOWS of a thing that was read: its bytes; how many things it is, or how long the content of a chunk; and a note
+-- WHAT THE CODE KNOWS of a thing that was read: its bytes; how many things it is, or how long the content of a chunk; the indicator on
+-- the token that closed it, by its number; and what the check of typed arrays asks for
+pub data Held : Type 0 where
+  unsaid noBytes : Held
+  bytesOf : ℕ → Held
+
 pub record View : Type 0 where
   pub bytes : List ℕ
   pub count : ℕ
-  pub note : ℕ
+  pub indicator : ℕ
+  pub held : Held
 
--- the note of an item, which the check of typed arrays asks for: 0, or of a byte string one more than its length
-unfoldable pub noteOf : Item → ℕ
-noteOf (int g w n) = 0
-noteOf (string byteString w b) = suc (length b)
-noteOf (string textString w b) = 0
-noteOf (chunked byteString cs) = suc (chunksLength cs)
-noteOf (chunked textString cs) = 0
-noteOf (array z xs) = 0
-noteOf (map z ps) = 0
-noteOf (tag w n x) = 0
-noteOf (simple n) = 0
+-- a byte string, with its length, or another item
+unfoldable pub heldOf : Item → Held
+heldOf (int g w n) = noBytes
+heldOf (string byteString w b) = bytesOf (length b)
+heldOf (string textString w b) = noBytes
+heldOf (chunked byteString cs) = bytesOf (chunksLength cs)
+heldOf (chunked textString cs) = noBytes
+heldOf (array z xs) = noBytes
+heldOf (map z ps) = noBytes
+heldOf (tag w n x) = noBytes
+heldOf (simple n) = noBytes
+
+-- the code says it so: whether it is a byte string, and how long
+unfoldable pub Tells : Held → Bool → ℕ → Type 0
+Tells unsaid t n = Unit {0}
+Tells noBytes t n = t ≡ false
+Tells (bytesOf k) t n = (t ≡ true) × (n ≡ k)
 
 unfoldable pub ofItem : Item → View
-ofItem x = record { bytes = encode x; count = 1; note = noteOf x }
+ofItem x = record { bytes = encode x; count = 1; indicator = 0; held = heldOf x }
 
--- of items it is the indicator that closed them
 unfoldable pub ofClosed : Closed → View
-ofClosed c = record { bytes = encodeAll (c .all); count = count (c .all); note = indicatorNumber (c .indicator) }
-
-unfoldable pub ofEntry : Entry → View
-ofEntry e = record { bytes = encode (e .key) ++ encode (e .value); count = 1; note = 0 }
+ofClosed c = record { bytes = encodeAll (c .all); count = count (c .all); indicator = indicatorNumber (c .indicator); held = unsaid }
 
 unfoldable pub ofPairs : Pairs → View
-ofPairs ps = record { bytes = encodeAll₂ ps; count = count₂ ps; note = 0 }
+ofPairs ps = record { bytes = encodeAll₂ ps; count = count₂ ps; indicator = 0; held = unsaid }
 
 unfoldable pub ofChunk : Kind → Chunk → View
-ofChunk k c = record { bytes = encodeString k (c .width) (c .content); count = length (c .content); note = 0 }
+ofChunk k c = record { bytes = encodeString k (c .width) (c .content); count = length (c .content); indicator = 0; held = unsaid }
 
--- of chunks it is their kind
 unfoldable pub ofChunks : Kind → Chunks → View
-ofChunks k cs = record { bytes = encodeChunks k (cs .all); count = chunksLength (cs .all); note = kindCode (cs .kind) }
+ofChunks k cs = record { bytes = encodeChunks k (cs .all); count = chunksLength (cs .all); indicator = 0; held = heldOf (chunked (cs .kind) (cs .all)) }
 
 -- of an item behind the head of a tag
 unfoldable pub ofTagged : ℕ → ℕ → Item → View
-ofTagged initial n x = record { bytes = headBytes initial n ++ encode x; count = 1; note = 0 }
+ofTagged initial n x = record { bytes = headBytes initial n ++ encode x; count = 1; indicator = 0; held = noBytes }
 
 -- READERS that the definitions do not name
 
@@ -78,10 +84,6 @@ followBy code d x t p r = elim (eqb (codeOf t) code) [ true ↦ ok x r | false �
 
 unfoldable pub followed : ℕ → ℕ → List ℕ → Result Item
 followed code d s = bind (reads (one d) s) (λ x r. bind (next r) (λ t r′. followBy code d x t (place r) r′))
-
--- a key, a colon and a value
-unfoldable pub entryRead : ℕ → List ℕ → Result Entry
-entryRead d s = bind (followed 12 d s) (λ k r. bind (reads (one d) r) (λ x r′. ok (record { key = k; value = x }) r′))
 
 -- a chunk of a kind
 unfoldable pub chunkOf : Kind → Kind → Size → List ℕ → ℕ → List ℕ → Result Chunk
@@ -188,21 +190,18 @@ strayBy d code mark =
       ]
     ]
 
--- whether a tag may stand on an item of a note
-unfoldable pub mayTagNoted : ℕ → ℕ → Bool
-mayTagNoted n zero = mayTagBy n false 0
-mayTagNoted n (suc l) = mayTagBy n true l
-
--- the note of a string, by the code of its literals and its length
-unfoldable pub noteBy : ℕ → ℕ → ℕ
-noteBy k n = elim (eqb k 4) [ true ↦ 0 | false ↦ suc n ]
+-- whether a string of a kind, by the code of its literals, is one of bytes
+unfoldable pub isBytesBy : ℕ → Bool
+isBytesBy k = elim (eqb k 4) [ true ↦ false | false ↦ true ]
 
 -- WRITING
 
--- from b to b′: ws was written from p on, if it fits; if not, nothing is said but that the buffer is as long
+-- from b to b′: ws was written from p on, if it fits; what stands before it is kept, and of what stands behind it nothing is said. If it does
+-- not fit, nothing is said but that the buffer is as long
 pub record Wrote (b b′ : List ℕ) (p : ℕ) (ws : List ℕ) : Type 0 where
   pub same : length b′ ≡ length b
-  pub is : p + length ws ≤ length b → b′ ≡ over b p ws
+  pub behind : List ℕ
+  pub is : p + length ws ≤ length b → b′ ≡ take p b ++ (ws ++ behind)
 
 -- what a literal holds was written
 pub record Filled (s : List ℕ) (t : Cut) (b b′ : List ℕ) (p : ℕ) : Type 0 where
@@ -225,15 +224,6 @@ pub record Bracketed (s : List ℕ) (at pos place mark : ℕ) : Type 0 where
   pub opened : Opened s at pos place
   pub known : indicatorNumber (indicatorFor mark) ≡ mark
 
-pub record Loop (s : List ℕ) (at pos closer : ℕ) : Type 0 where
-  pub room : Room s at pos
-  pub closes : shapeCode (shapeFor closer) ≡ closer
-
--- before an item and a token that follows it
-pub record Ahead (s : List ℕ) (at pos code : ℕ) : Type 0 where
-  pub room : Room s at pos
-  pub some : 11 ≤ code
-
 -- before chunks of a kind
 pub record Strings (s : List ℕ) (at pos kind : ℕ) : Type 0 where
   pub room : Room s at pos
@@ -254,7 +244,8 @@ pub record MovedOn (s b b′ : List ℕ) (most pos : ℕ) (m : MadeS) (x : View)
   pub stands : Stands (marked s) (m .next) r
   pub sized : m .size ≡ length (x .bytes)
   pub counted : m .count ≡ x .count
-  pub noted : m .note ≡ x .note
+  pub indicated : m .indicator ≡ x .indicator
+  pub tells : Tells (x .held) (m .binary) (m .length)
   pub many : x .count ≤ m .size
   pub short : m .size + 9 * length r ≤ 9 * most
   pub wrote : Wrote b b′ pos (x .bytes)
@@ -279,10 +270,10 @@ After v s b b′ most pos a (refuse k q) = Denied s a k q
 pub record ReadTold {A : Type 0} (v : A → View) (s b b′ : List ℕ) (most pos : ℕ) (a : ReadAnswer) (res : Result A) : Type 0 where
   pub after : After v s b b′ most pos a res
 
--- the same of chunks, whose note is their kind
+-- the same of chunks of a kind
 pub record ChunksTold (kind : ℕ) (s b b′ : List ℕ) (most pos : ℕ) (a : ReadAnswer) (res : Result Chunks) : Type 0 where
   pub told : ReadTold (ofChunks (kindFor kind)) s b b′ most pos a res
-  pub kept : (m : MadeS) → a ≡ Made m → m .note ≡ kind
+  pub kept : (m : MadeS) → a ≡ Made m → (m .binary ≡ isBytesBy kind) × (m .length ≡ m .count)
 
 -- a refusal at a token that may not stand where it does
 pub record Strayed (d : ℕ) (t : Cut) (a : ReadAnswer) : Type 0 where
@@ -300,12 +291,23 @@ pub record Denies (k at : ℕ) (a : ReadAnswer) : Type 0 where
 
 -- a thing was written at pos that v is the view of
 pub record Gave (b b′ : List ℕ) (pos next : ℕ) (a : ReadAnswer) (v : View) : Type 0 where
-  pub is : a ≡ Made (record { next = next; size = length (v .bytes); count = v .count; note = v .note })
+  pub made : MadeS
+  pub is : a ≡ Made made
+  pub next-is : made .next ≡ next
+  pub sized : made .size ≡ length (v .bytes)
+  pub counted : made .count ≡ v .count
+  pub indicated : made .indicator ≡ v .indicator
+  pub tells : Tells (v .held) (made .binary) (made .length)
   pub wrote : Wrote b b′ pos (v .bytes)
+
+-- a head was written, which has r bytes
+pub record HeadWritten (b b′ : List ℕ) (pos first n r : ℕ) : Type 0 where
+  pub wrote : Wrote b b′ pos (headBytes first n)
+  pub size : HeadSize first r
 
 -- a leaf: its head
 pub record Leafed (t : Cut) (b b′ : List ℕ) (pos : ℕ) (a : ReadAnswer) : Type 0 where
-  pub is : a ≡ Made (record { next = t .next; size = length (headBytes (initialBy t) (t .number)); count = 1; note = 0 })
+  pub is : a ≡ Made (record { next = t .next; size = length (headBytes (initialBy t) (t .number)); count = 1; indicator = 0; binary = false; length = 0 })
   pub wrote : Wrote b b′ pos (headBytes (initialBy t) (t .number))
 
 -- a string's head and content
@@ -325,25 +327,21 @@ pub record LiteralIs (s : List ℕ) (t : Cut) (k : Kind) (z : Size) (c : List �
 pub record LiteralTold (s : List ℕ) (t : Cut) (b b′ : List ℕ) (pos : ℕ) (a : ReadAnswer) : Type 0 where
   pub is : (k : Kind) (z : Size) (c : List ℕ) → LiteralIs s t k z c → Gave b b′ pos (t .next) a (ofItem (literalItem k z c))
 
--- a container: a head of a width, by its number, was put before what m has, or is refused at a place
-pub record Finished (b b′ : List ℕ) (pos major width n : ℕ) (m : MadeS) (place note : ℕ) (a : ReadAnswer) : Type 0 where
-  pub refused : width ≡ 0 → Denies badIndicator place a
-  pub made : (width ≡ 0 → ⊥) → a ≡ Made (record { next = m .next; size = length (headBytes (major * 32 + infoBy width n) n) + m .size; count = 1; note = note })
-  pub closed : (width ≡ 0 → ⊥) → b′ ≡ headPut b pos (headBytes (major * 32 + infoBy width n) n) (m .size)
+-- a head was put, which has r bytes, before the size bytes that stood behind one byte of room for it
+pub record Closes (b b′ : List ℕ) (pos : ℕ) (hs : List ℕ) (size r : ℕ) : Type 0 where
+  pub is : (b₀ ws : List ℕ) → Wrote b₀ b (pos + 1) ws → size ≡ length ws → Wrote b₀ b′ pos (hs ++ ws)
+  pub sized : r ≡ length hs
 
--- a thing of indefinite length: the byte `first` was put before what m has, and a break behind it
-pub record Ended (b b′ : List ℕ) (pos first : ℕ) (m : MadeS) (note : ℕ) (a : ReadAnswer) : Type 0 where
+-- a container: a head as an indicator asks was put before what was read, or is refused at a place
+pub record Finished (b b′ : List ℕ) (pos major indicator n next size place : ℕ) (binary : Bool) (length′ : ℕ) (a : ReadAnswer) : Type 0 where
+  pub refused : chooseBy indicator n ≡ 0 → Denies badIndicator place a
+  pub made : (chooseBy indicator n ≡ 0 → ⊥)
+      → a ≡ Made (record { next = next; size = length (headBytes (major * 32 + infoBy (chooseBy indicator n) n) n) + size; count = 1; indicator = 0; binary = binary; length = length′ })
+  pub closed : (chooseBy indicator n ≡ 0 → ⊥) → (b₀ ws : List ℕ) → Wrote b₀ b (pos + 1) ws → size ≡ length ws → Wrote b₀ b′ pos (headBytes (major * 32 + infoBy (chooseBy indicator n) n) n ++ ws)
+
+-- a thing of indefinite length: the byte `first` was put before what was read, and a break behind it
+pub record Ended (b b′ : List ℕ) (pos first next size : ℕ) (binary : Bool) (length′ : ℕ) (a : ReadAnswer) : Type 0 where
   pub mid : List ℕ
-  pub front : Wrote b mid pos (first ∷ [])
-  pub back : Wrote mid b′ (pos + m .size + 1) (255 ∷ [])
-  pub is : a ≡ Made (record { next = m .next; size = m .size + 2; count = 1; note = note })
-
--- what becomes of an item m behind a tag's head of some bytes
-pub record TagMade (n size : ℕ) (m : MadeS) (place : ℕ) (a : ReadAnswer) : Type 0 where
-  pub refused : mayTagNoted n (m .note) ≡ false → Denies badTypedArray place a
-  pub made : mayTagNoted n (m .note) ≡ true → a ≡ Made (record { next = m .next; size = min (size + m .size) (2 ^ 64 - 1); count = 1; note = 0 })
-
--- the answer for a value behind a key of some bytes
-unfoldable pub joinedAs : ℕ → ReadAnswer → ReadAnswer
-joinedAs size (Made m) = Made (record { next = m .next; size = min (size + m .size) (2 ^ 64 - 1); count = 1; note = 0 })
-joinedAs size (Refused e) = Refused e
+  pub front : mid ≡ overIfFits b pos (first ∷ [])
+  pub back : Wrote mid b′ (pos + size + 1) (255 ∷ [])
+  pub is : a ≡ Made (record { next = next; size = size + 2; count = 1; indicator = 0; binary = binary; length = length′ })

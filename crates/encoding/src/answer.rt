@@ -2,18 +2,33 @@
 use refusal::Refusal;
 use refusal::RefusalKind;
 use refusal::kind_of;
+use scanning::class::GREATER;
+use scanning::class::LESS;
+use scanning::class::OPEN_BRACE;
+use scanning::class::OPEN_BRACKET;
 use token::Token;
+use token::indicator::INDEFINITE;
+use token::indicator::NONE;
+use token::indicator::UNKNOWN;
+use token::kind::NO_TOKEN;
+use token::kind::TAG;
+use token::reason::BAD_INDICATOR;
+use token::reason::NOT_ALLOWED;
+use token::reason::TOO_DEEP;
 ghost use mathlib.Core.Path.{_≡_};
+ghost use mathlib.Core.Bool.{false};
 ghost use Rattle.refusal.specs.RefusalKinds.{kindNumber};
 ghost use Rattle.encoding.specs.ReadAnswers.{strayBy, Strayed, Denies};
 
-// What was read: where it goes on, how many bytes it has, how many things it is, and a note: of items the indicator that closed them, of
-// an item 0, or for a byte string one more than its length.
+// What was read: where the text goes on; how many bytes were made, and how many things they are; the indicator on the token that closed
+// them; whether the last item is a byte string, and then how long its content is.
 pub struct MadeItem {
     pub next: usize,
     pub size: usize,
     pub count: usize,
-    pub note: usize,
+    pub indicator: u8,
+    pub binary: bool,
+    pub length: usize,
 }
 
 pub enum ReadAnswer {
@@ -27,48 +42,58 @@ pub fn refuse(kind: RefusalKind, place: usize) -> ReadAnswer
     ReadAnswer::Refused(Refusal { kind, place })
 }
 
-pub fn done(next: usize, size: usize, count: usize, note: usize) -> ReadAnswer
-    ensures { λ r. ⌜ r ≡ ReadAnswer.Made (record { next = next; size = size; count = count; note = note }) ⌝ }
+// One item.
+pub fn done(next: usize, size: usize, binary: bool, length: usize) -> ReadAnswer
+    ensures { λ r. ⌜ r ≡ ReadAnswer.Made (record { next = next; size = size; count = 1; indicator = 0; binary = binary; length = length }) ⌝ }
+{
+    ReadAnswer::Made(MadeItem {
+        next,
+        size,
+        count: 1,
+        indicator: NONE,
+        binary,
+        length,
+    })
+}
+
+// Several things.
+pub fn listed(next: usize, size: usize, count: usize, indicator: u8) -> ReadAnswer
+    ensures { λ r. ⌜ r ≡ ReadAnswer.Made (record { next = next; size = size; count = count; indicator = indicator; binary = false; length = 0 }) ⌝ }
 {
     ReadAnswer::Made(MadeItem {
         next,
         size,
         count,
-        note,
+        indicator,
+        binary: false,
+        length: 0,
     })
 }
 
-// The answer at a closing token, whose note is a byte.
-pub fn closed(next: usize, size: usize, count: usize, note: u8) -> ReadAnswer
-    ensures { λ r. ⌜ r ≡ ReadAnswer.Made (record { next = next; size = size; count = count; note = note }) ⌝ }
-{
-    done(next, size, count, note as usize)
-}
-
 // The number of the refusal of a token that may not stand where it does, or of what is no token.
-pub(crate) fn stray_number(levels: usize, code: u8, mark: u8) -> u8
-    ensures { λ r. ⌜ r ≡ strayBy levels code mark ⌝ }
+pub(crate) fn stray_number(levels: usize, kind: u8, indicator: u8) -> u8
+    ensures { λ r. ⌜ r ≡ strayBy levels kind indicator ⌝ }
 {
-    if code == 0 {
-        return mark;
+    if kind == NO_TOKEN {
+        return indicator;
     }
-    if code == 20 {
-        return match mark {
-            1 => 9,
-            2 => 9,
-            _ => 11,
+    if kind == GREATER {
+        return match indicator {
+            INDEFINITE => BAD_INDICATOR,
+            UNKNOWN => BAD_INDICATOR,
+            _ => NOT_ALLOWED,
         };
     }
     if levels == 0 {
-        return match code {
-            6 => 10,
-            15 => 10,
-            17 => 10,
-            19 => 10,
-            _ => 11,
+        return match kind {
+            TAG => TOO_DEEP,
+            OPEN_BRACKET => TOO_DEEP,
+            OPEN_BRACE => TOO_DEEP,
+            LESS => TOO_DEEP,
+            _ => NOT_ALLOWED,
         };
     }
-    11
+    NOT_ALLOWED
 }
 
 pub fn strayed(levels: usize, t: Token) -> ReadAnswer

@@ -1,35 +1,54 @@
 // The heads of tokens: of integers and simple values, of literals, of tags.
 use crate::answer::ReadAnswer;
 use crate::answer::done;
+use crate::major::BYTE_STRING;
+use crate::major::INDEFINITE_LENGTH;
+use crate::major::NEGATIVE_INTEGER;
+use crate::major::SIMPLE_VALUE;
+use crate::major::TAGGED;
+use crate::major::TEXT_STRING;
+use crate::major::UNSIGNED_INTEGER;
 use token::Token;
+use token::indicator::FOUR_BYTES;
+use token::indicator::IMMEDIATE;
+use token::indicator::INDEFINITE;
+use token::indicator::NONE;
+use token::indicator::ONE_BYTE;
+use token::indicator::TWO_BYTES;
+use token::kind::BYTES;
+use token::kind::NEGATIVE;
+use token::kind::SIMPLE;
+use token::kind::TEXT;
+use token::kind::UNSIGNED;
 ghost use mathlib.Core.Path.{_≡_};
-ghost use Rattle.encoding.specs.ReadAnswers.{Informed, initialBy, MajorBy, HeadSize, Leafed};
+ghost use Rattle.encoding.specs.ReadAnswers.{Informed, initialBy, MajorBy, HeadSize, HeadWritten, Leafed};
 
-// The additional information of a head, by the number of its width or size; 0: the shortest.
+// The additional information of a head, by the width of its argument; NONE: the shortest.
 pub(crate) fn info_by(width: u8, n: u64) -> u8
     ensures { λ r. ⌜ Informed width n r ⌝ }
 {
     match width {
-        0 => head::shortest_info(n),
-        1 => 31,
-        3 => (n % 32) as u8,
-        4 => 24,
-        5 => 25,
-        6 => 26,
+        NONE => head::shortest_info(n),
+        INDEFINITE => INDEFINITE_LENGTH,
+        IMMEDIATE => (n % 32) as u8,
+        ONE_BYTE => 24,
+        TWO_BYTES => 25,
+        FOUR_BYTES => 26,
         _ => 27,
     }
 }
 
-pub fn major_by(code: u8) -> u8
-    ensures { λ r. ⌜ MajorBy code r ⌝ }
+// The major type of a kind of token.
+pub fn major_by(kind: u8) -> u8
+    ensures { λ r. ⌜ MajorBy kind r ⌝ }
 {
-    match code {
-        1 => 0,
-        2 => 1,
-        3 => 7,
-        4 => 3,
-        5 => 2,
-        _ => 6,
+    match kind {
+        UNSIGNED => UNSIGNED_INTEGER,
+        NEGATIVE => NEGATIVE_INTEGER,
+        SIMPLE => SIMPLE_VALUE,
+        TEXT => TEXT_STRING,
+        BYTES => BYTE_STRING,
+        _ => TAGGED,
     }
 }
 
@@ -49,11 +68,23 @@ pub fn head_size(initial: u8) -> usize
     head::argument_size(initial % 32) + 1
 }
 
+// Writes a head, if it fits, and answers its size. Mostly it is one byte.
+pub fn put_head(buf: &mut [u8], pos: usize, first: u8, n: u64) -> usize
+    ensures { λ r. ⌜ HeadWritten (now (buf .entry)) (now (buf .exit)) pos first n r ⌝ }
+{
+    let size = head_size(first);
+    if size == 1 {
+        buffer::put(buf, pos, first);
+        return 1;
+    }
+    head::write_head(buf, pos, first, n);
+    size
+}
+
 // A leaf is its head.
 pub fn leaf(t: Token, buf: &mut [u8], pos: usize) -> ReadAnswer
     ensures { λ r. ⌜ Leafed t (now (buf .entry)) (now (buf .exit)) pos r ⌝ }
 {
-    let first = initial(t);
-    head::write_head(buf, pos, first, t.number);
-    done(t.next, head_size(first), 1, 0)
+    let size = put_head(buf, pos, initial(t), t.number);
+    done(t.next, size, false, 0)
 }

@@ -2,3 +2,4 @@
 pub mod answer;
 pub mod close;
 pub mod heads;
+pub mod major;

@@ -7,19 +7,19 @@ use Prim.Native.Nat.{ℕ, zero, suc, _+_, _-_, _*_, _/_, _%_, _^_, _≤_, _<_}
 use native.Mathlib.Numerals.{add-one}
 use native.Mathlib.Nat.{add-zero, sub-zero, pow-suc, pow-le-pow-right}
 use native.Mathlib.Omega.{arith}
-use lib.Dec.{T, leb, eqb, eqb→eq}
+use lib.Dec.{T, leb, ltb, eqb, eqb→eq}
 use lib.ListN.{length, take, drop, set, getD, length-append, length-drop, length-set, drop-of-length-le}
 use lib.Seq.{drop-cons}
 use mir.Syntax.{w8 as bits8, w64 as bits64}
 use mir.Val.{Fits}
-use borrow.Author.Tests.{le-leb, lt-leb, eq-eqb, ne-eqb}
+use borrow.Author.Tests.{leb-true, leb-false, le-leb, lt-leb, le-ltb, ltb-true, ltb-false, eq-eqb, ne-eqb}
 use Rattle.cbor.specs.Refusals.{Result, ok, refuse, bind, float, endsInside, notWellFormed}
 use Rattle.cbor.specs.Widths.{Width, w0, w1, w2, w4, w8, argumentBytes, limit, fits, shortest, information, bigEndian, valueFrom}
 use Rattle.cbor.specs.Items.{Size, definite, indefinite}
 use Rattle.cbor.specs.Heads.{Major, integers, strings, arrays, maps, tags, simples, majorNumber, majorOf, initial, head, Head, Information, argument, reserved, openEnded, informationOf, isFloat, isAllowed, isIndefinite, taking, started, argued, headBy, nextHead}
 use Rattle.refusal.specs.RefusalKinds.{kindNumber}
 use Rattle.memory.specs.Buffer.{over, overIfFits}
-use Rattle.head.specs.HeadAnswers.{HeadTold, headFound as toldHead, headRefused, headTold, sizeInformation, headFrom, headAt, formBy, formOf, Formed, Widened, Inside, argumentBy, leastArgument, argumentSize, headBytes}
+use Rattle.head.specs.HeadAnswers.{HeadTold, headFound as toldHead, headRefused, headTold, sizeInformation, headFrom, headAt, formBy, formOf, Formed, Widened, Inside, argumentBy, leastArgument, argumentSize, argumentAt, Little, Short, HeadRoom, HeadEnd, headBytes}
 use Rattle.head.specs.declared.HeadRead.the-variants as HeadRead
 use Rattle.refusal.specs.declared.RefusalKind.{RefusalKind}
 use Rattle.refusal.specs.declared.RefusalKind.the-variants.{Float, EndsInside, NotWellFormed}
@@ -433,6 +433,15 @@ module _ (s : List ℕ) (at : ℕ) (h : at < length s) where
             q ∙ telling (majorAt s at) indefinite 0 (drop (at + 1) s) r refl i (at + 1) p
         go (isRefused c y z l′ u′ o) = absurd (omega (arith, k .is))
 
+    open-low : f ≡ 31 → lowAt s at ≡ 31
+    unfolding formOf infoBy
+    open-low e = go (formView (majorAt s at) (saysAt s at))
+      where
+        go : Form (majorAt s at) (saysAt s at) (formBy (majorAt s at) (saysAt s at)) → lowAt s at ≡ 31
+        go (isArgument w x y z) = absurd (omega (arith, k .is))
+        go (isOpen x y z) = sym (sym (ap (λ (c : Information). infoBy c (lowAt s at)) x) ∙ facts .info)
+        go (isRefused c y z l′ u′ o) = absurd (omega (arith, k .is))
+
     module _ (n₁ : f ≡ 6 → ⊥) (n₂ : f ≡ 16 → ⊥) (n₃ : f ≡ 31 → ⊥) {size : ℕ} (es : size ≡ argumentSize (getD s at 0 % 32)) where
       record Given : Type 0 where
         width : Width
@@ -493,6 +502,117 @@ pub ruleset head-ways = (head-end, head-float, head-bad, head-open, head-short, 
 -- the bytes of the argument stand there
 pub argument-room : {s : List ℕ} {at : ℕ} (size i : ℕ) → at < length s → size ≡ argumentSize i → size < length s - at → Inside s (at + 1) size
 argument-room size i h e l = record { inside = omega arith; short = omega (arith, size-most i) }
+
+-- `head_end` and `head_argument`: the same ways
+module _ {s : List ℕ} {from b size : ℕ} where
+  pub little-no : (b ≡ 0xf8 → ⊥) → Little s from b size false
+  little-no h = record { is = sym (le-ltb (argumentBy size (b % 32) (take size (drop from s))) (leastArgument b) (omega (arith, least-none b h))) }
+
+  pub little-some : {x : ℕ} → b ≡ 0xf8 → x ≡ argumentBy size (b % 32) (take size (drop from s)) → Little s from b size (ltb x 32)
+  little-some e h = record { is = λ j. ltb (h j) (least-some b e j) }
+
+pub ruleset little-ways = (little-no, little-some)
+
+pub argument-open : (s : List ℕ) (at : ℕ) {f : ℕ} → Formed (getD s at 0) f → f ≡ 31 → 0 ≡ argumentAt s at
+unfolding argumentAt
+argument-open s at k e = sym (rw (eq-eqb (formOf (getD s at 0)) 31 (sym (k .is) ∙ e), argumentAt))
+
+pub argument-wide : (s : List ℕ) (at : ℕ) {f size n : ℕ} → Formed (getD s at 0) f → (f ≡ 31 → ⊥) → size ≡ argumentSize (getD s at 0 % 32) → n ≡ argumentBy size (getD s at 0 % 32) (take size (drop (at + 1) s))
+    → n ≡ argumentAt s at
+unfolding argumentAt
+argument-wide s at {f} {size} {n} k x e h =
+    (rw e at h) ∙ sym (rw (ne-eqb (formOf (getD s at 0)) 31 (λ z. x (k .is ∙ z)), argumentAt))
+
+low-size : (i : ℕ) → i < 24 → 0 ≡ argumentSize i
+low-size i h = size-none i (omega arith) (omega arith) (omega arith) (omega arith)
+
+low-formed : (b : ℕ) {t : Bool} → Short b t → t ≡ true → Formed b 0
+low-formed b k e = form-small b (record { fits = k .byte }) (omega (arith, k .is e))
+
+pub argument-low : (s : List ℕ) (at : ℕ) {t : Bool} {n : ℕ} → Short (getD s at 0) t → t ≡ true → Widened (getD s at 0 % 32) n → n ≡ argumentAt s at
+argument-low s at k e w =
+    argument-wide s at (low-formed (getD s at 0) k e) (omega arith) (low-size (getD s at 0 % 32) (k .is e)) (argument-none 0 (take 0 (drop (at + 1) s)) refl w)
+
+pub ruleset argued-ways = (argument-low, argument-open, argument-wide)
+
+pub argued-room : (s : List ℕ) (at : ℕ) {size : ℕ} → HeadRoom s at → size ≡ argumentSize (getD s at 0 % 32) → Inside s (at + 1) size
+argued-room s at h e = record { inside = omega (arith, h .inside); short = omega (arith, size-most (getD s at 0 % 32)) }
+
+module _ {s : List ℕ} {at : ℕ} where
+  ends-lost : (n q : ℕ) → headRefused n q ≡ headAt s at → HeadEnd s at 0
+  ends-lost n q e =
+      record {
+        room = λ z. absurd (z refl);
+        found = λ z. absurd (z refl);
+        lost = λ z m i a b h. let o : _≡_ {A = ℕ} 0 1 = cc in omega arith;
+      }
+
+  ends-at : {r : ℕ} → 0 < r → HeadRoom s at → toldHead (getD s at 0 / 32) (getD s at 0 % 32) (argumentAt s at) r ≡ headAt s at → HeadEnd s at r
+  ends-at p i e = record { room = λ z. i; found = λ z. e; lost = λ z m j a b h. absurd (omega (arith, p)) }
+
+  pub ends-none : length s ≤ at → HeadEnd s at 0
+  unfolding kindNumber
+  ends-none h = ends-lost endsInside (length s) (head-end s at h refl)
+
+  pub ends-short : {t : Bool} → at < length s → Short (getD s at 0) t → t ≡ true → HeadEnd s at (at + 1)
+  ends-short h k e =
+      let l = k .is e in
+      let w : Widened (getD s at 0 % 32) (getD s at 0 % 32) = record { is = refl; byte = omega arith } in
+      let n : argumentAt s at ≡ argumentBy 0 (getD s at 0 % 32) (take 0 (drop (at + 1) s)) = sym (argument-low s at k e w) ∙ argument-none 0 (take 0 (drop (at + 1) s)) refl w in
+      let x : getD s at 0 ≡ 0xf8 → ⊥ = λ e. let y : getD s at 0 % 32 ≡ 24 = ap (λ (b : ℕ). b % 32) e in omega arith in
+      let p : at + 1 + 0 ≡ at + 1 = omega arith in
+      let z = low-size (getD s at 0 % 32) l in
+      ends-at (omega arith) (record { inside = omega arith })
+      (head-found s at h 0 (low-formed (getD s at 0) k e) (omega arith) (omega arith) (omega arith) z (omega arith) n (least-none (getD s at 0) x) (omega arith)
+      (ap (toldHead (getD s at 0 / 32) (getD s at 0 % 32) (argumentAt s at)) (sym p)))
+
+  module _ (h : at < length s) {f : ℕ} (k : Formed (getD s at 0) f) where
+    pub ends-float : f ≡ 6 → HeadEnd s at 0
+    ends-float e = ends-lost _ _ (head-float s at h f k e refl)
+
+    pub ends-bad : f ≡ 16 → HeadEnd s at 0
+    ends-bad e = ends-lost _ _ (head-bad s at h f k e refl)
+
+    pub ends-open : f ≡ 31 → HeadEnd s at (at + 1)
+    unfolding argumentSize
+    ends-open e =
+        let z : 0 ≡ argumentSize (getD s at 0 % 32) = rw (open-low s at h f k e) in
+        ends-at (omega arith) (record { inside = omega arith })
+        (head-open s at h f k e (ap (λ (n : ℕ). toldHead (getD s at 0 / 32) (getD s at 0 % 32) n (at + 1)) (sym (argument-open s at k e))))
+
+    module _ (n₁ : f ≡ 6 → ⊥) (n₂ : f ≡ 16 → ⊥) (n₃ : f ≡ 31 → ⊥) {size : ℕ} (es : size ≡ argumentSize (getD s at 0 % 32)) where
+      pub ends-cut : length s - at ≤ size → HeadEnd s at 0
+      ends-cut l = ends-lost _ _ (head-short s at h f k n₁ n₂ n₃ es l refl)
+
+      module _ (l : size < length s - at) {t : Bool} (lt : Little s (at + 1) (getD s at 0) size t) where
+        pub ends-little : t ≡ true → HeadEnd s at 0
+        ends-little y = ends-lost _ _ (head-little s at h f k n₁ n₂ n₃ es l refl refl (ltb-true _ _ (sym (lt .is) ∙ y)) refl)
+
+        pub ends-found : t ≡ false → HeadEnd s at (at + 1 + size)
+        ends-found y =
+            let n = argument-wide s at k n₃ es refl in
+            let q : leastArgument (getD s at 0) ≤ argumentBy size (getD s at 0 % 32) (take size (drop (at + 1) s)) = ltb-false _ _ (sym (lt .is) ∙ y) in
+            ends-at (omega arith) (record { inside = omega arith }) (head-found s at h f k n₁ n₂ n₃ es l (sym n) refl (omega (arith, n)) refl)
+
+-- a head of a number or of a short argument, whose bytes are there
+pub ends-plain : {s : List ℕ} {at : ℕ} → getD s at 0 < 256 → getD s at 0 % 32 < 28 → (getD s at 0 / 32 ≡ 7 → getD s at 0 % 32 < 24) → at + argumentSize (getD s at 0 % 32) < length s
+    → HeadEnd s at (at + 1 + argumentSize (getD s at 0 % 32))
+ends-plain {s} {at} u l z h =
+    let x : getD s at 0 ≡ 0xf8 → ⊥ = λ e.
+    let m : getD s at 0 / 32 ≡ 7 = ap (λ (b : ℕ). b / 32) e in
+    let i : getD s at 0 % 32 ≡ 24 = ap (λ (b : ℕ). b % 32) e in
+    omega (arith, z m) in
+    ends-found (omega arith) (by (leb (getD s at 0 % 32) 24) refl) (omega arith) (omega arith) (omega arith) refl (omega arith) (little-no x) refl
+  where
+    by : (t : Bool) → leb (getD s at 0 % 32) 24 ≡ t → Formed (getD s at 0) 0
+    by true e = form-small (getD s at 0) (record { fits = u }) (leb-true (getD s at 0 % 32) 24 e)
+    by false e =
+        let a = leb-false (getD s at 0 % 32) 24 e in
+        form-wide (getD s at 0) (record { fits = u }) a (omega arith) (λ m. omega (arith, z m))
+
+pub ruleset ends-ways = (ends-none, ends-short)
+
+pub ruleset long-ways = (ends-float, ends-bad, ends-open, ends-cut, ends-little, ends-found)
 
 -- NUMBERS AND HEADS, WRITTEN
 

@@ -2,9 +2,9 @@
 use Prim.Native.Nat.{ℕ, _+_, _-_, _/_, _%_, _≤_, _<_}
 use mathlib.Core.Path.{_≡_}
 use mathlib.Core.List.{List, _∷_}
-use mathlib.Core.Bool.{true, false}
-use lib.Dec.{eqb}
-use lib.ListN.{length, drop}
+use mathlib.Core.Bool.{Bool, true, false}
+use lib.Dec.{ltb, eqb}
+use lib.ListN.{length, take, drop, getD}
 use Rattle.cbor.specs.Refusals.{Result, ok, refuse, float, notWellFormed}
 use Rattle.cbor.specs.Widths.{information, bigEndian, valueFrom}
 use Rattle.cbor.specs.Items.{Size, definite, indefinite}
@@ -67,11 +67,38 @@ argumentBy size i bs = elim (eqb size 0) [ true ↦ i | false ↦ valueFrom 0 bs
 unfoldable pub leastArgument : ℕ → ℕ
 leastArgument b = elim (eqb b 0xf8) [ true ↦ 32 | false ↦ 0 ]
 
--- WRITING
-
 -- how many bytes hold the argument, by the additional information
 unfoldable pub argumentSize : ℕ → ℕ
 argumentSize i = elim (eqb i 24) [ true ↦ 1 | false ↦ elim (eqb i 25) [ true ↦ 2 | false ↦ elim (eqb i 26) [ true ↦ 4 | false ↦ elim (eqb i 27) [ true ↦ 8 | false ↦ 0 ] ] ] ]
+
+-- whether the argument, of `size` bytes from a place on, is below the least that its initial byte b may have
+pub record Little (s : List ℕ) (from b size : ℕ) (t : Bool) : Type 0 where
+  pub is : t ≡ ltb (argumentBy size (b % 32) (take size (drop from s))) (leastArgument b)
+
+-- if t, the additional information of an initial byte is the argument
+pub record Short (b : ℕ) (t : Bool) : Type 0 where
+  pub is : t ≡ true → b % 32 < 24
+  pub byte : b < 256
+
+-- the argument of the head at a place: an indefinite length has none
+unfoldable pub argumentAt : List ℕ → ℕ → ℕ
+argumentAt s at =
+    elim (eqb (formOf (getD s at 0)) 31) [
+      | true ↦ 0
+      | false ↦ argumentBy (argumentSize (getD s at 0 % 32)) (getD s at 0 % 32) (take (argumentSize (getD s at 0 % 32)) (drop (at + 1) s))
+    ]
+
+-- the bytes of its argument stand behind the initial byte
+pub record HeadRoom (s : List ℕ) (at : ℕ) : Type 0 where
+  pub inside : at + argumentSize (getD s at 0 % 32) < length s
+
+-- the head at a place ends at r; 0: it is refused
+pub record HeadEnd (s : List ℕ) (at r : ℕ) : Type 0 where
+  pub room : (r ≡ 0 → ⊥) → HeadRoom s at
+  pub found : (r ≡ 0 → ⊥) → headFound (getD s at 0 / 32) (getD s at 0 % 32) (argumentAt s at) r ≡ headAt s at
+  pub lost : r ≡ 0 → (m i n e : ℕ) → headFound m i n e ≡ headAt s at → ⊥
+
+-- WRITING
 
 -- the bytes of a head, from its initial byte
 unfoldable pub headBytes : ℕ → ℕ → List ℕ

@@ -2,12 +2,12 @@
 use refusal::Refusal;
 use refusal::RefusalKind;
 ghost use mathlib.Core.Path.{_≡_};
-ghost use Prim.Native.Nat.{_/_, _%_};
-ghost use lib.ListN.{take, drop};
+ghost use Prim.Native.Nat.{_/_, _%_, _<_};
+ghost use lib.ListN.{length, take, drop};
 ghost use Rattle.cbor.specs.Widths.{shortest, information, bigEndian, valueFrom};
 ghost use Rattle.memory.specs.Buffer.{overIfFits};
 ghost use Rattle.refusal.specs.RefusalKinds.{kindNumber};
-ghost use Rattle.head.specs.HeadAnswers.{headFound, headRefused, headTold, headAt, argumentSize, headBytes, Formed, Widened, Inside, argumentBy, leastArgument};
+ghost use Rattle.head.specs.HeadAnswers.{headFound, headRefused, headTold, headAt, argumentSize, headBytes, Formed, Widened, Inside, argumentBy, leastArgument, Little, argumentAt, Short, HeadRoom, HeadEnd};
 
 // A head that was read. Its additional information is the argument itself up to 23, 24 to 27 where the argument is in the
 // bytes behind it, and 31 where the length is indefinite, or at a break; the argument is 0 there. It ends before `end`.
@@ -144,6 +144,79 @@ pub fn read_head(bytes: &[u8], at: usize) -> HeadRead
         return refuse(RefusalKind::NotWellFormed, at);
     }
     found(initial, argument, at + 1 + size)
+}
+
+// Whether an argument is below the least that its initial byte may have.
+fn is_little(bytes: &[u8], from: usize, initial: u8, size: usize) -> bool
+    requires { ⌜ Inside (now bytes) from size ⌝ }
+    ensures { λ r. ⌜ Little (now (bytes .entry)) from initial size r ⌝ }
+{
+    if initial != 0xf8 {
+        return false;
+    }
+    argument_at(bytes, from, initial % 32, size) < 32
+}
+
+// Whether a head is its initial byte alone, with the argument in it.
+fn is_short(initial: u8) -> bool
+    ensures { λ r. ⌜ Short initial r ⌝ }
+{
+    initial % 32 < 24
+}
+
+// Where another head at a place ends, 0 where it is refused.
+fn long_end(bytes: &[u8], at: usize) -> usize
+    requires { ⌜ at < length (now bytes) ⌝ }
+    ensures { λ r. ⌜ HeadEnd (now (bytes .entry)) at r ⌝ }
+{
+    let initial = bytes[at];
+    let f = form(initial);
+    if f == 6 {
+        return 0;
+    }
+    if f == 16 {
+        return 0;
+    }
+    if f == 31 {
+        return at + 1;
+    }
+    let size = argument_size(initial % 32);
+    if bytes.len() - at <= size {
+        return 0;
+    }
+    if is_little(bytes, at + 1, initial, size) {
+        return 0;
+    }
+    at + 1 + size
+}
+
+// Where the head at a place ends, 0 where it is refused: of what `read_head` answers, the part that a walk asks for most.
+pub fn head_end(bytes: &[u8], at: usize) -> usize
+    ensures { λ r. ⌜ HeadEnd (now (bytes .entry)) at r ⌝ }
+{
+    if bytes.len() <= at {
+        return 0;
+    }
+    if is_short(bytes[at]) {
+        return at + 1;
+    }
+    long_end(bytes, at)
+}
+
+// The argument of a head that is not refused.
+pub fn head_argument(bytes: &[u8], at: usize) -> u64
+    requires { ⌜ HeadRoom (now bytes) at ⌝ }
+    ensures { λ r. ⌜ r ≡ argumentAt (now (bytes .entry)) at ⌝ }
+{
+    let initial = bytes[at];
+    let info = initial % 32;
+    if is_short(initial) {
+        return wide(info);
+    }
+    if form(initial) == 31 {
+        return 0;
+    }
+    argument_at(bytes, at + 1, info, argument_size(info))
 }
 
 // The additional information of the shortest head for an argument.

@@ -1,280 +1,258 @@
--- Hexadecimal text: a step at each byte, and the loops that count and write what it stands for.
+-- Hexadecimal text: pairs side by side, a byte whose digits may stand apart, and the loop over both.
 -- Assumes nothing.
-use mathlib.Core.Path.{_≡_, refl, sym, ap, _∙_, subst⁻¹}
-use mathlib.Core.List.{List, [], _∷_, _++_, append-assoc, append-nil}
+use mathlib.Core.Path.{_≡_, refl, sym, ap, _∙_}
+use mathlib.Core.List.{List, [], _∷_}
 use mathlib.Core.Bool.{Bool, true, false}
-use Prim.Native.Nat.{ℕ, zero, suc, _+_, _-_, _*_, _≤_, _<_, min}
+use Prim.Native.Nat.{ℕ, zero, suc, _+_, _-_, _*_, _/_, _≤_, _<_, min}
+use native.Mathlib.Numerals.{add-one}
 use native.Mathlib.Omega.{arith}
-use lib.Dec.{leb, eqb}
-use lib.ListN.{length, take, drop, getD, length-append}
-use borrow.Author.Tests.{eq-eqb, ne-eqb, lt-ltb, le-ltb, leb-true, leb-false}
-use Rattle.memory.specs.Buffer.{over}
-use Rattle.notation.specs.Classes.{blank, is}
-use Rattle.notation.specs.Numbers.{digitValue, isDigit}
-use Rattle.notation.specs.Literals.{Content, standsFor, bad, after, Commenting, noComment, inSlash, inHash, Half, noHalf, high, halfEnd, hexDigit, hexFrom, hexContent}
-use Rattle.literal_body.specs.LiteralAnswers.{digitNumber, decodedBy, Decodes, Put, Fills, few}
-use Rattle.hex.specs.HexAnswers.{commentingOf, halfOf, hexNext, HexMoved, hexEndedBy, HexEnded}
-use Rattle.hex.specs.declared.HexStep.{HexStep}
-use Rattle.literal_body.proofs.LiteralCode.{slash-is, hash-is, digit-yes, digit-no, digit-number, front-part, part-end, put-none, put-more, after-nil, after-after, content-is, decodes}
+use lib.Dec.{T, leb, eqb}
+use lib.ListN.{length, take, drop, getD}
+use mir.Syntax.{w32 as bits32, w64 as bits64}
+use mir.Val.{Fits}
+use borrow.Author.Tests.{leb-true, leb-false}
+use Rattle.notation.specs.Numbers.{isDigit, digitValue}
+use Rattle.notation.specs.Literals.{standsFor, bad, after, noComment, noHalf, high, hexDigit, halfEnd, hexFrom, hexContent}
+use Rattle.scanning.specs.Stands.{span}
+use Rattle.literal_body.specs.LiteralAnswers.{digitNumber, Put}
+use Rattle.literal_body.specs.LiteralReading.{Before, Within, Yields, Progressed, DecodesInto}
+use Rattle.literal_body.specs.declared.Progress.{Progress}
+use Rattle.hex.specs.HexAnswers.{Blank, Gaps, ByteRead, pairWeight, Weighs, HexDigits, PairsPut}
+use Rattle.hex.specs.declared.HexByte.{HexByte}
+use Rattle.literal_body.proofs.LiteralCode.{true-false, digit-yes, digit-no, digit-number}
+use Rattle.literal_body.proofs.MatchCode.{arm}
+use Rattle.literal_body.proofs.ReadingCode.{span-step, span-over, progress-start, progress-more, progress-append, decodes-good, decodes-bad}
+use Rattle.hex.proofs.DigitCode.{digit-small, digit-front, two-digits, pair-yields}
+use Rattle.hex.proofs.PairsCode.{run-within}
 
--- CONTENT
+-- PAIRS
 
--- A STEP
+unfoldable pub weighs : ℕ → ℕ → Bool
+weighs k x = eqb x (pairWeight k)
 
-commenting : (m : ℕ) → (m ≡ 1 → ⊥) → (m ≡ 2 → ⊥) → commentingOf m ≡ noComment
-unfolding commentingOf
-commenting m n₁ n₂ = simp (commentingOf, ne-eqb m 1 n₁, ne-eqb m 2 n₂)
+pub weight-key : {b r k : ℕ} → b ≡ k → T (weighs k r) → Weighs b r
+unfolding weighs
+weight-key e t = record { is = arm pairWeight e t }
 
--- a byte that only changes the state
-stay : {r : HexStep} (m h b k h′ : ℕ) → eqb k 3 ≡ false → r ≡ record { mode = k; half = h′; count = 0; byte = 0 }
-    → ((s : List ℕ) → hexFrom (commentingOf m) (halfOf h) (b ∷ s) ≡ hexFrom (commentingOf k) (halfOf h′) s) → HexMoved m h b r
-unfolding hexNext few
-stay m h b k h′ n e f =
-    subst⁻¹ (HexMoved m h b) e
-    (record { is = λ s. f s ∙ sym (rw (n, hexNext) (after-nil (hexFrom (commentingOf k) (halfOf h′) s))); most = omega arith })
+abbrev pub weightKeys : List ℕ
+weightKeys = 0x30 ∷ 0x31 ∷ 0x32 ∷ 0x33 ∷ 0x34 ∷ 0x35 ∷ 0x36 ∷ 0x37 ∷ 0x38 ∷ 0x39 ∷ 0x41 ∷ 0x42 ∷ 0x43 ∷ 0x44 ∷ 0x45 ∷ 0x46 ∷ 0x61 ∷ 0x62 ∷ 0x63 ∷ 0x64 ∷ 0x65 ∷ 0x66 ∷ []
 
-half-none : (h : ℕ) → 16 ≤ h → halfOf h ≡ noHalf
-unfolding halfOf
-half-none h g = rw (le-ltb h 16 g, halfOf)
+weight-most : (b : ℕ) → pairWeight b ≤ 256
+unfolding pairWeight
+weight-most b = go (isDigit 16 b) refl
+  where
+    go : (t : Bool) → isDigit 16 b ≡ t → elim t [ true ↦ digitValue b | false ↦ 256 ] ≤ 256
+    go true e = omega (arith, digit-small b e)
+    go false e = omega arith
 
-half-high : (h : ℕ) → h < 16 → halfOf h ≡ high h
-unfolding halfOf
-half-high h g = rw (lt-ltb h 16 g, halfOf)
+weight-digit : (b : ℕ) → pairWeight b < 256 → (isDigit 16 b ≡ true) × (pairWeight b ≡ digitValue b)
+unfolding pairWeight
+weight-digit b = go (isDigit 16 b) refl
+  where
+    go : (t : Bool) → isDigit 16 b ≡ t → elim t [ true ↦ digitValue b | false ↦ 256 ] < 256 → (isDigit 16 b ≡ true) × (_≡_ {A = ℕ} (elim t [ true ↦ digitValue b | false ↦ 256 ]) (digitValue b))
+    go true e h = (e, refl)
+    go false e h = absurd (omega arith)
 
-hash-ends : (b : ℕ) (h : Half) (s : List ℕ) → eqb b 0x0a ≡ true → hexFrom inHash h (b ∷ s) ≡ hexFrom noComment h s
-unfolding hexFrom
-hash-ends b h s e = rw (e, hexFrom)
+pub weighed : List ℕ → ℕ → ℕ → ℕ
+weighed s at zero = 0
+weighed s at (suc k) = weighed s at k * 16 + pairWeight (getD s (at + k) 0)
 
-hash-goes : (b : ℕ) (h : Half) (s : List ℕ) → eqb b 0x0a ≡ false → hexFrom inHash h (b ∷ s) ≡ hexFrom inHash h s
-unfolding hexFrom
-hash-goes b h s e = rw (e, hexFrom)
+pub record Weighed (s : List ℕ) (at k w : ℕ) : Type 0 where
+  pub is : w ≡ weighed s at k
+  pub most : k ≤ 2
+  pub small : k < 2 → w ≤ 256
 
-module _ (m h b : ℕ) where
-  module _ (e : m ≡ 1) (u : b < 256) where
-    pub hex-slashed : {r : HexStep} → b ≡ 0x2f → r ≡ record { mode = 0; half = h; count = 0; byte = 0 } → HexMoved m h b r
-    unfolding commentingOf hexFrom
-    hex-slashed q p = stay m h b 0 h refl p (λ s. rw (e, slash-is b u ∙ eq-eqb b 0x2f q, hexFrom))
+pub weighed-start : (s : List ℕ) (at : ℕ) → Weighed s at 0 0
+unfolding weighed
+weighed-start s at = record { is = refl; most = omega arith; small = λ h. omega arith }
 
-    pub hex-slashing : {r : HexStep} → (b ≡ 0x2f → ⊥) → r ≡ record { mode = 1; half = h; count = 0; byte = 0 } → HexMoved m h b r
-    unfolding commentingOf hexFrom
-    hex-slashing q p = stay m h b 1 h refl p (λ s. rw (e, slash-is b u ∙ ne-eqb b 0x2f q, hexFrom))
+module _ {s : List ℕ} {at k w : ℕ} (inv : Weighed s at k w) where
+  module _ (h : k < 2) where
+    pub weighed-high : Fits bits32 (w * 16)
+    weighed-high = record { fits = omega (arith, inv .small h) }
 
-  module _ (e : m ≡ 2) where
-    pub hex-hashed : {r : HexStep} → b ≡ 0x0a → r ≡ record { mode = 0; half = h; count = 0; byte = 0 } → HexMoved m h b r
-    unfolding commentingOf hexFrom
-    hex-hashed q p = stay m h b 0 h refl p (λ s. rw e (hash-ends b (halfOf h) s (eq-eqb b 0x0a q)))
+    module _ {v : ℕ} (x : Weighs (getD s (at + k) 0) v) where
+      e : v ≡ pairWeight (getD s (at + k) 0)
+      e = x .is
 
-    pub hex-hashing : {r : HexStep} → (b ≡ 0x0a → ⊥) → r ≡ record { mode = 2; half = h; count = 0; byte = 0 } → HexMoved m h b r
-    unfolding commentingOf hexFrom
-    hex-hashing q p = stay m h b 2 h refl p (λ s. rw e (hash-goes b (halfOf h) s (ne-eqb b 0x0a q)))
+      pub weighed-sum : Fits bits32 (w * 16 + v)
+      weighed-sum = record { fits = omega (arith, inv .small h, weight-most (getD s (at + k) 0)) }
 
-  module _ (n₁ : m ≡ 1 → ⊥) (n₂ : m ≡ 2 → ⊥) (u : b < 256) {t : Bool} (x : t ≡ is blank b) where
-    pub hex-blank : {r : HexStep} → t ≡ true → r ≡ record { mode = 0; half = h; count = 0; byte = 0 } → HexMoved m h b r
-    unfolding commentingOf hexFrom
-    hex-blank q p = stay m h b 0 h refl p (λ s. rw (commenting m n₁ n₂, sym x ∙ q, hexFrom))
+      pub weighed-on : Weighed s at (k + 1) (w * 16 + v)
+      unfolding weighed
+      weighed-on = record { is = rw (add-one k) (λ i. inv .is i * 16 + e i); most = omega arith; small = λ g. first (omega arith) }
+        where
+          first : k ≡ 0 → w * 16 + v ≤ 256
+          first z = let y : w ≡ 0 = inv .is ∙ ap (weighed s at) z in omega (arith, weight-most (getD s (at + k) 0))
 
-    module _ (q : t ≡ false) where
-      pub hex-slash : {r : HexStep} → b ≡ 0x2f → r ≡ record { mode = 1; half = h; count = 0; byte = 0 } → HexMoved m h b r
-      unfolding commentingOf hexFrom
-      hex-slash q₁ p = stay m h b 1 h refl p (λ s. rw (commenting m n₁ n₂, sym x ∙ q, slash-is b u ∙ eq-eqb b 0x2f q₁, hexFrom))
+  pub weighed-end : 2 ≤ k → w ≡ pairWeight (getD s at 0) * 16 + pairWeight (getD s (at + 1) 0)
+  unfolding weighed
+  weighed-end l =
+      let e : k ≡ 2 = omega (arith, inv .most) in
+      let z : at + 0 ≡ at = omega arith in
+      let f : weighed s at k ≡ (0 * 16 + pairWeight (getD s (at + 0) 0)) * 16 + pairWeight (getD s (at + 1) 0) = ap (weighed s at) e in
+      let g : pairWeight (getD s (at + 0) 0) ≡ pairWeight (getD s at 0) = ap (λ (i : ℕ). pairWeight (getD s i 0)) z in
+      omega (arith, inv .is)
 
-      module _ (q₁ : b ≡ 0x2f → ⊥) where
-        pub hex-hash : {r : HexStep} → b ≡ 0x23 → r ≡ record { mode = 2; half = h; count = 0; byte = 0 } → HexMoved m h b r
-        unfolding commentingOf hexFrom
-        hex-hash q₂ p = stay m h b 2 h refl p (λ s. rw (commenting m n₁ n₂, sym x ∙ q, slash-is b u ∙ ne-eqb b 0x2f q₁, hash-is b u ∙ eq-eqb b 0x23 q₂, hexFrom))
+word-yields : (s : List ℕ) (at stop w : ℕ) → at + 2 ≤ stop → stop ≤ length s → w ≡ pairWeight (getD s at 0) * 16 + pairWeight (getD s (at + 1) 0) → w < 256 → Yields hexContent s stop at (at + 2) (w ∷ [])
+word-yields s at stop w h l e g =
+    let a = weight-digit (getD s at 0) (omega arith) in
+    let b = weight-digit (getD s (at + 1) 0) (omega arith) in
+    let f : w ≡ digitValue (getD s at 0) * 16 + digitValue (getD s (at + 1) 0) = e ∙ (λ i. a .1 i * 16 + b .1 i) in
+    rw f (pair-yields s at stop h l (a .0) (b .0))
 
-        module _ (q₂ : b ≡ 0x23 → ⊥) {v : ℕ} (d : v ≡ digitNumber b) where
-          digit : (s : List ℕ) → hexFrom (commentingOf m) (halfOf h) (b ∷ s)
-              ≡ elim (isDigit 16 b) [ true ↦ hexDigit (halfOf h) (digitValue b) (λ h′. hexFrom noComment h′ s) | false ↦ bad ]
-          unfolding hexFrom
-          digit s = rw (commenting m n₁ n₂, sym x ∙ q, slash-is b u ∙ ne-eqb b 0x2f q₁, hash-is b u ∙ ne-eqb b 0x23 q₂, hexFrom)
+-- with blanks behind
+yields-blank : {s : List ℕ} {stop from at r : ℕ} {ws : List ℕ} → Yields hexContent s stop from at ws → Blank s stop at r → Yields hexContent s stop from r ws
+unfolding hexContent
+yields-blank {ws = ws} x y =
+    record { is = x .is ∙ ap (after ws) (y .is noHalf); ahead = omega (arith, x .ahead, y .ahead); inside = omega (arith, x .inside, y .inside); short = omega (arith, x .short, y .ahead) }
 
-          pub hex-wrong : {r : HexStep} → 16 ≤ v → r ≡ record { mode = 3; half = h; count = 0; byte = 0 } → HexMoved m h b r
-          unfolding hexNext
-          hex-wrong l p =
-              let l′ : 16 ≤ digitNumber b = omega arith in
-              subst⁻¹ (HexMoved m h b) p (record { is = λ s. digit s ∙ rw (digit-no 16 b l′); most = omega arith })
+-- the loop over pairs
+module _ {s : List ℕ} {stop from : ℕ} {b b₁ : List ℕ} {pos at p size : ℕ} (i : Within s from stop) (inv : Progressed hexContent s stop from b b₁ pos (record { next = at; pos = p; size = size })) where
+  pub close-on : {b₂ : List ℕ} {w p′ r : ℕ} → 2 ≤ stop - at → w ≡ pairWeight (getD s at 0) * 16 + pairWeight (getD s (at + 1) 0) → w < 256 → Put b₁ b₂ p p′ (w ∷ []) → Blank s stop (at + 2) r
+      → Progressed hexContent s stop from b b₂ pos (record { next = r; pos = p′; size = size + 1 })
+  close-on {b₂} {w} {p′} {r} h e g x y = progress-more inv (yields-blank (word-yields s at stop w (omega arith) (i .inside) e g) y) x refl
 
-          module _ (l : v < 16) where
-            isIt : isDigit 16 b ≡ true
-            isIt = let l′ : digitNumber b < 16 = omega arith in digit-yes 16 b l′ (omega arith)
+-- A BYTE
 
-            value : v ≡ digitValue b
-            value = d ∙ digit-number 16 b isIt
+nothing-left : (s : List ℕ) (stop i : ℕ) → stop ≤ i → hexContent (span i stop s) ≡ standsFor []
+unfolding hexContent hexFrom halfEnd
+nothing-left s stop i h = ap hexContent (span-over s i stop h)
 
-            pub hex-high : {r : HexStep} → 16 ≤ h → r ≡ record { mode = 0; half = v; count = 0; byte = 0 } → HexMoved m h b r
-            unfolding commentingOf hexDigit
-            hex-high g p =
-                stay m h b 0 v refl p
-                (λ s. digit s ∙ rw isIt
-                (ap (λ (x : Half). hexDigit x (digitValue b) (λ h′. hexFrom noComment h′ s)) (half-none h g) ∙ ap (λ (x : Half). hexFrom noComment x s) (ap high (sym value) ∙ sym (half-high v l))))
+module _ {s : List ℕ} {stop from i : ℕ} (l : stop ≤ length s) (w : from ≤ stop) (x : Gaps s stop from i) where
+  up : i ≤ stop
+  up = omega (arith, x .blank .inside)
 
-            pub hex-low : h < 16 → HexMoved m h b (record { mode = 0; half = 16; count = 1; byte = h * 16 + v })
-            unfolding commentingOf hexDigit hexNext few
-            hex-low g =
-                record {
-                  is = λ s. digit s ∙ rw isIt
-                      (ap (λ (x : Half). hexDigit x (digitValue b) (λ h′. hexFrom noComment h′ s)) (half-high h g)
-                      ∙ (λ j. after ((h * 16 + sym value j) ∷ []) (hexFrom noComment (sym (half-none 16 (omega arith)) j) s)));
-                  most = omega arith;
-                }
+  wrong-by : {r : HexByte} → hexContent (span i stop s) ≡ bad → i < stop → r ≡ record { missing = true; byte = 0; next = i } → ByteRead s stop from r
+  unfolding hexContent
+  wrong-by {r} e h p =
+      let f : hexContent (span from stop s) ≡ bad = x .blank .is noHalf ∙ e in
+      rw p
+      (record {
+        some = λ z. absurd (true-false z);
+        whole = λ z g. absurd (omega arith);
+        wrong = λ z g. f;
+        ahead = x .blank .ahead;
+        inside = up;
+      })
 
-pub ruleset hex-ways = (hex-slashed, hex-slashing, hex-hashed, hex-hashing, hex-blank, hex-slash, hex-hash, hex-wrong, hex-high, hex-low)
+  pub byte-none : {r : HexByte} → stop ≤ i → r ≡ record { missing = true; byte = 0; next = i } → ByteRead s stop from r
+  unfolding hexContent
+  byte-none h p =
+      let f : hexContent (span from stop s) ≡ standsFor [] = x .blank .is noHalf ∙ nothing-left s stop i h in
+      rw p
+      (record {
+        some = λ z. absurd (true-false z);
+        whole = λ z g. f;
+        wrong = λ z g. absurd (omega arith);
+        ahead = x .blank .ahead;
+        inside = up;
+      })
 
--- THE END
+  module _ (h : i < stop) {v : ℕ} (e : v ≡ digitNumber (getD s i 0)) where
+    pub byte-wrong : {r : HexByte} → 16 ≤ v → r ≡ record { missing = true; byte = 0; next = i } → ByteRead s stop from r
+    unfolding hexContent
+    byte-wrong g p =
+        let d : isDigit 16 (getD s i 0) ≡ false = digit-no 16 (getD s i 0) (omega arith) in
+        wrong-by (x .none h d noHalf) h p
 
-module _ (m h : ℕ) where
-  pub hex-end-slash : m ≡ 1 → HexEnded m h false
-  unfolding commentingOf hexFrom hexEndedBy
-  hex-end-slash e = record { is = rw e }
+    module _ (g : v < 16) {j : ℕ} (y : Gaps s stop (i + 1) j) where
+      isIt : isDigit 16 (getD s i 0) ≡ true
+      isIt = digit-yes 16 (getD s i 0) (omega arith) (omega arith)
 
-  pub hex-end-hash : m ≡ 2 → HexEnded m h false
-  unfolding commentingOf hexFrom hexEndedBy
-  hex-end-hash e = record { is = rw e }
+      after-high : hexContent (span i stop s) ≡ hexFrom noComment (high (digitValue (getD s i 0))) (span j stop s)
+      unfolding hexContent hexDigit
+      after-high = ap hexContent (span-step s i stop h l) ∙ digit-front (getD s i 0) noHalf (span (i + 1) stop s) isIt ∙ y .blank .is (high (digitValue (getD s i 0)))
 
-  pub hex-end-half : (m ≡ 1 → ⊥) → (m ≡ 2 → ⊥) → HexEnded m h (leb 16 h)
-  unfolding hexFrom halfOf halfEnd hexEndedBy
-  hex-end-half n₁ n₂ = record { is = ap (λ (k : Commenting). hexFrom k (halfOf h) []) (commenting m n₁ n₂) ∙ go (leb 16 h) refl }
-    where
-      go : (t : Bool) → leb 16 h ≡ t → halfEnd (halfOf h) ≡ hexEndedBy t
-      go true e = rw (le-ltb h 16 (leb-true 16 h e), halfOf)
-      go false e = rw (lt-ltb h 16 (leb-false 16 h e), halfOf)
+      pub byte-half : {r : HexByte} → stop ≤ j → r ≡ record { missing = true; byte = 0; next = i } → ByteRead s stop from r
+      unfolding hexFrom halfEnd
+      byte-half k p = wrong-by (after-high ∙ ap (hexFrom noComment (high (digitValue (getD s i 0)))) (span-over s j stop k)) h p
 
-pub ruleset hex-end-ways = (hex-end-slash, hex-end-hash, hex-end-half)
+      module _ (k : j < stop) {u : ℕ} (f : u ≡ digitNumber (getD s j 0)) where
+        pub byte-odd : {r : HexByte} → 16 ≤ u → r ≡ record { missing = true; byte = 0; next = i } → ByteRead s stop from r
+        byte-odd m p =
+            let d : isDigit 16 (getD s j 0) ≡ false = digit-no 16 (getD s j 0) (omega arith) in
+            wrong-by (after-high ∙ y .none k d (high (digitValue (getD s i 0)))) h p
 
--- THE LOOPS: `done` is read up to i
+        pub byte-whole : u < 16 → ByteRead s stop from (record { missing = false; byte = v * 16 + u; next = j + 1 })
+        unfolding hexContent
+        byte-whole m =
+            let q : isDigit 16 (getD s j 0) ≡ true = digit-yes 16 (getD s j 0) (omega arith) (omega arith) in
+            let a : v ≡ digitValue (getD s i 0) = e ∙ digit-number 16 (getD s i 0) isIt in
+            let b : u ≡ digitValue (getD s j 0) = f ∙ digit-number 16 (getD s j 0) q in
+            let c : hexContent (span i stop s) ≡ after ((v * 16 + u) ∷ []) (hexContent (span (j + 1) stop s)) =
+            ap hexContent (span-step s i stop h l)
+            ∙ two-digits (getD s i 0) (getD s j 0) (span (i + 1) stop s) (span (j + 1) stop s) isIt q (λ h′. y .blank .is h′ ∙ ap (hexFrom noComment h′) (span-step s j stop k l))
+            ∙ (λ n. after ((sym a n * 16 + sym b n) ∷ []) (hexContent (span (j + 1) stop s))) in
+            let o = x .blank .ahead in
+            let o′ = y .blank .ahead in
+            record {
+              some = λ z. record { is = x .blank .is noHalf ∙ c; ahead = omega arith; inside = omega arith; short = omega arith };
+              whole = λ z. absurd (true-false (sym z));
+              wrong = λ z. absurd (true-false (sym z));
+              ahead = omega arith;
+              inside = omega arith;
+            }
 
-pub record HexRun (s : List ℕ) (at end i m h : ℕ) (done : List ℕ) : Type 0 where
-  pub from : at ≤ i
-  pub left : hexContent (take (end - at) (drop at s)) ≡ after done (hexFrom (commentingOf m) (halfOf h) (take (end - i) (drop i s)))
-  pub short : length done ≤ i - at
+pub ruleset byte-ways = (byte-none, byte-wrong, byte-half, byte-odd, byte-whole)
 
-run-start : (s : List ℕ) (at end : ℕ) → HexRun s at end at 0 16 []
-unfolding hexContent commentingOf halfOf
-run-start s at end = record { from = omega arith; left = sym (after-nil (hexFrom noComment noHalf (take (end - at) (drop at s)))); short = omega arith }
+-- THE FRONT
 
-hex-bad : (r : HexStep) (s : List ℕ) → r .mode ≡ 3 → hexNext r s ≡ bad
-unfolding hexNext
-hex-bad r s e = rw (e, hexNext)
+module _ {s : List ℕ} {stop at e r : ℕ} (i : Before s at stop) (x : HexDigits s at e) (m : r ≡ min e stop) where
+  pub front-digits : HexDigits s at (at + 2 * ((r - at) / 2))
+  front-digits = let o = x .ahead in let h = i .before in run-within at (at + 2 * ((r - at) / 2)) x (omega arith) (omega arith) (omega arith)
 
-length-few : (n b : ℕ) → n ≤ 1 → length (few n b) ≡ n
-unfolding few
-length-few zero b h = refl
-length-few (suc zero) b h = refl
-length-few (suc (suc n)) b h = absurd (omega arith)
+  pub front-many : {b b′ : List ℕ} {p q t : ℕ} → PairsPut s at ((r - at) / 2) b b′ p q → Blank s stop (at + 2 * ((r - at) / 2)) t
+      → Progressed hexContent s stop at b b′ p (record { next = t; pos = q; size = (r - at) / 2 })
+  front-many y z =
+      let n = (r - at) / 2 in
+      let o = x .ahead in
+      let h = i .before in
+      let l = i .inside in
+      let k : 0 + n ≡ n = omega arith in
+      rw k at (progress-more {n = n} progress-start (yields-blank (y .yields stop (omega arith) l) z) (y .put) (sym (y .count)))
 
-module _ {s : List ℕ} {at end i m h stop : ℕ} {done : List ℕ} (inv : HexRun s at end i m h done) (es : stop ≡ min end (length s)) where
-  module _ {r : HexStep} (l : i < stop) (x : HexMoved m h (getD s i 0) r) where
-    run-here : hexContent (take (end - at) (drop at s)) ≡ after done (hexNext r (take (end - (i + 1)) (drop (i + 1) s)))
-    run-here =
-        let l′ : i < min end (length s) = omega arith in
-        inv .left
-        ∙ ap (λ (u : List ℕ). after done (hexFrom (commentingOf m) (halfOf h) u)) (front-part s i end l′)
-        ∙ ap (after done) (x .is (take (end - (i + 1)) (drop (i + 1) s)))
+module _ {s : List ℕ} {stop at : ℕ} {b b₁ b₂ : List ℕ} {pos : ℕ} {f g : Progress} (x : Progressed hexContent s stop at b b₁ pos f) (y : Progressed hexContent s stop (f .next) b₁ b₂ (f .pos) g) where
+  pub stretch-size : Before s at stop → Fits bits64 stop → Fits bits64 (f .size + g .size)
+  stretch-size i k =
+      let h = k .fits in
+      let l = i .before in
+      let m : f .next ≤ stop = omega (arith, x .inside) in
+      let n : g .next ≤ stop = omega (arith, y .inside) in
+      record { fits = omega (arith, x .short, x .ahead, y .short, y .ahead) }
 
-    run-wrong : r .mode ≡ 3 → hexContent (take (end - at) (drop at s)) ≡ bad
-    unfolding after
-    run-wrong e = run-here ∙ ap (after done) (hex-bad r _ e)
+  pub stretch-on : Progressed hexContent s stop at b b₂ pos (record { next = g .next; pos = g .pos; size = f .size + g .size })
+  stretch-on = progress-append x y
 
-    run-on : (r .mode ≡ 3 → ⊥) → HexRun s at end (i + 1) (r .mode) (r .half) (done ++ few (r .count) (r .byte))
-    unfolding hexNext
-    run-on n =
-        let e = length-append done (few (r .count) (r .byte)) in
-        let e₂ = length-few (r .count) (r .byte) (x .most) in
-        record {
-          from = omega (arith, inv .from);
-          left = run-here
-              ∙ ap (after done) (rw (ne-eqb (r .mode) 3 n, hexNext))
-              ∙ after-after done (few (r .count) (r .byte)) (hexFrom (commentingOf (r .mode)) (halfOf (r .half)) (take (end - (i + 1)) (drop (i + 1) s)));
-          short = omega (arith, inv .short, inv .from, x .most);
-        }
+-- THE LOOP
 
-  run-end : stop ≤ i → hexContent (take (end - at) (drop at s)) ≡ after done (hexFrom (commentingOf m) (halfOf h) [])
-  run-end l =
-      let l′ : min end (length s) ≤ i = omega arith in
-      inv .left ∙ ap (λ (u : List ℕ). after done (hexFrom (commentingOf m) (halfOf h) u)) (part-end s i end l′)
+module _ {s : List ℕ} {at stop : ℕ} {b b₀ : List ℕ} {pos i p size : ℕ} (inv : Progressed hexContent s stop at b b₀ pos (record { next = i; pos = p; size = size })) where
+  pub read-end : {end : ℕ} → stop ≡ min end (length s) → stop ≤ i → DecodesInto b b₀ pos (record { good = true; next = end; size = size }) (hexContent (take (end - at) (drop at s)))
+  read-end e h = decodes-good e inv (nothing-left s stop i h)
 
--- counting
-pub record HexScan (s : List ℕ) (at end stop i size m h : ℕ) : Type 0 where
-  pub done : List ℕ
-  pub run : HexRun s at end i m h done
-  pub stops : stop ≡ min end (length s)
-  pub sized : size ≡ length done
-  pub short : size ≤ i - at
+  module _ {b₁ : List ℕ} {f : Progress} (x : Progressed hexContent s stop i b₀ b₁ p f) where
+    run-sum : size + f .size ≤ f .next
+    run-sum = omega (arith, inv .short, inv .ahead, x .short, x .ahead)
 
-pub scan-start : {s : List ℕ} {at end stop : ℕ} → stop ≡ min end (length s) → HexScan s at end stop at 0 0 16
-scan-start {s} {at} {end} e = record { done = []; run = run-start s at end; stops = e; sized = refl; short = omega arith }
+    module _ (end : ℕ) (e : stop ≡ min end (length s)) (k : Fits bits64 end) (l : i < stop) where
+      pub read-size : Fits bits64 (size + f .size)
+      read-size = let h = k .fits in record { fits = omega (arith, run-sum, x .inside) }
 
-module _ {s : List ℕ} {at end stop i size m h : ℕ} (inv : HexScan s at end stop i size m h) where
-  module _ {r : HexStep} (l : i < stop) (x : HexMoved m h (getD s i 0) r) where
-    pub scan-wrong : r .mode ≡ 3 → Decodes (record { good = false; next = end; size = 0 }) (hexContent (take (end - at) (drop at s)))
-    unfolding decodedBy
-    scan-wrong e = decodes bad (run-wrong (inv .run) (inv .stops) l x e) refl
+      pub read-sum : {m : HexByte} → ByteRead s stop (f .next) m → m .missing ≡ false → Fits bits64 (size + f .size + 1)
+      read-sum z q = let h = k .fits in record { fits = omega (arith, run-sum, z .some q .short, z .inside) }
 
-    pub scan-on : (r .mode ≡ 3 → ⊥) → HexScan s at end stop (i + 1) (size + r .count) (r .mode) (r .half)
-    scan-on n =
-        let e = length-append (inv .done) (few (r .count) (r .byte)) in
-        let e₂ = length-few (r .count) (r .byte) (x .most) in
-        record {
-          done = inv .done ++ few (r .count) (r .byte);
-          run = run-on (inv .run) (inv .stops) l x n;
-          stops = inv .stops;
-          sized = omega (arith, inv .sized);
-          short = omega (arith, inv .short, inv .run .from, x .most);
-        }
+    module _ {m : HexByte} (z : ByteRead s stop (f .next) m) where
+      pub read-out : {end : ℕ} → stop ≡ min end (length s) → m .missing ≡ true
+          → DecodesInto b b₁ pos (record { good = leb stop (m .next); next = end; size = size + f .size }) (hexContent (take (end - at) (drop at s)))
+      read-out {end} e h = go (leb stop (m .next)) refl
+        where
+          go : (t : Bool) → leb stop (m .next) ≡ t → DecodesInto b b₁ pos (record { good = t; next = end; size = size + f .size }) (hexContent (take (end - at) (drop at s)))
+          go true q = decodes-good e (progress-append inv x) (z .whole h (leb-true stop (m .next) q))
+          go false q = decodes-bad e (progress-append inv x) (z .wrong h (leb-false stop (m .next) q))
 
-  pub scan-end : {t : Bool} → stop ≤ i → HexEnded m h t → Decodes (record { good = t; next = end; size = size }) (hexContent (take (end - at) (drop at s)))
-  unfolding hexEndedBy after decodedBy
-  scan-end {t} l y = go t (run-end (inv .run) (inv .stops) l ∙ ap (after (inv .done)) (y .is))
-    where
-      go : (t : Bool) → hexContent (take (end - at) (drop at s)) ≡ after (inv .done) (hexEndedBy t)
-          → Decodes (record { good = t; next = end; size = size }) (hexContent (take (end - at) (drop at s)))
-      go true e = decodes (standsFor (inv .done ++ [])) e (refl, inv .sized ∙ sym (ap length (append-nil (inv .done))))
-      go false e = decodes bad e refl
+      module _ {t : ℕ} (h : m .missing ≡ false) (w : Blank s stop (m .next) t) where
+        pub read-less : i < stop → stop - t < stop - i
+        read-less l = omega (arith, x .ahead, z .some h .short, w .ahead)
 
-ends : (k : Commenting) (h : Half) (w c : List ℕ) → after w (hexFrom k h []) ≡ standsFor c → hexFrom k h [] ≡ standsFor []
-unfolding hexFrom halfEnd after
-ends noComment noHalf w c e = refl
-ends noComment (high v) w c e = let z : _≡_ {A = ℕ} 0 1 = cc in absurd (omega arith)
-ends inSlash h w c e = let z : _≡_ {A = ℕ} 0 1 = cc in absurd (omega arith)
-ends inHash h w c e = let z : _≡_ {A = ℕ} 0 1 = cc in absurd (omega arith)
-
--- writing
-pub record HexPut (s b : List ℕ) (at end pos stop i p m h : ℕ) (b′ : List ℕ) : Type 0 where
-  pub done : List ℕ
-  pub run : HexRun s at end i m h done
-  pub stops : stop ≡ min end (length s)
-  pub wrote : Put b b′ pos p done
-  pub same : length b′ ≡ length b
-
-pub put-start : {s : List ℕ} {at end stop : ℕ} (b : List ℕ) (pos : ℕ) → stop ≡ min end (length s) → HexPut s b at end pos stop at pos 0 16 b
-put-start {s} {at} {end} b pos e = record { done = []; run = run-start s at end; stops = e; wrote = put-none b pos; same = refl }
-
-module _ {s b b′ : List ℕ} {at end pos stop i p m h : ℕ} (inv : HexPut s b at end pos stop i p m h b′) where
-  module _ {r : HexStep} (l : i < stop) (x : HexMoved m h (getD s i 0) r) where
-    pub put-wrong : r .mode ≡ 3 → Fills b b′ pos (hexContent (take (end - at) (drop at s)))
-    put-wrong e =
-        let f = run-wrong (inv .run) (inv .stops) l x e in
-        record { same = inv .same; is = λ c q. let w : _≡_ {A = ℕ} 0 1 = cc in absurd (omega arith) }
-
-    pub put-on : {b″ : List ℕ} {p′ : ℕ} → (r .mode ≡ 3 → ⊥) → Put b′ b″ p p′ (few (r .count) (r .byte)) → HexPut s b at end pos stop (i + 1) p′ (r .mode) (r .half) b″
-    put-on n y =
-        let w = put-more (inv .wrote) y in
-        record { done = inv .done ++ few (r .count) (r .byte); run = run-on (inv .run) (inv .stops) l x n; stops = inv .stops; wrote = w; same = w .same }
-
-  whole : (t : Content) (c : List ℕ) → after (inv .done) t ≡ standsFor c → t ≡ standsFor [] → c ≡ inv .done
-  unfolding after
-  whole t c e f = let g : standsFor c ≡ standsFor (inv .done ++ []) = sym e ∙ ap (after (inv .done)) f in content-is g ∙ append-nil (inv .done)
-
-  pub put-end : stop ≤ i → Fills b b′ pos (hexContent (take (end - at) (drop at s)))
-  put-end l =
-      record {
-        same = inv .same;
-        is = λ c q f.
-            let e = sym (run-end (inv .run) (inv .stops) l) ∙ q in
-            let d : c ≡ inv .done = whole (hexFrom (commentingOf m) (halfOf h) []) c e (ends (commentingOf m) (halfOf h) (inv .done) c e) in
-            let f′ : pos + length (inv .done) ≤ length b = rw d at f in
-            inv .wrote .is f′ ∙ ap (over b pos) (sym d);
-      }
-
-pub ruleset hex-put-ways = (put-wrong, put-end)
+        pub read-on : {b₂ : List ℕ} {p′ : ℕ} → Put b₁ b₂ (f .pos) p′ (m .byte ∷ []) → Progressed hexContent s stop at b b₂ pos (record { next = t; pos = p′; size = size + f .size + 1 })
+        read-on k = progress-more (progress-append inv x) (yields-blank (z .some h) w) k refl

@@ -1,1 +1,4 @@
+pub mod DigitCode
+pub mod PairsCode
+pub mod BlankCode
 pub mod HexCode

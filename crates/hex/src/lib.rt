@@ -1,135 +1,228 @@
 // Hexadecimal text: what stands between the quotes of h'..'.
+pub mod blank;
+pub mod pairs;
+
+use crate::blank::after_blank;
+use crate::blank::past_gaps;
+use crate::pairs::hex_run;
+use crate::pairs::put_pairs;
 use literal_body::LiteralScan;
+use literal_body::Progress;
 use literal_body::hex_value;
-use literal_body::is_blank;
 use literal_body::least;
-use literal_body::put_few;
+use literal_body::put;
 ghost use mathlib.Core.Path.{_≡_};
-ghost use Prim.Native.Nat.{_-_};
-ghost use lib.ListN.{take, drop};
+ghost use mathlib.Core.Bool.{true, false};
+ghost use Prim.Native.Nat.{_+_, _-_, _*_, _≤_, _<_};
+ghost use lib.ListN.{length, take, drop, getD};
 ghost use Rattle.notation.specs.Literals.{hexContent};
-ghost use Rattle.literal_body.specs.LiteralAnswers.{Decodes, Fills};
-ghost use Rattle.hex.specs.HexAnswers.{HexMoved, HexEnded};
+ghost use Rattle.literal_body.specs.LiteralAnswers.{Decodes};
+ghost use Rattle.literal_body.specs.LiteralReading.{Before, Within, Progressed, DecodesInto};
+ghost use Rattle.hex.specs.HexAnswers.{pairWeight, Weighs, ByteRead};
 
-// Where a byte leads: 0 outside comments, 1 in a comment of slashes, 2 in one behind a hash, 3 wrong; the digit that a byte
-// begins with, 16 where none is read; and the byte that is whole, if count is 1.
-struct HexStep {
-    mode: u8,
-    half: u8,
-    count: usize,
+// What a pair weighs at least in which not both bytes are digits.
+const NO_PAIR: u32 = 256;
+
+// What a byte adds to a pair. It is called in one place, so that it is inlined there and becomes a table.
+fn weight(b: u8) -> u32
+    ensures { λ r. ⌜ Weighs b r ⌝ }
+{
+    match b {
+        0x30 => 0,
+        0x31 => 1,
+        0x32 => 2,
+        0x33 => 3,
+        0x34 => 4,
+        0x35 => 5,
+        0x36 => 6,
+        0x37 => 7,
+        0x38 => 8,
+        0x39 => 9,
+        0x41 => 10,
+        0x42 => 11,
+        0x43 => 12,
+        0x44 => 13,
+        0x45 => 14,
+        0x46 => 15,
+        0x61 => 10,
+        0x62 => 11,
+        0x63 => 12,
+        0x64 => 13,
+        0x65 => 14,
+        0x66 => 15,
+        _ => NO_PAIR,
+    }
+}
+
+// The byte that two digits side by side make.
+fn pair(text: &[u8], at: usize) -> u32
+    requires { ⌜ at + 2 ≤ length (now text) ⌝ }
+    ensures { λ r. ⌜ r ≡ pairWeight (getD (now (text .entry)) at 0) * 16 + pairWeight (getD (now (text .entry)) (at + 1) 0) ⌝ }
+{
+    let mut w: u32 = 0;
+    let mut k: usize = 0;
+    while k < 2 {
+        w = w * 16 + weight(text[at + k]);
+        k += 1;
+    }
+    w
+}
+
+// Writes pairs that stand side by side or with one blank between.
+fn put_close(text: &[u8], from: usize, stop: usize, out: &mut [u8], pos: usize) -> Progress
+    requires { ⌜ Within (now text) from stop ⌝ }
+    ensures { λ r. ⌜ Progressed hexContent (now (text .entry)) stop from (now (out .entry)) (now (out .exit)) pos r ⌝ }
+{
+    let mut at = from;
+    let mut p = pos;
+    let mut size: usize = 0;
+    while 2 <= stop - at {
+        let w = pair(text, at);
+        if NO_PAIR <= w {
+            return Progress {
+                next: at,
+                pos: p,
+                size,
+            };
+        }
+        p = put(out, p, w as u8);
+        size += 1;
+        at = after_blank(text, at + 2, stop);
+    }
+    Progress {
+        next: at,
+        pos: p,
+        size,
+    }
+}
+
+// A byte, and the place behind it. Where there is none: the end if nothing but blanks and comments is left, else what is wrong.
+struct HexByte {
+    missing: bool,
     byte: u8,
+    next: usize,
 }
 
-fn hex_stay(mode: u8, half: u8) -> HexStep
-    ensures { λ r. ⌜ r ≡ record { mode = mode; half = half; count = 0; byte = 0 } ⌝ }
+fn no_byte(next: usize) -> HexByte
+    ensures { λ r. ⌜ r ≡ record { missing = true; byte = 0; next = next } ⌝ }
 {
-    HexStep {
-        mode,
-        half,
-        count: 0,
+    HexByte {
+        missing: true,
         byte: 0,
+        next,
     }
 }
 
-fn hex_step(mode: u8, half: u8, b: u8) -> HexStep
-    ensures { λ r. ⌜ HexMoved mode half b r ⌝ }
+// The next byte, whatever stands before and between its digits.
+fn next_byte(text: &[u8], from: usize, stop: usize) -> HexByte
+    requires { ⌜ Within (now text) from stop ⌝ }
+    ensures { λ r. ⌜ ByteRead (now (text .entry)) stop from r ⌝ }
 {
-    if mode == 1 {
-        if b == 0x2f {
-            return hex_stay(0, half);
-        }
-        return hex_stay(1, half);
+    let i = past_gaps(text, from, stop);
+    if stop <= i {
+        return no_byte(i);
     }
-    if mode == 2 {
-        if b == 0x0a {
-            return hex_stay(0, half);
-        }
-        return hex_stay(2, half);
+    let high = hex_value(text[i]);
+    if 16 <= high {
+        return no_byte(i);
     }
-    if is_blank(b) {
-        return hex_stay(0, half);
+    let j = past_gaps(text, i + 1, stop);
+    if stop <= j {
+        return no_byte(i);
     }
-    if b == 0x2f {
-        return hex_stay(1, half);
+    let low = hex_value(text[j]);
+    if 16 <= low {
+        return no_byte(i);
     }
-    if b == 0x23 {
-        return hex_stay(2, half);
-    }
-    let v = hex_value(b);
-    if 16 <= v {
-        return hex_stay(3, half);
-    }
-    if 16 <= half {
-        return hex_stay(0, v);
-    }
-    HexStep {
-        mode: 0,
-        half: 16,
-        count: 1,
-        byte: half * 16 + v,
+    HexByte {
+        missing: false,
+        byte: high * 16 + low,
+        next: j + 1,
     }
 }
 
-// Whether a text may end here.
-fn hex_end(mode: u8, half: u8) -> bool
-    ensures { λ r. ⌜ HexEnded mode half r ⌝ }
+// Whether so few digits stand together that no run is looked for: fewer than three, or near the end.
+fn few(text: &[u8], at: usize, stop: usize) -> bool
+    requires { ⌜ Before (now text) at stop ⌝ }
 {
-    if mode == 1 {
-        return false;
+    if stop - at < 32 {
+        return true;
     }
-    if mode == 2 {
-        return false;
+    if 16 <= hex_value(text[at + 1]) {
+        return true;
     }
-    16 <= half
+    16 <= hex_value(text[at + 2])
 }
 
-// Whether the text from `at` to `end` stands for bytes, and for how many.
-pub fn scan_hex(text: &[u8], at: usize, end: usize) -> LiteralScan
-    ensures { λ r. ⌜ Decodes r (hexContent (take (end - at) (drop at (now (text .entry))))) ⌝ }
+// Writes the digits at the front, if they are many, and passes a blank behind them.
+fn put_front(text: &[u8], at: usize, stop: usize, out: &mut [u8], pos: usize) -> Progress
+    requires { ⌜ Before (now text) at stop ⌝ }
+    ensures { λ r. ⌜ Progressed hexContent (now (text .entry)) stop at (now (out .entry)) (now (out .exit)) pos r ⌝ }
+{
+    if few(text, at, stop) {
+        return Progress {
+            next: at,
+            pos,
+            size: 0,
+        };
+    }
+    let n = (least(hex_run(text, at), stop) - at) / 2;
+    let p = put_pairs(text, at, n, out, pos);
+    Progress {
+        next: after_blank(text, at + 2 * n, stop),
+        pos: p,
+        size: n,
+    }
+}
+
+// Writes the bytes from a place on whose digits stand close together.
+fn put_stretch(text: &[u8], at: usize, stop: usize, out: &mut [u8], pos: usize) -> Progress
+    requires { ⌜ Before (now text) at stop ⌝ }
+    ensures { λ r. ⌜ Progressed hexContent (now (text .entry)) stop at (now (out .entry)) (now (out .exit)) pos r ⌝ }
+{
+    let front = put_front(text, at, stop, out, pos);
+    let close = put_close(text, front.next, stop, out, front.pos);
+    Progress {
+        next: close.next,
+        pos: close.pos,
+        size: front.size + close.size,
+    }
+}
+
+// Whether the text from `at` to `end` stands for bytes, and for how many; these are written from `pos` on, if they all fit.
+pub fn read_hex(text: &[u8], at: usize, end: usize, out: &mut [u8], pos: usize) -> LiteralScan
+    ensures { λ r. ⌜ DecodesInto (now (out .entry)) (now (out .exit)) pos r (hexContent (take (end - at) (drop at (now (text .entry))))) ⌝ }
 {
     let stop = least(end, text.len());
     let mut i = at;
+    let mut p = pos;
     let mut size: usize = 0;
-    let mut mode: u8 = 0;
-    let mut half: u8 = 16;
     while i < stop {
-        let m = hex_step(mode, half, text[i]);
-        if m.mode == 3 {
+        let run = put_stretch(text, i, stop, out, p);
+        size += run.size;
+        let m = next_byte(text, run.next, stop);
+        if m.missing {
             return LiteralScan {
-                good: false,
+                good: stop <= m.next,
                 next: end,
-                size: 0,
+                size,
             };
         }
-        mode = m.mode;
-        half = m.half;
-        size += m.count;
-        i += 1;
+        p = put(out, run.pos, m.byte);
+        size += 1;
+        i = after_blank(text, m.next, stop);
     }
     LiteralScan {
-        good: hex_end(mode, half),
+        good: true,
         next: end,
         size,
     }
 }
 
-// Writes those bytes from `pos` on, if they all fit.
-pub fn put_hex(text: &[u8], at: usize, end: usize, out: &mut [u8], pos: usize)
-    ensures { λ _. ⌜ Fills (now (out .entry)) (now (out .exit)) pos (hexContent (take (end - at) (drop at (now (text .entry))))) ⌝ }
+// The same, and nothing is written.
+pub fn scan_hex(text: &[u8], at: usize, end: usize) -> LiteralScan
+    ensures { λ r. ⌜ Decodes r (hexContent (take (end - at) (drop at (now (text .entry))))) ⌝ }
 {
-    let stop = least(end, text.len());
-    let mut i = at;
-    let mut p = pos;
-    let mut mode: u8 = 0;
-    let mut half: u8 = 16;
-    while i < stop {
-        let m = hex_step(mode, half, text[i]);
-        if m.mode == 3 {
-            return;
-        }
-        mode = m.mode;
-        half = m.half;
-        p = put_few(out, p, m.count, m.byte);
-        i += 1;
-    }
+    let mut none = [0u8; 1];
+    read_hex(text, at, end, &mut none, 1)
 }

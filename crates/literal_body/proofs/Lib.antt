@@ -1,2 +1,4 @@
 pub mod LiteralCode
 pub mod LiteralViews
+pub mod ReadingCode
+pub mod MatchCode

@@ -21,64 +21,19 @@ use Rattle.notation.specs.Numbers.{Digit, worth, noDigit, digitAt, isDigit, dig
 use Rattle.notation.specs.Scanning.{fault}
 use Rattle.notation.specs.Literals.{isBody, body, Content, standsFor, bad, after}
 use Rattle.notation.specs.Reading.{marked}
-use Rattle.literal_body.specs.LiteralAnswers.{digitNumber, scannedBy, Raw, decodedBy, Decodes, Put, bodyByte, BodyByte, few}
+use Rattle.scanning.specs.TextRuns.{Textual, TextRun}
+use Rattle.scanning.proofs.ClassCode.{slash-at, hash-at}
+use Rattle.literal_body.specs.LiteralAnswers.{digitNumber, scannedBy, Raw, decodedBy, Decodes, Put, bodyByte, BodyByte}
 use Rattle.literal_body.specs.declared.LiteralScan.{LiteralScan}
 
 -- BYTES
 
--- a test of two bools
-pub same : Bool → Bool → Bool
-same true true = true
-same true false = false
-same false true = false
-same false false = true
-
-pub same-is : (a b : Bool) → T (same a b) → a ≡ b
-unfolding same
-same-is true true t = refl
-same-is true false t = absurd t
-same-is false true t = absurd t
-same-is false false t = refl
-
--- the classes that literals ask for, by the bytes that have them
-pub isBlank : ℕ → Bool
-isBlank b = eqb b 0x09 || (eqb b 0x0a || (eqb b 0x0d || eqb b 0x20))
-
 module _ (b : ℕ) (h : b < 256) where
-  pub blank-is : is blank b ≡ isBlank b
-  unfolding is classNumber classOf classIn classRows isIn isBlank same
-  blank-is = same-is (is blank b) (isBlank b) (byte (λ k. same (is blank k) (isBlank k)) tt b h)
-
   pub slash-is : is slash b ≡ eqb b 0x2f
-  unfolding is classNumber classOf classIn classRows isIn same
-  slash-is = same-is (is slash b) (eqb b 0x2f) (byte (λ k. same (is slash k) (eqb k 0x2f)) tt b h)
+  slash-is = slash-at b (omega arith)
 
   pub hash-is : is hash b ≡ eqb b 0x23
-  unfolding is classNumber classOf classIn classRows isIn same
-  hash-is = same-is (is hash b) (eqb b 0x23) (byte (λ k. same (is hash k) (eqb k 0x23)) tt b h)
-
-module _ {b : ℕ} where
-  pub blank-tab : b ≡ 0x09 → true ≡ is blank b
-  unfolding is classNumber classOf classIn classRows isIn
-  blank-tab e = rw e
-
-  pub blank-line : b ≡ 0x0a → true ≡ is blank b
-  unfolding is classNumber classOf classIn classRows isIn
-  blank-line e = rw e
-
-  pub blank-return : b ≡ 0x0d → true ≡ is blank b
-  unfolding is classNumber classOf classIn classRows isIn
-  blank-return e = rw e
-
-  pub blank-space : b ≡ 0x20 → true ≡ is blank b
-  unfolding is classNumber classOf classIn classRows isIn
-  blank-space e = rw e
-
-  pub blank-none : b < 256 → (b ≡ 0x09 → ⊥) → (b ≡ 0x0a → ⊥) → (b ≡ 0x0d → ⊥) → (b ≡ 0x20 → ⊥) → false ≡ is blank b
-  unfolding isBlank
-  blank-none h n₁ n₂ n₃ n₄ = sym (blank-is b h ∙ simp (isBlank, ne-eqb b 0x09 n₁, ne-eqb b 0x0a n₂, ne-eqb b 0x0d n₃, ne-eqb b 0x20 n₄))
-
-pub ruleset blank-ways = (blank-tab, blank-line, blank-return, blank-space, blank-none)
+  hash-is = hash-at b (omega arith)
 
 -- the value of a digit, between two bounds: none, or counted from a base
 module _ {b : ℕ} (lo hi : ℕ) (p : lo ≤ b) (q : b < hi) where
@@ -234,17 +189,6 @@ put-more {b} {b₁} {b₂} {p} {p₁} {p₂} {ws} {vs} x y =
 pub put-two : {b b₁ b₂ : List ℕ} {p p₁ p₂ v w : ℕ} → Put b b₁ p p₁ (v ∷ []) → Put b₁ b₂ p₁ p₂ (w ∷ []) → Put b b₂ p p₂ (v ∷ w ∷ [])
 put-two x y = put-more x y
 
-pub few-none : (b : List ℕ) (p n v : ℕ) → n ≡ 0 → Put b b p p (few n v)
-unfolding few
-few-none b p n v e = rw e (put-none b p)
-
-pub few-one : {b b′ : List ℕ} {p r v : ℕ} (n : ℕ) → (n ≡ 0 → ⊥) → Put b b′ p r (v ∷ []) → Put b b′ p r (few n v)
-unfolding few
-few-one zero h x = absurd (h refl)
-few-one (suc n) h x = x
-
-pub ruleset few-ways = (few-none, few-one)
-
 -- THE RAW TEXT
 
 module _ (b : ℕ) where
@@ -345,60 +289,89 @@ pub body-start : {s : List ℕ} {at : ℕ} → Body s at at
 body-start {s} {at} =
     record { done = []; from = omega arith; sized = omega arith; split = refl; left = sym (pre-nil (body (drop at (marked s)))) }
 
-pub raw-no : {s : List ℕ} {at : ℕ} {res : Result (List ℕ)} (n z : ℕ) → res ≡ fault n → Raw s at (record { good = false; next = z; size = 0 }) res
+-- a raw text that does not end well
+raw-no : {s : List ℕ} {at : ℕ} {r : LiteralScan} {res : Result (List ℕ)} → r ≡ record { good = false; next = at; size = 0 } → res ≡ fault noToken → Raw s at r res
 unfolding scannedBy
-raw-no {s} {at} {res} n z e =
-    record {
+raw-no {s} {at} {r} {res} u e =
+    subst⁻¹ (λ (x : LiteralScan). Raw s at x res) u
+    (record {
       scans = rw e (record { by = refl });
       is = λ c rest q. let w : _≡_ {A = ℕ} 0 1 = cc in absurd (omega arith);
       next = λ q. absurd (true-false (sym q));
-    }
+    })
 
-module _ {s : List ℕ} {at i : ℕ} (inv : Body s at i) where
-  module _ {k : ℕ} (h : i < length s) (x : BodyByte (getD s i 0) k) where
-    here : body (drop at (marked s)) ≡ pre (inv .done) (bodyNext k (getD s i 0) (drop (i + 1) (marked s)))
-    here =
-        inv .left
-        ∙ ap (λ (u : List ℕ). pre (inv .done) (body u)) (front-marked s i h)
-        ∙ ap (pre (inv .done)) (body-next (getD s i 0) k (drop (i + 1) (marked s)) (x .is))
+-- a byte of it
+module _ {s : List ℕ} {at i : ℕ} (inv : Body s at i) {k : ℕ} (h : i < length s) (x : BodyByte (getD s i 0) k) where
+  here : body (drop at (marked s)) ≡ pre (inv .done) (bodyNext k (getD s i 0) (drop (i + 1) (marked s)))
+  here =
+      inv .left
+      ∙ ap (λ (u : List ℕ). pre (inv .done) (body u)) (front-marked s i h)
+      ∙ ap (pre (inv .done)) (body-next (getD s i 0) k (drop (i + 1) (marked s)) (x .is))
 
-    pub body-close : k ≡ 1 → Raw s at (record { good = true; next = i + 1; size = i - at }) (body (drop at (marked s)))
-    unfolding scannedBy bodyNext bind
-    body-close e =
-        let r : body (drop at (marked s)) ≡ ok (inv .done ++ []) (drop (i + 1) (marked s)) = rw e at here in
-        let r′ : body (drop at (marked s)) ≡ ok (inv .done) (drop (i + 1) (marked s)) = r ∙ ap (λ (u : List ℕ). ok u (drop (i + 1) (marked s))) (append-nil (inv .done)) in
-        record {
-          scans = rw r′ (record { by = record { good = refl; size = sym (inv .sized); left = refl; inside = omega arith; ahead = omega (arith, inv .from); short = omega (arith, inv .from) } });
-          is = λ c rest q.
-              let f : c ≡ inv .done = ok-content (sym q ∙ r′) in
-              f ∙ sym (ap (take (i - at)) (inv .split) ∙ take-at (inv .done) (drop i s) (i - at) (inv .sized));
-          next = λ q. omega (arith, inv .from);
-        }
+  byte-closes : k ≡ 1 → Raw s at (record { good = true; next = i + 1; size = i - at }) (body (drop at (marked s)))
+  unfolding scannedBy bodyNext bind
+  byte-closes e =
+      let r : body (drop at (marked s)) ≡ ok (inv .done ++ []) (drop (i + 1) (marked s)) = rw e at here in
+      let r′ : body (drop at (marked s)) ≡ ok (inv .done) (drop (i + 1) (marked s)) = r ∙ ap (λ (u : List ℕ). ok u (drop (i + 1) (marked s))) (append-nil (inv .done)) in
+      record {
+        scans = rw r′ (record { by = record { good = refl; size = sym (inv .sized); left = refl; inside = omega arith; ahead = omega (arith, inv .from); short = omega (arith, inv .from) } });
+        is = λ c rest q.
+            let f : c ≡ inv .done = ok-content (sym q ∙ r′) in
+            f ∙ sym (ap (take (i - at)) (inv .split) ∙ take-at (inv .done) (drop i s) (i - at) (inv .sized));
+        next = λ q. omega (arith, inv .from);
+      }
 
-    pub body-wrong : k ≡ 2 → Raw s at (record { good = false; next = at; size = 0 }) (body (drop at (marked s)))
-    unfolding bodyNext bind
-    body-wrong e = raw-no noToken at (rw e at here)
+  byte-wrong : k ≡ 2 → body (drop at (marked s)) ≡ fault noToken
+  unfolding bodyNext bind
+  byte-wrong e = rw e at here
 
-    pub body-on : (k ≡ 1 → ⊥) → (k ≡ 2 → ⊥) → Body s at (i + 1)
-    unfolding bodyNext
-    body-on n₁ n₂ =
-        let z : k ≡ 0 = body-zero (getD s i 0) k (x .is) n₁ n₂ in
-        let b = getD s i 0 in
-        record {
-          done = inv .done ++ (b ∷ []);
-          from = omega (arith, inv .from);
-          sized = length-append (inv .done) (b ∷ []) ∙ omega (arith, inv .sized, inv .from);
-          split = inv .split ∙ ap (λ (u : List ℕ). inv .done ++ u) (front s i h) ∙ sym (append-assoc (inv .done) (b ∷ []) (drop (i + 1) s));
-          left = (rw z at here) ∙ pre-pre (inv .done) (b ∷ []) (body (drop (i + 1) (marked s)));
-        }
+  byte-stands : k ≡ 0 → Body s at (i + 1)
+  unfolding bodyNext
+  byte-stands z =
+      let b = getD s i 0 in
+      record {
+        done = inv .done ++ (b ∷ []);
+        from = omega (arith, inv .from);
+        sized = length-append (inv .done) (b ∷ []) ∙ omega (arith, inv .sized, inv .from);
+        split = inv .split ∙ ap (λ (u : List ℕ). inv .done ++ u) (front s i h) ∙ sym (append-assoc (inv .done) (b ∷ []) (drop (i + 1) s));
+        left = (rw z at here) ∙ pre-pre (inv .done) (b ∷ []) (body (drop (i + 1) (marked s)));
+      }
 
-  pub body-end : length s ≤ i → Raw s at (record { good = false; next = at; size = 0 }) (body (drop at (marked s)))
-  unfolding body isBody is classNumber classOf classIn classRows isIn bind
-  body-end h =
-      let e : body (drop i (marked s)) ≡ fault noToken = past (λ u. body u ≡ fault noToken) s i h refl refl in
-      raw-no noToken at (inv .left ∙ ap (pre (inv .done)) e)
+-- the run before it
+bytes-stand : {s : List ℕ} {at i : ℕ} (n : ℕ) → Body s at i → ((j : ℕ) → i ≤ j → j < i + n → Textual 0x27 0x5c (getD s j 0)) → i + n ≤ length s → Body s at (i + n)
+bytes-stand zero inv f l = rw add-zero inv
+bytes-stand {s} {at} {i} (suc n) inv f l =
+    let t = f i (omega arith) (omega arith) in
+    let z : i + 1 + n ≡ i + suc n = omega arith in
+    let x = body-plain (getD s i 0) (t .first) (t .second) (t .high) (t .low) in
+    rw z at (bytes-stand n (byte-stands inv (omega arith) x refl) (λ j a b. f j (omega arith) (omega arith)) (omega arith))
 
-pub ruleset raw-ways = (body-close, body-wrong, body-end)
+pub body-end : {s : List ℕ} {at i : ℕ} {r : LiteralScan} → Body s at i → length s ≤ i → r ≡ record { good = false; next = at; size = 0 } → Raw s at r (body (drop at (marked s)))
+unfolding body isBody is classNumber classOf classIn classRows isIn bind
+body-end {s} {at} {i} inv h u =
+    let e : body (drop i (marked s)) ≡ fault noToken = past (λ u. body u ≡ fault noToken) s i h refl refl in
+    raw-no u (inv .left ∙ ap (pre (inv .done)) e)
+
+module _ {s : List ℕ} {at i stop : ℕ} (inv : Body s at i) (y : TextRun s 0x27 0x5c i stop) where
+  body-run : Body s at stop
+  body-run =
+      let z : i + (stop - i) ≡ stop = omega (arith, y .ahead) in
+      rw z at (bytes-stand (stop - i) inv (λ j a b. y .is j a (omega arith)) (omega (arith, y .inside)))
+
+  pub body-open : {r : LiteralScan} → length s ≤ stop → r ≡ record { good = false; next = at; size = 0 } → Raw s at r (body (drop at (marked s)))
+  body-open h u = body-end body-run h u
+
+  module _ {k : ℕ} (h : stop < length s) (x : BodyByte (getD s stop 0) k) where
+    pub body-close : k ≡ 1 → Raw s at (record { good = true; next = stop + 1; size = stop - at }) (body (drop at (marked s)))
+    body-close e = byte-closes body-run h x e
+
+    pub body-wrong : {r : LiteralScan} → k ≡ 2 → r ≡ record { good = false; next = at; size = 0 } → Raw s at r (body (drop at (marked s)))
+    body-wrong e u = raw-no u (byte-wrong body-run h x e)
+
+    pub body-on : (k ≡ 1 → ⊥) → (k ≡ 2 → ⊥) → Body s at (stop + 1)
+    body-on n₁ n₂ = byte-stands body-run h x (body-zero (getD s stop 0) k (x .is) n₁ n₂)
+
+pub ruleset raw-ways = (body-open, body-close, body-wrong, body-end)
 
 -- CONTENT
 

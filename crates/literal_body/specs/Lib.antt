@@ -1,1 +1,2 @@
 pub mod LiteralAnswers
+pub mod LiteralReading

@@ -1,7 +1,7 @@
 -- Of the code: what the code of string literals answers.
-use Prim.Native.Nat.{ℕ, zero, suc, _+_, _≤_, _<_}
+use Prim.Native.Nat.{ℕ, _+_, _≤_, _<_}
 use mathlib.Core.Path.{_≡_}
-use mathlib.Core.List.{List, [], _∷_}
+use mathlib.Core.List.{List}
 use mathlib.Core.Bool.{true, false}
 use lib.Dec.{eqb}
 use lib.ListN.{length, take, drop}
@@ -71,8 +71,3 @@ bodyByte b = elim (eqb b 0x27) [ true ↦ 1 | false ↦ elim (eqb b 0x5c) [ true
 
 pub record BodyByte (b r : ℕ) : Type 0 where
   pub is : r ≡ bodyByte b
-
--- none or one byte
-unfoldable pub few : ℕ → ℕ → List ℕ
-few zero b = []
-few (suc n) b = b ∷ []

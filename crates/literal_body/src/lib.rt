@@ -1,4 +1,6 @@
 // String literals: what their scans share, and the raw text of h'..' and b64'..'.
+use scanning::class;
+use scanning::run::text_run;
 ghost use mathlib.Core.Path.{_≡_};
 ghost use mathlib.Core.List.{_∷_, []};
 ghost use mathlib.Core.Bool.{true, false};
@@ -7,12 +9,30 @@ ghost use lib.ListN.{drop};
 ghost use Rattle.notation.specs.Classes.{blank, is};
 ghost use Rattle.notation.specs.Literals.{body};
 ghost use Rattle.notation.specs.Reading.{marked};
-ghost use Rattle.literal_body.specs.LiteralAnswers.{digitNumber, Raw, Put, BodyByte, few};
+ghost use Rattle.literal_body.specs.LiteralAnswers.{digitNumber, Raw, Put, BodyByte};
 
 // What a scan found: where the text goes on, and how many bytes the content has.
 pub struct LiteralScan {
     pub good: bool,
     pub next: usize,
+    pub size: usize,
+}
+
+// The scan of a literal that does not end well.
+pub fn unended(at: usize) -> LiteralScan
+    ensures { λ r. ⌜ r ≡ record { good = false; next = at; size = 0 } ⌝ }
+{
+    LiteralScan {
+        good: false,
+        next: at,
+        size: 0,
+    }
+}
+
+// How far a literal is read: the place in its text, the place in the buffer behind what is written, and how many bytes were made.
+pub struct Progress {
+    pub next: usize,
+    pub pos: usize,
     pub size: usize,
 }
 
@@ -28,38 +48,35 @@ pub fn least(a: usize, b: usize) -> usize
 pub fn is_blank(b: u8) -> bool
     ensures { λ r. ⌜ r ≡ is blank b ⌝ }
 {
-    match b {
-        0x09 => true,
-        0x0a => true,
-        0x0d => true,
-        0x20 => true,
-        _ => false,
-    }
+    class::is_blank(b)
 }
 
-// The value of a hexadecimal digit; 99: none.
+// What hex_value answers where no digit stands.
+pub const NO_DIGIT: u8 = 99;
+
+// The value of a hexadecimal digit.
 pub fn hex_value(b: u8) -> u8
     ensures { λ r. ⌜ r ≡ digitNumber b ⌝ }
 {
     if b < 0x30 {
-        return 99;
+        return NO_DIGIT;
     }
     if b < 0x3a {
         return b - 0x30;
     }
     if b < 0x41 {
-        return 99;
+        return NO_DIGIT;
     }
     if b < 0x47 {
         return b - 0x37;
     }
     if b < 0x61 {
-        return 99;
+        return NO_DIGIT;
     }
     if b < 0x67 {
         return b - 0x57;
     }
-    99
+    NO_DIGIT
 }
 
 // Writes a byte, if it fits, and answers the place behind it.
@@ -73,16 +90,6 @@ pub fn put(out: &mut [u8], p: usize, v: u8) -> usize
     p + 1
 }
 
-// Writes none or one.
-pub fn put_few(out: &mut [u8], p: usize, count: usize, v: u8) -> usize
-    ensures { λ r. ⌜ Put (now (out .entry)) (now (out .exit)) p r (few count v) ⌝ }
-{
-    if count == 0 {
-        return p;
-    }
-    put(out, p, v)
-}
-
 // Writes two bytes in a row.
 pub fn put_two(out: &mut [u8], p: usize, a: u8, b: u8) -> usize
     ensures { λ r. ⌜ Put (now (out .entry)) (now (out .exit)) p r (a ∷ b ∷ []) ⌝ }
@@ -91,23 +98,29 @@ pub fn put_two(out: &mut [u8], p: usize, a: u8, b: u8) -> usize
     put(out, q, b)
 }
 
-// What a byte is in a raw text: 0 it stands there, 1 it is the closing quote, 2 it may not stand there.
+// What a byte is in a raw text.
+const STANDS: u8 = 0;
+
+const ENDS: u8 = 1;
+
+const REFUSED: u8 = 2;
+
 fn body_byte(b: u8) -> u8
     ensures { λ r. ⌜ BodyByte b r ⌝ }
 {
-    if b == 0x27 {
-        return 1;
+    if b == b'\'' {
+        return ENDS;
     }
-    if b == 0x5c {
-        return 2;
+    if b == b'\\' {
+        return REFUSED;
     }
     if 0x20 <= b {
-        return 0;
+        return STANDS;
     }
     if is_blank(b) {
-        return 0;
+        return STANDS;
     }
-    2
+    REFUSED
 }
 
 // The raw text of an encoded literal, up to its closing quote.
@@ -116,26 +129,22 @@ pub fn scan_body(text: &[u8], at: usize) -> LiteralScan
 {
     let mut i = at;
     while i < text.len() {
-        let k = body_byte(text[i]);
-        if k == 1 {
+        let stop = text_run(text, i, b'\'', b'\\');
+        if text.len() <= stop {
+            return unended(at);
+        }
+        let k = body_byte(text[stop]);
+        if k == ENDS {
             return LiteralScan {
                 good: true,
-                next: i + 1,
-                size: i - at,
+                next: stop + 1,
+                size: stop - at,
             };
         }
-        if k == 2 {
-            return LiteralScan {
-                good: false,
-                next: at,
-                size: 0,
-            };
+        if k == REFUSED {
+            return unended(at);
         }
-        i += 1;
+        i = stop + 1;
     }
-    LiteralScan {
-        good: false,
-        next: at,
-        size: 0,
-    }
+    unended(at)
 }

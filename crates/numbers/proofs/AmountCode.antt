@@ -3,7 +3,7 @@
 use mathlib.Core.Path.{_≡_, refl, sym, ap, _∙_}
 use mathlib.Core.List.{List, [], _∷_, _++_}
 use mathlib.Core.Bool.{Bool, true, false, _&&_, _||_}
-use Prim.Native.Nat.{ℕ, zero, suc, _+_, _-_, _*_, _/_, _≤_, _<_, min}
+use Prim.Native.Nat.{ℕ, _+_, _-_, _*_, _/_, _≤_, _<_}
 use native.Mathlib.Nat.{le-div-iff-mul-le, mul-le-mul-left, add-mul, one-mul}
 use native.Mathlib.Omega.{arith}
 use lib.Dec.{leb, eqb}
@@ -19,7 +19,6 @@ use Rattle.scanning.specs.Stands.{span}
 use Rattle.literal_body.specs.LiteralAnswers.{digitNumber}
 use Rattle.numbers.specs.NumberAnswers.{heavy, Counts, Base, Grown, floatAt, ScansDigits, Counted}
 use Rattle.numbers.specs.declared.amount.Amount.{Amount}
-use Rattle.numbers.specs.declared.amount.Digits.{Digits}
 use Rattle.literal_body.proofs.LiteralCode.{digit-yes, digit-no, digit-number}
 use Rattle.scanning.proofs.Marked.{length-marked, at-byte, byte-at, at-end, past-end, span-none, span-more, Running, run-start, run-step, run-stop, run-end}
 
@@ -113,6 +112,21 @@ module _ (a : Amount) {radix d : ℕ} (base : Base radix d) where
     grow-above u f g k =
         let l = leb-false (a .value * radix + d) 0x1_0000_0000_0000_0000 (sym g ∙ k) in
         record { is = λ n c. record { is = omega (arith, value-is c); small = omega arith } }
+
+  -- a number that is small
+  module _ (h : a .value ≤ 0x0fff_ffff_ffff_ffff) where
+    sure-within : a .value * radix + d ≤ 0xffff_ffff_ffff_ffff
+    sure-within = omega (arith, mul-le-mul-left (a .value) (base .most), base .digit, base .most)
+
+    pub sure-mul : Fits bits64 (a .value * radix)
+    sure-mul = record { fits = omega (arith, sure-within) }
+
+    pub sure-add : Fits bits64 (a .value * radix + d)
+    sure-add = record { fits = omega (arith, sure-within) }
+
+    pub sure-grown : a .over ≡ false → Grown a radix d (record { value = a .value * radix + d; over = false })
+    unfolding limit
+    sure-grown e = grow-fits e true (sym (le-leb (a .value * radix + d) 0xffff_ffff_ffff_ffff sure-within)) refl
 
 pub ruleset grow-ways = (grow-over, grow-fits, grow-nearly, grow-above)
 

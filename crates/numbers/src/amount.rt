@@ -21,7 +21,7 @@ pub struct Digits {
     pub next: usize,
 }
 
-// The value of a digit, hexadecimal ones in either case; 99: no digit.
+// The value of a digit, hexadecimal ones in either case, or NO_DIGIT.
 pub(crate) fn digit_value(b: u8) -> u64
     ensures { λ r. ⌜ r ≡ digitNumber b ⌝ }
 {
@@ -80,6 +80,28 @@ fn grow(a: Amount, radix: u64, d: u64) -> Amount
     }
 }
 
+// With a number up to this one, a digit more is in 64 bits in every radix.
+const SURE: u64 = 0x0fff_ffff_ffff_ffff;
+
+// A digit more; nearly all numbers need no test of the limit, which costs a division.
+fn with_digit(a: Amount, radix: u64, d: u64) -> Amount
+    requires { ⌜ Base radix d ⌝ }
+    ensures { λ r. ⌜ Grown a radix d r ⌝ }
+{
+    let value = a.value;
+    if SURE < value {
+        return grow(a, radix, d);
+    }
+    let over = a.over;
+    if over {
+        return grow(a, radix, d);
+    }
+    Amount {
+        value: value * radix + d,
+        over: false,
+    }
+}
+
 // The digits from a place on, behind those that make `first`.
 pub fn count_digits(text: &[u8], from: usize, radix: u64, first: u64) -> Digits
     requires { ⌜ ScansDigits (now text) from radix first ⌝ }
@@ -95,7 +117,7 @@ pub fn count_digits(text: &[u8], from: usize, radix: u64, first: u64) -> Digits
         if radix <= d {
             return Digits { amount, next: at };
         }
-        amount = grow(amount, radix, d);
+        amount = with_digit(amount, radix, d);
         at += 1;
     }
     Digits { amount, next: at }

@@ -1,6 +1,15 @@
-// Encoding indicators, by number: 0 none, 1 `_` alone, 2 unknown, 3 to 7 the widths of 0, 1, 2, 4 and 8 bytes.
+// The indicator behind a token, and the width that it gives.
 use scanning::scan::TextCursor;
 use scanning::scan::next_is;
+use token::indicator::EIGHT_BYTES;
+use token::indicator::FOUR_BYTES;
+use token::indicator::IMMEDIATE;
+use token::indicator::INDEFINITE;
+use token::indicator::MISFIT;
+use token::indicator::NONE;
+use token::indicator::ONE_BYTE;
+use token::indicator::TWO_BYTES;
+use token::indicator::UNKNOWN;
 ghost use mathlib.Core.Path.{_≡_};
 ghost use Prim.Native.Nat.{_≤_};
 ghost use lib.ListN.{length};
@@ -25,19 +34,19 @@ fn named(text: &[u8], from: usize, end: usize) -> u8
 {
     let size = end - from;
     if size == 0 {
-        return 1;
+        return INDEFINITE;
     }
     if 1 < size {
-        return 2;
+        return UNKNOWN;
     }
     let b = text[from];
     match b {
-        0x69 => 3,
-        0x30 => 4,
-        0x31 => 5,
-        0x32 => 6,
-        0x33 => 7,
-        _ => 2,
+        b'i' => IMMEDIATE,
+        b'0' => ONE_BYTE,
+        b'1' => TWO_BYTES,
+        b'2' => FOUR_BYTES,
+        b'3' => EIGHT_BYTES,
+        _ => UNKNOWN,
     }
 }
 
@@ -46,7 +55,7 @@ pub fn indicator_at(text: &[u8], at: usize) -> Mark
     requires { ⌜ at ≤ length (now text) ⌝ }
     ensures { λ r. ⌜ Indicated (now (text .entry)) at r ⌝ }
 {
-    if next_is(text, at, 0x5f) {
+    if next_is(text, at, b'_') {
         let from = at + 1;
         let end = TextCursor { at: from }.word(text);
         let next = end.at;
@@ -55,17 +64,20 @@ pub fn indicator_at(text: &[u8], at: usize) -> Mark
             next,
         };
     }
-    Mark { mark: 0, next: at }
+    Mark {
+        mark: NONE,
+        next: at,
+    }
 }
 
 fn limit_of(width: u8) -> u64
     ensures { λ r. ⌜ r ≡ limitBy width ⌝ }
 {
     match width {
-        3 => 23,
-        4 => 0xff,
-        5 => 0xffff,
-        6 => 0xffff_ffff,
+        IMMEDIATE => 23,
+        ONE_BYTE => 0xff,
+        TWO_BYTES => 0xffff,
+        FOUR_BYTES => 0xffff_ffff,
         _ => 0xffff_ffff_ffff_ffff,
     }
 }
@@ -74,32 +86,32 @@ fn shortest(n: u64) -> u8
     ensures { λ r. ⌜ r ≡ widthNumber (shortest n) ⌝ }
 {
     if n <= 23 {
-        return 3;
+        return IMMEDIATE;
     }
     if n <= 0xff {
-        return 4;
+        return ONE_BYTE;
     }
     if n <= 0xffff {
-        return 5;
+        return TWO_BYTES;
     }
     if n <= 0xffff_ffff {
-        return 6;
+        return FOUR_BYTES;
     }
-    7
+    EIGHT_BYTES
 }
 
-// The width that an indicator gives an argument; 0: a misfit.
+// The width that an indicator gives an argument, or that it does not fit.
 pub fn choose(mark: u8, n: u64) -> u8
     ensures { λ r. ⌜ r ≡ chooseBy mark n ⌝ }
 {
-    if mark == 0 {
+    if mark == NONE {
         return shortest(n);
     }
-    if mark <= 2 {
-        return 0;
+    if mark <= UNKNOWN {
+        return MISFIT;
     }
     if n <= limit_of(mark) {
         return mark;
     }
-    0
+    MISFIT
 }

@@ -8,7 +8,15 @@ use crate::indicator::choose;
 use crate::indicator::indicator_at;
 use scanning::scan::next_is;
 use token::Token;
+use token::indicator::MISFIT;
+use token::kind::NEGATIVE;
+use token::kind::TAG;
+use token::kind::UNSIGNED;
 use token::made;
+use token::reason::BAD_INDICATOR;
+use token::reason::FLOAT;
+use token::reason::NOTHING;
+use token::reason::OUT_OF_RANGE;
 use token::refuse;
 ghost use mathlib.Core.Path.{_≡_};
 ghost use mathlib.Core.Bool.{true};
@@ -20,18 +28,18 @@ ghost use Rattle.token.specs.TokenAnswers.{Says};
 ghost use Rattle.numbers.specs.NumberAnswers.{Judging, Integral, Decimals, DigitAt, radixNumber, Prefixed};
 ghost use Rattle.cbor.specs.Flags.{signOf};
 
-// An argument and its indicator: 7, then 9, else the token of a code.
-fn judged(code: u8, mark: u8, n: u64, over: bool, place: usize, next: usize) -> Token
-    ensures { λ r. ⌜ Judging code mark n over place next r ⌝ }
+// An argument and its indicator: 7, then 9, else the token of a kind.
+fn judged(kind: u8, mark: u8, n: u64, over: bool, place: usize, next: usize) -> Token
+    ensures { λ r. ⌜ Judging kind mark n over place next r ⌝ }
 {
     if over {
-        return refuse(7, place);
+        return refuse(OUT_OF_RANGE, place);
     }
     let width = choose(mark, n);
-    if width == 0 {
-        return refuse(9, place);
+    if width == MISFIT {
+        return refuse(BAD_INDICATOR, place);
     }
-    made(code, width, n, place, next)
+    made(kind, width, n, place, next)
 }
 
 // The argument of -n is n - 1, which is in 64 bits for n = 2^64 too.
@@ -42,14 +50,21 @@ fn negated(a: Amount, m: Mark, place: usize) -> Token
     let over = a.over;
     if over {
         if value == 0 {
-            return judged(2, m.mark, 0xffff_ffff_ffff_ffff, false, place, m.next);
+            return judged(
+                NEGATIVE,
+                m.mark,
+                0xffff_ffff_ffff_ffff,
+                false,
+                place,
+                m.next,
+            );
         }
-        return judged(2, m.mark, 0, true, place, m.next);
+        return judged(NEGATIVE, m.mark, 0, true, place, m.next);
     }
     if value == 0 {
-        return refuse(3, place);
+        return refuse(NOTHING, place);
     }
-    judged(2, m.mark, value - 1, false, place, m.next)
+    judged(NEGATIVE, m.mark, value - 1, false, place, m.next)
 }
 
 fn integer(minus: bool, a: Amount, m: Mark, place: usize) -> Token
@@ -58,7 +73,7 @@ fn integer(minus: bool, a: Amount, m: Mark, place: usize) -> Token
     if minus {
         return negated(a, m, place);
     }
-    judged(1, m.mark, a.value, a.over, place, m.next)
+    judged(UNSIGNED, m.mark, a.value, a.over, place, m.next)
 }
 
 // Behind decimal digits: an integer, or the opening of a tag.
@@ -71,38 +86,41 @@ fn decimal(text: &[u8], place: usize, at: usize, minus: bool, a: Amount) -> Toke
         return integer(true, a, m, place);
     }
     let next = m.next;
-    if next_is(text, next, 0x28) {
-        return judged(6, m.mark, a.value, a.over, place, next + 1);
+    if next_is(text, next, b'(') {
+        return judged(TAG, m.mark, a.value, a.over, place, next + 1);
     }
     integer(false, a, m, place)
 }
+
+// No radix, in place of one: no digit is below it.
+const NO_RADIX: u64 = 0;
 
 fn radix_of(b: u8) -> u64
     ensures { λ r. ⌜ r ≡ radixNumber (radixOf b) ⌝ }
 {
     match b {
-        0x78 => 16,
-        0x6f => 8,
-        0x62 => 2,
-        _ => 0,
+        b'x' => 16,
+        b'o' => 8,
+        b'b' => 2,
+        _ => NO_RADIX,
     }
 }
 
-// The radix that a letter behind a zero gives, if a digit of it follows; else 0.
+// The radix that a letter behind a zero gives, if a digit of it follows.
 fn prefix(text: &[u8], at: usize) -> u64
     ensures { λ r. ⌜ Prefixed (now (text .entry)) at r ⌝ }
 {
     if text.len() <= at {
-        return 0;
+        return NO_RADIX;
     }
     if text.len() - at < 2 {
-        return 0;
+        return NO_RADIX;
     }
     let radix = radix_of(text[at]);
     if digit_value(text[at + 1]) < radix {
         return radix;
     }
-    0
+    NO_RADIX
 }
 
 fn after_zero(text: &[u8], place: usize, at: usize, minus: bool) -> Token
@@ -110,7 +128,7 @@ fn after_zero(text: &[u8], place: usize, at: usize, minus: bool) -> Token
     ensures { λ r. ⌜ Says (now (text .entry)) place r (afterZero (signOf minus) (drop at (marked (now (text .entry))))) ⌝ }
 {
     let radix = prefix(text, at);
-    if radix == 0 {
+    if radix == NO_RADIX {
         return decimal(
             text,
             place,
@@ -125,7 +143,7 @@ fn after_zero(text: &[u8], place: usize, at: usize, minus: bool) -> Token
     let d = count_digits(text, at + 2, radix, digit_value(text[at + 1]));
     let next = d.next;
     if floats(text, next, radix) {
-        return refuse(6, place);
+        return refuse(FLOAT, place);
     }
     let a = d.amount;
     let m = indicator_at(text, next);
@@ -141,9 +159,9 @@ pub fn number(text: &[u8], place: usize, at: usize, minus: bool) -> Token
     let d = count_digits(text, at + 1, 10, digit_value(b));
     let next = d.next;
     if floats(text, next, 10) {
-        return refuse(6, place);
+        return refuse(FLOAT, place);
     }
-    if b == 0x30 {
+    if b == b'0' {
         return after_zero(text, place, at + 1, minus);
     }
     let a = d.amount;

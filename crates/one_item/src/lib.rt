@@ -3,7 +3,7 @@ use encoding::answer::MadeItem;
 use encoding::answer::ReadAnswer;
 use encoding::answer::refuse;
 use encoding::answer::strayed;
-use reader::item;
+use reader::single;
 use refusal::RefusalKind;
 use scanning::scan::TextCursor;
 use tokens::cut::next_token;
@@ -39,7 +39,7 @@ pub fn read_one(text: &[u8], levels: usize, buf: &mut [u8]) -> ReadAnswer
     if first.at != 0 {
         return refuse(RefusalKind::NotAllowed, 0);
     }
-    let a = item(text, 0, levels, buf, 0);
+    let a = single(text, 0, levels, buf, 0);
     match a {
         ReadAnswer::Refused(e) => ReadAnswer::Refused(e),
         ReadAnswer::Made(m) => alone(text, levels, m),

@@ -1,13 +1,13 @@
 -- Of the code: what the code that follows a path answers.
-use Prim.Native.Nat.{ℕ, _≤_}
+use Prim.Native.Nat.{ℕ, _*_, _≤_, _<_}
 use mathlib.Core.Path.{_≡_}
 use mathlib.Core.List.{List}
-use mathlib.Core.Bool.{true, false}
-use lib.Dec.{eqb}
+use mathlib.Core.Bool.{Bool, true, false}
 use lib.ListN.{length, drop}
-use Rattle.cbor.specs.Decode.{Until, counted, broken}
+use Rattle.cbor.specs.Decode.{counted}
+use Rattle.walk.specs.WalkAnswers.{allOf}
 use Rattle.cbor.specs.Paths.{Found, found, nowhere}
-use Rattle.path.specs.Following.{Place, at, astray, trace}
+use Rattle.path.specs.Following.{Place, at, astray, behindOne, trace}
 use Rattle.path.specs.declared.Destination.{Destination}
 use Rattle.path.specs.declared.Destination.the-variants.{To, Nowhere}
 use Rattle.path.specs.declared.Trace.{Trace}
@@ -27,9 +27,23 @@ pub record ReachedAt (s : List ℕ) (r : Destination) (p : Place) : Type 0 where
   pub is : placeOf s r ≡ p
   pub inside : ReachedInside s r
 
--- how far the elements behind a head go
-unfoldable pub extentBy : ℕ → ℕ → Until
-extentBy info n = elim (eqb info 31) [ true ↦ broken | false ↦ counted n ]
+-- a number of a path, of at most 16 bits
+pub record Step (k r : ℕ) : Type 0 where
+  pub is : r ≡ k
+  pub small : r < 65536
+
+-- elements of an array, or entries of a map, which are pairs of items
+unfoldable pub majorBy : Bool → ℕ
+majorBy true = 5
+majorBy false = 4
+
+unfoldable pub itemsBefore : Bool → ℕ → ℕ
+itemsBefore true k = k * 2
+itemsBefore false k = k
+
+-- behind a number of items
+unfoldable pub pastItems : ℕ → List ℕ → Place
+pastItems n s = behindOne (allOf 4 17 (counted n) s)
 
 unfoldable pub tracedTo : List ℕ → Trace → Found (List ℕ)
 tracedTo s (At c) = found (drop (c .at) s)

@@ -1,13 +1,12 @@
 // A path, followed step by step.
 use head::HeadRead;
-use walk::Extent;
 use walk::Passed;
-use walk::Turn;
 ghost use mathlib.Core.Path.{_≡_};
-ghost use lib.ListN.{length, drop};
-ghost use Rattle.walk.specs.WalkAnswers.{untilOf, Within};
-ghost use Rattle.path.specs.Following.{pastOne, nthFrom, childIn};
-ghost use Rattle.path.specs.StepAnswers.{ReachedAt, extentBy, Traced};
+ghost use Prim.Native.Nat.{_-_};
+ghost use lib.ListN.{drop};
+ghost use Rattle.walk.specs.WalkAnswers.{untilBy, Within};
+ghost use Rattle.path.specs.Following.{nthFrom, childIn};
+ghost use Rattle.path.specs.StepAnswers.{ReachedAt, Step, itemsBefore, majorBy, pastItems, Traced};
 
 // A place in the bytes.
 pub struct Cursor {
@@ -26,59 +25,59 @@ pub enum Trace {
     Lost(usize),
 }
 
-// How far the elements behind a head go.
-fn until_of(info: u8, argument: u64) -> Extent
-    ensures { λ r. ⌜ untilOf r ≡ extentBy info argument ⌝ }
+fn wide(k: u16) -> u64
+    ensures { λ r. ⌜ Step k r ⌝ }
 {
-    if info == 31 {
-        return Extent::Broken;
+    k as u64
+}
+
+// How many items stand before the element number `k` of an array, or before the entry number `k` of a map, where they come in pairs.
+fn items_before(pairs: bool, k: u16) -> u64
+    ensures { λ r. ⌜ r ≡ itemsBefore pairs k ⌝ }
+{
+    if pairs {
+        return wide(k) * 2;
     }
-    Extent::Counted(argument)
+    wide(k)
+}
+
+// What is left of a number behind some.
+fn behind(count: u64, k: u64) -> u64
+    ensures { λ r. ⌜ r ≡ count - k ⌝ }
+{
+    if count <= k {
+        return 0;
+    }
+    count - k
 }
 
 impl Cursor {
-    // Past one element of an array, or one entry of a map.
-    fn past(self, bytes: &[u8], major: u8) -> Destination
-        ensures { λ r. ⌜ ReachedAt (now (bytes .entry)) r (pastOne major (drop (self .at) (now (bytes .entry)))) ⌝ }
+    // Past a number of items.
+    fn past(self, bytes: &[u8], n: u64) -> Destination
+        requires { ⌜ Within (now bytes) (self .at) ⌝ }
+        ensures { λ r. ⌜ ReachedAt (now (bytes .entry)) r (pastItems n (drop (self .at) (now (bytes .entry)))) ⌝ }
     {
         let at = self.at;
-        if bytes.len() < at {
-            return Destination::Nowhere;
-        }
-        let part = walk::after(at, 0, walk::one(&bytes[at..], major, 17));
+        let part = walk::after(at, 0, walk::elements(&bytes[at..], walk::COUNTED, n, 16));
         match part {
             Passed::Refused(_e) => Destination::Nowhere,
             Passed::Span(m) => Destination::To(Cursor { at: m.end }),
         }
     }
 
-    // To the element, or the entry, number `k`, where they begin at the cursor.
-    fn nth(self, bytes: &[u8], until: Extent, major: u8, k: u16) -> Destination
+    // To the element of an array, or the entry of a map, number `k`, where they begin at the cursor.
+    fn nth(self, bytes: &[u8], mode: u8, count: u64, pairs: bool, k: u16) -> Destination
         requires { ⌜ Within (now bytes) (self .at) ⌝ }
-        ensures { λ r. ⌜ ReachedAt (now (bytes .entry)) r (nthFrom major k (untilOf until) (drop (self .at) (now (bytes .entry)))) ⌝ }
+        ensures { λ r. ⌜ ReachedAt (now (bytes .entry)) r (nthFrom (majorBy pairs) k (untilBy mode count) (drop (self .at) (now (bytes .entry)))) ⌝ }
     {
-        let mut at = self.at;
-        let mut left = until;
-        let mut n = k;
-        loop {
-            let turn = walk::turn_at(bytes, at, left);
-            match turn {
-                Turn::Over(_end) => return Destination::Nowhere,
-                Turn::Another(next) => {
-                    if n == 0 {
-                        return Destination::To(Cursor { at });
-                    }
-                    let here = Cursor { at };
-                    let step = here.past(bytes, major);
-                    match step {
-                        Destination::Nowhere => return Destination::Nowhere,
-                        Destination::To(c) => {
-                            at = c.at;
-                            left = next;
-                            n -= 1;
-                        }
-                    }
+        let step = self.past(bytes, items_before(pairs, k));
+        match step {
+            Destination::Nowhere => Destination::Nowhere,
+            Destination::To(c) => {
+                if walk::is_over(bytes, c.at, mode, behind(count, wide(k))) {
+                    return Destination::Nowhere;
                 }
+                Destination::To(Cursor { at: c.at })
             }
         }
     }
@@ -92,17 +91,17 @@ impl Cursor {
             HeadRead::Refused(_e) => Destination::Nowhere,
             HeadRead::Head(h) => {
                 let first = Cursor { at: h.end };
-                let until = until_of(h.info, h.argument);
+                let mode = walk::mode_of(h.info);
                 if h.major == 4 {
-                    return first.nth(bytes, until, 4, k);
+                    return first.nth(bytes, mode, h.argument, false, k);
                 }
                 if h.major != 5 {
                     return Destination::Nowhere;
                 }
-                let step = first.nth(bytes, until, 5, k);
+                let step = first.nth(bytes, mode, h.argument, true, k);
                 match step {
                     Destination::Nowhere => Destination::Nowhere,
-                    Destination::To(c) => c.past(bytes, 4),
+                    Destination::To(c) => c.past(bytes, 1),
                 }
             }
         }
@@ -117,7 +116,7 @@ pub fn follow(bytes: &[u8], path: &[u16]) -> Trace
         return Trace::Lost(0);
     }
     let top = Cursor { at: 0 };
-    let mut step = top.nth(bytes, Extent::Ended, 4, path[0]);
+    let mut step = top.nth(bytes, walk::ENDED, 0, false, path[0]);
     let mut i: usize = 0;
     loop {
         match step {

@@ -1,2 +1,2 @@
 pub mod QuotedCode
-pub mod QuotedLoops
+pub mod QuotedPieces

@@ -1,90 +1,55 @@
--- Quoted strings: what a byte does at each place, and what is given.
+-- Quoted strings: what an escape stands for, and a code point in UTF-8.
 -- Assumes nothing.
 use mathlib.Core.Path.{_≡_, refl, sym, ap, _∙_, subst⁻¹}
-use mathlib.Core.List.{List, [], _∷_}
-use mathlib.Core.Bool.{Bool, true, false}
-use Prim.Native.Nat.{ℕ, zero, suc, _+_, _-_, _*_, _/_, _%_, _≤_, _<_}
+use mathlib.Core.List.{List, [], _∷_, _++_}
+use mathlib.Core.Bool.{Bool, true, false, not}
+use Prim.Native.Nat.{ℕ, suc, _+_, _-_, _*_, _/_, _%_, _≤_, _<_}
 use native.Mathlib.Omega.{arith}
-use lib.Dec.{eqb}
-use lib.ListN.{length}
-use borrow.Author.Tests.{le-leb, lt-leb, eq-eqb, ne-eqb, lt-ltb, le-ltb}
+use lib.Dec.{ltb, eqb}
+use lib.ListN.{length, drop, getD}
+use borrow.Author.Tests.{le-leb, lt-leb, ne-eqb, lt-ltb, le-ltb, ltb-true, ltb-false, not-true, not-false}
+use Rattle.cbor.specs.Refusals.{Result, ok, bind, noToken}
 use Rattle.cbor.specs.Utf8.{_to_, isIn}
-use Rattle.notation.specs.Quoted.{utf8Of, Before, noSurrogate, highSurrogate, character, escape, unicode, paired, Move, gives, closed, wrong, Escape, escapes, escapedIn, wholeUnit, unit, moveAt}
+use Rattle.notation.specs.Numbers.{isDigit}
+use Rattle.notation.specs.Reading.{marked}
+use Rattle.notation.specs.Scanning.{fault}
+use Rattle.notation.specs.Quoted.{utf8Of, Before, noSurrogate, highSurrogate, Quoting, character, escape, unicode, paired, Move, gives, closed, wrong, Escape, escapes, escapedIn, wholeUnit, unit, moveAt, unquote}
+use Rattle.scanning.specs.ScanAnswers.{isNext, Peeked}
+use Rattle.scanning.proofs.ScanCode.{peeked-yes}
 use Rattle.literal_body.specs.LiteralAnswers.{digitNumber, Put}
-use Rattle.quoted.specs.QuotedAnswers.{beforeOf, quotingOf, emitted, moveOf, roomOf, Surrogate, High, Sound, UnitDigits, Whole, Emits, Goes, Sized, escapedAs, Escaped, Tail}
-use Rattle.quoted.specs.declared.QuotedStep.{QuotedStep}
-use Rattle.literal_body.proofs.LiteralCode.{digit-yes, digit-no, digit-number, put-none, put-more}
+use Rattle.quoted.specs.QuotedAnswers.{onward, escapedAs, Escaped, DigitAt, UnitAt, Surrogate, Unescapes, Behind, Escapes, EscapesUnquoted, Tail}
+use Rattle.quoted.specs.declared.ReadEscape.{ReadEscape}
+use Rattle.notation.proofs.TextScan.{tested}
+use Rattle.literal_body.proofs.LiteralCode.{true-false, pre-nil, front-marked, past, digit-yes, digit-no, digit-number, put-more}
 
--- WAYS TO MOVE
+-- ONE BYTE
 
-before-high : (h : ℕ) → 0xd800 ≤ h → beforeOf h ≡ highSurrogate h
-unfolding beforeOf
-before-high zero l = absurd (omega arith)
-before-high (suc h) l = refl
+pub unquote-next : (q : ℕ) (k : Quoting) (b : ℕ) (s : List ℕ) → unquote q k (b ∷ s) ≡ onward q (moveAt q k b) s
+unfolding unquote onward
+unquote-next q k b s = go (moveAt q k b)
+  where
+    go : (m : Move) → _≡_ {A = Result (List ℕ)} (elim m [ gives w k′ ↦ bind (unquote q k′ s) (λ c r. ok (w ++ c) r) | closed ↦ ok [] s | wrong ↦ fault noToken ]) (onward q m s)
+    go (gives w k′) = refl
+    go closed = refl
+    go wrong = refl
 
-no-high : High 0
-no-high = record { top = omega arith; none = λ h. refl }
+-- at a byte of the text that moves as m says
+pub unquote-by : (q : ℕ) (k : Quoting) {m : Move} (s : List ℕ) (i : ℕ) → i < length s → moveAt q k (getD s i 0) ≡ m → unquote q k (drop i (marked s)) ≡ onward q m (drop (i + 1) (marked s))
+unquote-by q k s i h e =
+    ap (unquote q k) (front-marked s i h) ∙ (unquote-next q k (getD s i 0) (drop (i + 1) (marked s)) ∙ ap (λ (y : Move). onward q y (drop (i + 1) (marked s))) e)
 
-surrogate-high : {h : ℕ} → Surrogate h → High h
-surrogate-high x = record { top = x .top; none = λ z. absurd (omega (arith, x .from)) }
+-- nothing is given
+pub onward-on : (q : ℕ) (k : Quoting) (s : List ℕ) → onward q (gives [] k) s ≡ unquote q k s
+unfolding onward
+onward-on q k s = pre-nil (unquote q k s)
 
-pub at-start : Sound 0 0 0
-unfolding roomOf
-at-start = record { most = omega arith; unit = omega arith; small = omega arith; high = no-high; pair = λ z. absurd (omega arith) }
+-- behind the text, where the end mark may not stand
+pub unquote-end : (q : ℕ) (k : Quoting) (s : List ℕ) (i : ℕ) → length s ≤ i → moveAt q k 256 ≡ wrong → unquote q k (drop i (marked s)) ≡ fault noToken
+unfolding unquote onward
+unquote-end q k s i h e =
+    past (λ (x : List ℕ). unquote q k x ≡ fault noToken) s i h (unquote-next q k 256 [] ∙ ap (λ (m : Move). onward q m []) e) refl
 
-module _ {m : Move} {r : QuotedStep} where
-  -- nothing is given, and the string goes on at another place
-  goes-on : (k u h : ℕ) → r ≡ record { kind = 0; value = 0; mode = k; unit = u; high = h } → Sound k u h → m ≡ gives [] (quotingOf k u h) → Goes m r
-  unfolding moveOf emitted
-  goes-on k u h e s q = subst⁻¹ (Goes m) e (record { is = q; sound = s; emits = record { byte = λ z. omega arith; point = omega arith }; most = omega arith })
-
-  give-byte : (v : ℕ) → r ≡ record { kind = 1; value = v; mode = 0; unit = 0; high = 0 } → v < 256 → m ≡ gives (v ∷ []) character → Goes m r
-  unfolding moveOf emitted quotingOf
-  give-byte v e h q = subst⁻¹ (Goes m) e (record { is = q; sound = at-start; emits = record { byte = λ z. h; point = omega arith }; most = omega arith })
-
-  give-point : (v : ℕ) → r ≡ record { kind = 2; value = v; mode = 0; unit = 0; high = 0 } → v < 0x110000 → m ≡ gives (utf8Of v) character → Goes m r
-  unfolding moveOf emitted quotingOf
-  give-point v e h q = subst⁻¹ (Goes m) e (record { is = q; sound = at-start; emits = record { byte = λ z. absurd (omega arith); point = h }; most = omega arith })
-
-  it-closes : r ≡ record { kind = 3; value = 0; mode = 0; unit = 0; high = 0 } → m ≡ closed → Goes m r
-  unfolding moveOf
-  it-closes e q = subst⁻¹ (Goes m) e (record { is = q; sound = at-start; emits = record { byte = λ z. omega arith; point = omega arith }; most = omega arith })
-
-  is-wrong : r ≡ record { kind = 4; value = 0; mode = 0; unit = 0; high = 0 } → m ≡ wrong → Goes m r
-  unfolding moveOf
-  is-wrong e q = subst⁻¹ (Goes m) e (record { is = q; sound = at-start; emits = record { byte = λ z. omega arith; point = omega arith }; most = omega arith })
-
-quoting-digits : (m u h : ℕ) → (m ≡ 0 → ⊥) → (m ≡ 5 → ⊥) → (m ≡ 6 → ⊥) → quotingOf m u h ≡ unicode m u (beforeOf h)
-unfolding quotingOf
-quoting-digits m u h n₀ n₅ n₆ = simp (quotingOf, ne-eqb m 0 n₀, ne-eqb m 5 n₅, ne-eqb m 6 n₆)
-
--- AT A CHARACTER
-
-module _ (q b : ℕ) where
-  pub character-close : {r : QuotedStep} → b ≡ q → r ≡ record { kind = 3; value = 0; mode = 0; unit = 0; high = 0 } → Goes (moveAt q character b) r
-  unfolding moveAt
-  character-close e p = it-closes p (rw (eq-eqb b q e, moveAt))
-
-  module _ (n : b ≡ q → ⊥) where
-    pub character-backslash : {r : QuotedStep} → b ≡ 0x5c → r ≡ record { kind = 0; value = 0; mode = 5; unit = 0; high = 0 } → Goes (moveAt q character b) r
-    unfolding moveAt quotingOf beforeOf roomOf
-    character-backslash e p =
-        goes-on 5 0 0 p (record { most = omega arith; unit = omega arith; small = omega arith; high = no-high; pair = λ z. absurd (omega arith) }) (simp (moveAt, ne-eqb b q n, eq-eqb b 0x5c e))
-
-    module _ (n₂ : b ≡ 0x5c → ⊥) where
-      pub character-low : {r : QuotedStep} → b < 0x20 → r ≡ record { kind = 4; value = 0; mode = 0; unit = 0; high = 0 } → Goes (moveAt q character b) r
-      unfolding moveAt
-      character-low h p = is-wrong p (simp (moveAt, ne-eqb b q n, ne-eqb b 0x5c n₂, lt-leb 0x20 b h))
-
-      pub character-plain : {r : QuotedStep} → b < 256 → 0x20 ≤ b → r ≡ record { kind = 1; value = b; mode = 0; unit = 0; high = 0 } → Goes (moveAt q character b) r
-      unfolding moveAt
-      character-plain u h p =
-          let l : b ≤ 0xff = omega arith in
-          give-byte b p u (simp (moveAt, ne-eqb b q n, ne-eqb b 0x5c n₂, le-leb 0x20 b h, le-leb b 0xff l))
-
-pub ruleset character-ways = (character-close, character-backslash, character-low, character-plain)
-
--- BEHIND A BACKSLASH
+-- LETTERS
 
 abbrev NoneOf : List Escape → ℕ → Type 0
 NoneOf [] b = Unit
@@ -98,105 +63,109 @@ escaped-not (e ∷ es) b n = (rw (ne-eqb b (e .letter) (n .0), escapedIn)) ∙ e
 module _ {b : ℕ} where
   pub escaped-backslash : b ≡ 0x5c → Escaped b 0x5c
   unfolding escapedIn escapes escapedAs
-  escaped-backslash e = record { is = rw e; byte = omega arith }
+  escaped-backslash e = record { is = rw e; low = omega arith }
 
   pub escaped-slash : b ≡ 0x2f → Escaped b 0x2f
   unfolding escapedIn escapes escapedAs
-  escaped-slash e = record { is = rw e; byte = omega arith }
+  escaped-slash e = record { is = rw e; low = omega arith }
 
   pub escaped-b : b ≡ 0x62 → Escaped b 0x08
   unfolding escapedIn escapes escapedAs
-  escaped-b e = record { is = rw e; byte = omega arith }
+  escaped-b e = record { is = rw e; low = omega arith }
 
   pub escaped-f : b ≡ 0x66 → Escaped b 0x0c
   unfolding escapedIn escapes escapedAs
-  escaped-f e = record { is = rw e; byte = omega arith }
+  escaped-f e = record { is = rw e; low = omega arith }
 
   pub escaped-n : b ≡ 0x6e → Escaped b 0x0a
   unfolding escapedIn escapes escapedAs
-  escaped-n e = record { is = rw e; byte = omega arith }
+  escaped-n e = record { is = rw e; low = omega arith }
 
   pub escaped-r : b ≡ 0x72 → Escaped b 0x0d
   unfolding escapedIn escapes escapedAs
-  escaped-r e = record { is = rw e; byte = omega arith }
+  escaped-r e = record { is = rw e; low = omega arith }
 
   pub escaped-t : b ≡ 0x74 → Escaped b 0x09
   unfolding escapedIn escapes escapedAs
-  escaped-t e = record { is = rw e; byte = omega arith }
+  escaped-t e = record { is = rw e; low = omega arith }
 
   pub escaped-none : (b ≡ 0x5c → ⊥) → (b ≡ 0x2f → ⊥) → (b ≡ 0x62 → ⊥) → (b ≡ 0x66 → ⊥) → (b ≡ 0x6e → ⊥) → (b ≡ 0x72 → ⊥) → (b ≡ 0x74 → ⊥) → Escaped b 0
   unfolding escapedIn escapes escapedAs
   escaped-none n₁ n₂ n₃ n₄ n₅ n₆ n₇ =
       record {
         is = escaped-not escapes b (n₁, (n₂, (n₃, (n₄, (n₅, (n₆, (n₇, tt)))))));
-        byte = omega arith;
+        low = omega arith;
       }
 
 pub ruleset escaped-ways = (escaped-backslash, escaped-slash, escaped-b, escaped-f, escaped-n, escaped-r, escaped-t, escaped-none)
 
-four-start : {h : ℕ} → High h → Sound 4 0 h
-unfolding roomOf
-four-start x = record { most = omega arith; unit = omega arith; small = omega arith; high = x; pair = λ z. absurd (omega arith) }
+-- DIGITS
 
-escape-high : (q h b : ℕ) → 0xd800 ≤ h → moveAt q (escape (beforeOf h)) b ≡ elim (eqb b 0x75) [ true ↦ gives [] (unicode 4 0 (beforeOf h)) | false ↦ wrong ]
-unfolding moveAt beforeOf
-escape-high q zero b l = absurd (omega arith)
-escape-high q (suc h) b l = refl
+pub digit-past : {s : List ℕ} {at : ℕ} → length s ≤ at → DigitAt s at 99
+unfolding moveAt isDigit isIn
+digit-past {s} {at} h = record { none = λ l q k c u. unquote-end q (unicode k c u) s at h refl; some = λ l. absurd (omega arith); inside = λ l. absurd (omega arith) }
 
-escape-none : (q h b : ℕ) → h ≡ 0 → moveAt q (escape (beforeOf h)) b ≡ moveAt q (escape noSurrogate) b
-unfolding beforeOf
-escape-none q h b e = ap (λ (x : ℕ). moveAt q (escape (beforeOf x)) b) e
+pub digit-here : {s : List ℕ} {at v : ℕ} → at < length s → v ≡ digitNumber (getD s at 0) → DigitAt s at v
+unfolding moveAt onward
+digit-here {s} {at} {v} h d =
+    let b = getD s at 0 in
+    record {
+      none = λ l q k c u. let l′ : 16 ≤ digitNumber b = omega arith in unquote-by q (unicode k c u) {m = wrong} s at h (rw (digit-no 16 b l′, moveAt));
+      some = λ l q k c u.
+          let l′ : digitNumber b < 16 = omega arith in
+          let t = digit-yes 16 b l′ (omega arith) in
+          unquote-by q (unicode k c u) s at h ((rw (t, moveAt)) ∙ ap (λ (x : ℕ). unit (k - 1) (c * 16 + x) u) (sym (d ∙ digit-number 16 b t)));
+      inside = λ l. h;
+    }
 
-module _ (q h b : ℕ) (x : High h) where
-  pub escape-low : {r : QuotedStep} → 0xd800 ≤ h → b ≡ 0x75 → r ≡ record { kind = 0; value = 0; mode = 4; unit = 0; high = h } → Goes (moveAt q (escape (beforeOf h)) b) r
-  unfolding quotingOf
-  escape-low l e p = goes-on 4 0 h p (four-start x) (escape-high q h b l ∙ rw e)
+pub ruleset digit-ways = (digit-past, digit-here)
 
-  pub escape-lone : {r : QuotedStep} → 0xd800 ≤ h → (b ≡ 0x75 → ⊥) → r ≡ record { kind = 4; value = 0; mode = 0; unit = 0; high = 0 } → Goes (moveAt q (escape (beforeOf h)) b) r
-  escape-lone l n p = is-wrong p (escape-high q h b l ∙ rw (ne-eqb b 0x75 n))
+-- one digit more, that is not the last
+digit-on : {s : List ℕ} {i v : ℕ} (k c q : ℕ) (h : Before) → DigitAt s i v → v < 16 → unquote q (unicode (suc (suc k)) c h) (drop i (marked s)) ≡ unquote q (unicode (suc k) (c * 16 + v) h) (drop (i + 1) (marked s))
+unfolding unit
+digit-on {s} {i} {v} k c q h x l =
+    let e : suc (suc k) - 1 ≡ suc k = omega arith in
+    (rw e at (x .some l q (suc (suc k)) c h)) ∙ onward-on q (unicode (suc k) (c * 16 + v) h) (drop (i + 1) (marked s))
 
-  module _ (l : h < 0xd800) where
-    none-is : moveAt q (escape (beforeOf h)) b ≡ moveAt q (escape noSurrogate) b
-    none-is = escape-none q h b (x .none l)
+no-unit : {s : List ℕ} {at : ℕ} → ((q : ℕ) (h : Before) → unquote q (unicode 4 0 h) (drop at (marked s)) ≡ fault noToken) → UnitAt s at 0x10000
+no-unit f = record { none = λ l. f; some = λ l. absurd (omega arith); inside = λ l. absurd (omega arith) }
 
-    pub escape-quote : {r : QuotedStep} → q < 256 → b ≡ q → r ≡ record { kind = 1; value = q; mode = 0; unit = 0; high = 0 } → Goes (moveAt q (escape (beforeOf h)) b) r
-    unfolding moveAt
-    escape-quote u e p = give-byte q p u (none-is ∙ rw (eq-eqb b q e, moveAt))
+module _ {s : List ℕ} {at a : ℕ} (x : DigitAt s at a) where
+  pub unit-first : 16 ≤ a → UnitAt s at 0x10000
+  unit-first l = no-unit (λ q h. x .none l q 4 0 h)
 
-    module _ (n : b ≡ q → ⊥) where
-      pub escape-unicode : {r : QuotedStep} → b ≡ 0x75 → r ≡ record { kind = 0; value = 0; mode = 4; unit = 0; high = 0 } → Goes (moveAt q (escape (beforeOf h)) b) r
-      unfolding moveAt quotingOf beforeOf
-      escape-unicode e p = goes-on 4 0 0 p (four-start no-high) (none-is ∙ simp (moveAt, ne-eqb b q n, eq-eqb b 0x75 e))
+  module _ {b : ℕ} (la : a < 16) (y : DigitAt s (at + 1) b) where
+    pub unit-second : 16 ≤ b → UnitAt s at 0x10000
+    unit-second l = no-unit (λ q h. digit-on 2 0 q h x la ∙ y .none l q 3 _ h)
 
-      module _ {v : ℕ} (n₂ : b ≡ 0x75 → ⊥) (y : Escaped b v) where
-        letter : moveAt q (escape (beforeOf h)) b ≡ escapedAs v
-        unfolding moveAt
-        letter = none-is ∙ (simp (moveAt, ne-eqb b q n, ne-eqb b 0x75 n₂)) ∙ y .is
+    module _ {c : ℕ} (lb : b < 16) (z : DigitAt s (at + 2) c) where
+      two : (q : ℕ) (h : Before) → unquote q (unicode 4 0 h) (drop at (marked s)) ≡ unquote q (unicode 2 ((0 * 16 + a) * 16 + b) h) (drop (at + 2) (marked s))
+      two q h = let e : at + 1 + 1 ≡ at + 2 = omega arith in rw e at (digit-on 2 0 q h x la ∙ digit-on 1 (0 * 16 + a) q h y lb)
 
-        pub escape-wrong : {r : QuotedStep} → v ≡ 0 → r ≡ record { kind = 4; value = 0; mode = 0; unit = 0; high = 0 } → Goes (moveAt q (escape (beforeOf h)) b) r
-        unfolding escapedAs
-        escape-wrong e p = is-wrong p (letter ∙ rw (eq-eqb v 0 e, escapedAs))
+      pub unit-third : 16 ≤ c → UnitAt s at 0x10000
+      unit-third l = no-unit (λ q h. two q h ∙ z .none l q 2 _ h)
 
-        pub escape-letter : {r : QuotedStep} → (v ≡ 0 → ⊥) → r ≡ record { kind = 1; value = v; mode = 0; unit = 0; high = 0 } → Goes (moveAt q (escape (beforeOf h)) b) r
-        unfolding escapedAs
-        escape-letter e p = give-byte v p (y .byte) (letter ∙ rw (ne-eqb v 0 e, escapedAs))
+      module _ {d : ℕ} (lc : c < 16) (w : DigitAt s (at + 3) d) where
+        three : (q : ℕ) (h : Before) → unquote q (unicode 4 0 h) (drop at (marked s)) ≡ unquote q (unicode 1 (((0 * 16 + a) * 16 + b) * 16 + c) h) (drop (at + 3) (marked s))
+        three q h = let e : at + 2 + 1 ≡ at + 3 = omega arith in rw e at (two q h ∙ digit-on 0 ((0 * 16 + a) * 16 + b) q h z lc)
 
-pub ruleset escape-ways = (escape-low, escape-lone, escape-quote, escape-unicode, escape-wrong, escape-letter)
+        pub unit-fourth : 16 ≤ d → UnitAt s at 0x10000
+        unit-fourth l = no-unit (λ q h. three q h ∙ w .none l q 1 _ h)
 
--- BEHIND A HIGH SURROGATE
+        pub unit-whole : d < 16 → UnitAt s at (a * 0x1000 + b * 0x100 + c * 0x10 + d)
+        unfolding unit
+        unit-whole l =
+            record {
+              none = λ g. absurd (omega arith);
+              some = λ g q h.
+                  let e : at + 3 + 1 ≡ at + 4 = omega arith in
+                  let f : (((0 * 16 + a) * 16 + b) * 16 + c) * 16 + d ≡ a * 0x1000 + b * 0x100 + c * 0x10 + d = omega arith in
+                  let r : unquote q (unicode 4 0 h) (drop at (marked s)) ≡ onward q (wholeUnit h ((((0 * 16 + a) * 16 + b) * 16 + c) * 16 + d)) (drop (at + 3 + 1) (marked s)) = three q h ∙ w .some l q 1 (((0 * 16 + a) * 16 + b) * 16 + c) h in
+                  rw (f, e) at r;
+              inside = λ g. let i = w .inside l in omega arith;
+            }
 
-module _ (h b : ℕ) where
-  pub pair-backslash : {r : QuotedStep} → Surrogate h → b ≡ 0x5c → r ≡ record { kind = 0; value = 0; mode = 5; unit = 0; high = h } → Goes (moveAt 0 (paired h) b) r
-  unfolding moveAt quotingOf roomOf
-  pair-backslash x e p =
-      goes-on 5 0 h p (record { most = omega arith; unit = omega arith; small = omega arith; high = surrogate-high x; pair = λ z. absurd (omega arith) })
-      ((rw (eq-eqb b 0x5c e, moveAt)) ∙ ap (λ (y : Before). gives [] (escape y)) (sym (before-high h (x .from))))
-
-  pub pair-wrong : {r : QuotedStep} → (b ≡ 0x5c → ⊥) → r ≡ record { kind = 4; value = 0; mode = 0; unit = 0; high = 0 } → Goes (moveAt 0 (paired h) b) r
-  unfolding moveAt
-  pair-wrong n p = is-wrong p (rw (ne-eqb b 0x5c n, moveAt))
-
-pub ruleset pair-ways = (pair-backslash, pair-wrong)
+pub ruleset unit-ways = (unit-first, unit-second, unit-third, unit-fourth, unit-whole)
 
 -- A WHOLE UNIT
 
@@ -212,11 +181,6 @@ above-range : (l h c : ℕ) → l ≤ c → h < c → isIn (l to h) c ≡ false
 unfolding isIn
 above-range l h c p q = rw (le-leb l c p, lt-leb c h q)
 
--- behind a high surrogate
-whole-high : (h c : ℕ) → 0xd800 ≤ h → wholeUnit (beforeOf h) c ≡ elim (isIn (0xdc00 to 0xdfff) c) [ true ↦ gives (utf8Of (0x10000 + (h - 0xd800) * 0x400 + (c - 0xdc00))) character | false ↦ wrong ]
-unfolding wholeUnit
-whole-high h c l = rw (before-high h l)
-
 -- behind none
 wholeBy : Bool → Bool → ℕ → Move
 wholeBy t u c = elim t [ true ↦ gives [] (paired c) | false ↦ elim u [ true ↦ wrong | false ↦ gives (utf8Of c) character ] ]
@@ -224,144 +188,6 @@ wholeBy t u c = elim t [ true ↦ gives [] (paired c) | false ↦ elim u [ true 
 whole-zero : (c : ℕ) (t u : Bool) → isIn (0xd800 to 0xdbff) c ≡ t → isIn (0xdc00 to 0xdfff) c ≡ u → wholeUnit noSurrogate c ≡ wholeBy t u c
 unfolding wholeUnit wholeBy
 whole-zero c t u e f = λ j. wholeBy (e j) (f j) c
-
-module _ (h u : ℕ) (x : Whole u h) where
-  module _ (l : 0xd800 ≤ h) where
-    pub whole-below : {r : QuotedStep} → u < 0xdc00 → r ≡ record { kind = 4; value = 0; mode = 0; unit = 0; high = 0 } → Goes (wholeUnit (beforeOf h) u) r
-    whole-below a p = is-wrong p (whole-high h u l ∙ rw (below-range 0xdc00 0xdfff u a))
-
-    pub whole-above : {r : QuotedStep} → 0xdc00 ≤ u → 0xdfff < u → r ≡ record { kind = 4; value = 0; mode = 0; unit = 0; high = 0 } → Goes (wholeUnit (beforeOf h) u) r
-    whole-above a a₂ p = is-wrong p (whole-high h u l ∙ rw (above-range 0xdc00 0xdfff u a a₂))
-
-    pub whole-pair : {r : QuotedStep} → 0xdc00 ≤ u → u ≤ 0xdfff → r ≡ record { kind = 2; value = 0x10000 + (h - 0xd800) * 0x400 + (u - 0xdc00); mode = 0; unit = 0; high = 0 } → Goes (wholeUnit (beforeOf h) u) r
-    whole-pair a a₂ p =
-        let f : 0x10000 + (h - 0xd800) * 0x400 + (u - 0xdc00) < 0x110000 = omega (arith, x .high .top) in
-        give-point _ p f (whole-high h u l ∙ rw (in-range 0xdc00 0xdfff u a a₂))
-
-  module _ (l : h < 0xd800) where
-    alone : wholeUnit (beforeOf h) u ≡ wholeUnit noSurrogate u
-    unfolding beforeOf
-    alone = ap (λ (k : ℕ). wholeUnit (beforeOf k) u) (x .high .none l)
-
-    pub whole-low : {r : QuotedStep} → u < 0xd800 → r ≡ record { kind = 2; value = u; mode = 0; unit = 0; high = 0 } → Goes (wholeUnit (beforeOf h) u) r
-    unfolding wholeBy
-    whole-low a p =
-        let a₂ : u < 0xdc00 = omega arith in
-        let f : u < 0x110000 = omega arith in
-        give-point u p f (alone ∙ whole-zero u false false (below-range 0xd800 0xdbff u a) (below-range 0xdc00 0xdfff u a₂))
-
-    module _ (g : 0xd800 ≤ u) where
-      pub whole-first : {r : QuotedStep} → u < 0xdc00 → r ≡ record { kind = 0; value = 0; mode = 6; unit = 0; high = u } → Goes (wholeUnit (beforeOf h) u) r
-      unfolding wholeBy quotingOf roomOf
-      whole-first a p =
-          let a₂ : u ≤ 0xdbff = omega arith in
-          let y : Surrogate u = record { from = g; top = a₂ } in
-          goes-on 6 0 u p (record { most = omega arith; unit = omega arith; small = omega arith; high = surrogate-high y; pair = λ z. y }) (alone ∙ whole-zero u true _ (in-range 0xd800 0xdbff u g a₂) refl)
-
-      module _ (a : 0xdc00 ≤ u) where
-        not-first : isIn (0xd800 to 0xdbff) u ≡ false
-        not-first = let a₂ : 0xdbff < u = omega arith in above-range 0xd800 0xdbff u g a₂
-
-        pub whole-lone : {r : QuotedStep} → u < 0xe000 → r ≡ record { kind = 4; value = 0; mode = 0; unit = 0; high = 0 } → Goes (wholeUnit (beforeOf h) u) r
-        unfolding wholeBy
-        whole-lone a₂ p = let a₃ : u ≤ 0xdfff = omega arith in is-wrong p (alone ∙ whole-zero u false true not-first (in-range 0xdc00 0xdfff u a a₃))
-
-        pub whole-top : {r : QuotedStep} → 0xe000 ≤ u → r ≡ record { kind = 2; value = u; mode = 0; unit = 0; high = 0 } → Goes (wholeUnit (beforeOf h) u) r
-        unfolding wholeBy
-        whole-top a₂ p =
-            let a₃ : 0xdfff < u = omega arith in
-            let f : u < 0x110000 = omega (arith, x .unit) in
-            give-point u p f (alone ∙ whole-zero u false false not-first (above-range 0xdc00 0xdfff u a a₃))
-
-pub ruleset whole-ways = (whole-below, whole-above, whole-pair, whole-low, whole-first, whole-lone, whole-top)
-
--- IN THE DIGITS
-
-room-more : (m u d : ℕ) → m ≤ 3 → u < roomOf (suc m) → d < 16 → u * 16 + d < roomOf m
-unfolding roomOf
-room-more zero u d l h g = omega arith
-room-more (suc zero) u d l h g = omega arith
-room-more (suc (suc zero)) u d l h g = omega arith
-room-more (suc (suc (suc zero))) u d l h g = omega arith
-room-more (suc (suc (suc (suc m)))) u d l h g = absurd (omega arith)
-
-room-small : (m u : ℕ) → 1 ≤ m → u < roomOf m → u < 0x1000
-unfolding roomOf
-room-small zero u l h = absurd (omega arith)
-room-small (suc zero) u l h = h
-room-small (suc (suc zero)) u l h = omega arith
-room-small (suc (suc (suc zero))) u l h = omega arith
-room-small (suc (suc (suc (suc m)))) u l h = omega arith
-
-unit-on : (k c : ℕ) (h : Before) → 1 ≤ k → unit k c h ≡ gives [] (unicode k c h)
-unfolding unit
-unit-on zero c h l = absurd (omega arith)
-unit-on (suc k) c h l = refl
-
-module _ (m u h b : ℕ) (x : UnitDigits m u h) {v : ℕ} (d : v ≡ digitNumber b) where
-  pub digit-wrong : {r : QuotedStep} → 16 ≤ v → r ≡ record { kind = 4; value = 0; mode = 0; unit = 0; high = 0 } → Goes (moveAt 0 (unicode m u (beforeOf h)) b) r
-  unfolding moveAt
-  digit-wrong l p = let l′ : 16 ≤ digitNumber b = omega arith in is-wrong p (rw (digit-no 16 b l′, moveAt))
-
-  module _ (l : v < 16) where
-    digit-is : moveAt 0 (unicode m u (beforeOf h)) b ≡ unit (m - 1) (u * 16 + v) (beforeOf h)
-    unfolding moveAt
-    digit-is =
-        let l′ : digitNumber b < 16 = omega arith in
-        let t = digit-yes 16 b l′ (omega arith) in
-        (rw (t, moveAt)) ∙ ap (λ (k : ℕ). unit (m - 1) (u * 16 + k) (beforeOf h)) (sym (d ∙ digit-number 16 b t))
-
-    digit-room : u * 16 + v < roomOf (m - 1)
-    digit-room =
-        let e : m ≡ suc (m - 1) = omega (arith, x .least) in
-        let g : u < roomOf (suc (m - 1)) = rw (← e) (x .unit) in
-        room-more (m - 1) u v (omega (arith, x .most)) g l
-
-    pub digit-whole-room : m ≡ 1 → Whole (u * 16 + v) h
-    unfolding roomOf
-    digit-whole-room e = record { unit = omega (arith, x .small); high = x .high }
-
-    pub digit-last : {r : QuotedStep} → m ≡ 1 → Goes (wholeUnit (beforeOf h) (u * 16 + v)) r → Goes (moveAt 0 (unicode m u (beforeOf h)) b) r
-    unfolding unit
-    digit-last {r} e y = subst⁻¹ (λ (k : Move). Goes k r) (digit-is ∙ rw e) y
-
-    pub digit-more : (m ≡ 1 → ⊥) → Goes (moveAt 0 (unicode m u (beforeOf h)) b) (record { kind = 0; value = 0; mode = m - 1; unit = u * 16 + v; high = h })
-    digit-more n =
-        let z : 1 ≤ m - 1 = omega (arith, x .least) in
-        let n₀ : m - 1 ≡ 0 → ⊥ = omega arith in
-        let n₅ : m - 1 ≡ 5 → ⊥ = omega (arith, x .most) in
-        let n₆ : m - 1 ≡ 6 → ⊥ = omega (arith, x .most) in
-        let s : Sound (m - 1) (u * 16 + v) h = record { most = omega (arith, x .most); unit = digit-room; small = room-small (m - 1) (u * 16 + v) z digit-room; high = x .high; pair = λ e. absurd (n₆ e) } in
-        goes-on (m - 1) (u * 16 + v) h refl s (digit-is ∙ unit-on (m - 1) (u * 16 + v) (beforeOf h) z ∙ ap (gives []) (sym (quoting-digits (m - 1) (u * 16 + v) h n₀ n₅ n₆)))
-
-pub ruleset digit-move-ways = (digit-wrong, digit-last, digit-more)
-
--- ANY PLACE
-
-pub step-surrogate : {m u h : ℕ} → Sound m u h → m ≡ 6 → Surrogate h
-step-surrogate x e = x .pair e
-
-module _ (q m u h b : ℕ) {r : QuotedStep} where
-  pub step-character : m ≡ 0 → Goes (moveAt q character b) r → Goes (moveAt q (quotingOf m u h) b) r
-  unfolding quotingOf
-  step-character e y = rw e y
-
-  pub step-escape : m ≡ 5 → Goes (moveAt q (escape (beforeOf h)) b) r → Goes (moveAt q (quotingOf m u h) b) r
-  unfolding quotingOf
-  step-escape e y = rw e y
-
-  pub step-pair : m ≡ 6 → Goes (moveAt 0 (paired h) b) r → Goes (moveAt q (quotingOf m u h) b) r
-  unfolding quotingOf moveAt
-  step-pair e y = rw e y
-
-  pub step-digit : (m ≡ 0 → ⊥) → (m ≡ 5 → ⊥) → (m ≡ 6 → ⊥) → Goes (moveAt 0 (unicode m u (beforeOf h)) b) r → Goes (moveAt q (quotingOf m u h) b) r
-  unfolding moveAt
-  step-digit n₀ n₅ n₆ y = rw (quoting-digits m u h n₀ n₅ n₆) y
-
-pub ruleset step-ways = (step-character, step-escape, step-pair, step-digit)
-
-pub step-digits : {m u h : ℕ} → Sound m u h → (m ≡ 0 → ⊥) → (m ≡ 5 → ⊥) → (m ≡ 6 → ⊥) → UnitDigits m u h
-step-digits x n₀ n₅ n₆ = record { least = omega arith; most = omega (arith, x .most); unit = x .unit; small = x .small; high = x .high }
 
 -- WHAT IS GIVEN
 
@@ -381,35 +207,27 @@ pub utf8-four : (c : ℕ) → 0x10000 ≤ c → utf8Of c ≡ (0xf0 + c / 0x40000
 unfolding utf8Of
 utf8-four c g = let f : 0x80 ≤ c = omega arith in let f₂ : 0x800 ≤ c = omega arith in simp (utf8Of, le-ltb c 0x80 f, le-ltb c 0x800 f₂, le-ltb c 0x10000 g)
 
-emitted-point : (k v : ℕ) → (k ≡ 0 → ⊥) → (k ≡ 1 → ⊥) → emitted k v ≡ utf8Of v
-unfolding emitted
-emitted-point zero v n₀ n₁ = absurd (n₀ refl)
-emitted-point (suc zero) v n₀ n₁ = absurd (n₁ refl)
-emitted-point (suc (suc k)) v n₀ n₁ = refl
+utf8-most : (c : ℕ) → length (utf8Of c) ≤ 4
+unfolding utf8Of
+utf8-most c =
+    tested (λ (w : List ℕ). length w ≤ 4) (ltb c 0x80) _ _ (λ p. omega arith)
+    (λ p. tested (λ (w : List ℕ). length w ≤ 4) (ltb c 0x800) _ _ (λ q. omega arith)
+    (λ q. tested (λ (w : List ℕ). length w ≤ 4) (ltb c 0x10000) _ _ (λ r. omega arith) (λ r. omega arith)))
 
-module _ (k v : ℕ) where
-  pub sized-none : k ≡ 0 → Sized k v 0
-  unfolding emitted
-  sized-none e = record { is = rw e; most = omega arith }
+module _ {c : ℕ} where
+  pub size-one : c < 0x80 → 1 ≡ length (utf8Of c)
+  size-one h = sym (ap length (utf8-one c h))
 
-  pub sized-byte : k ≡ 1 → Sized k v 1
-  unfolding emitted
-  sized-byte e = record { is = rw e; most = omega arith }
+  pub size-two : 0x80 ≤ c → c < 0x800 → 2 ≡ length (utf8Of c)
+  size-two g h = sym (ap length (utf8-two c g h))
 
-  module _ (n₀ : k ≡ 0 → ⊥) (n₁ : k ≡ 1 → ⊥) where
-    pub sized-one : v < 0x80 → Sized k v 1
-    sized-one h = record { is = sym (ap length (emitted-point k v n₀ n₁ ∙ utf8-one v h)); most = omega arith }
+  pub size-three : 0x800 ≤ c → c < 0x10000 → 3 ≡ length (utf8Of c)
+  size-three g h = sym (ap length (utf8-three c g h))
 
-    pub sized-two : 0x80 ≤ v → v < 0x800 → Sized k v 2
-    sized-two g h = record { is = sym (ap length (emitted-point k v n₀ n₁ ∙ utf8-two v g h)); most = omega arith }
+  pub size-four : 0x10000 ≤ c → 4 ≡ length (utf8Of c)
+  size-four g = sym (ap length (utf8-four c g))
 
-    pub sized-three : 0x800 ≤ v → v < 0x10000 → Sized k v 3
-    sized-three g h = record { is = sym (ap length (emitted-point k v n₀ n₁ ∙ utf8-three v g h)); most = omega arith }
-
-    pub sized-four : 0x10000 ≤ v → Sized k v 4
-    sized-four g = record { is = sym (ap length (emitted-point k v n₀ n₁ ∙ utf8-four v g)); most = omega arith }
-
-pub ruleset sized-ways = (sized-none, sized-byte, sized-one, sized-two, sized-three, sized-four)
+pub ruleset size-ways = (size-one, size-two, size-three, size-four)
 
 put-as : {b b′ : List ℕ} {p r : ℕ} {ws vs : List ℕ} → vs ≡ ws → Put b b′ p r ws → Put b b′ p r vs
 put-as {b} {b′} {p} {r} e x = subst⁻¹ (Put b b′ p r) e x
@@ -430,19 +248,175 @@ module _ {b b₁ : List ℕ} {p r : ℕ} (c : ℕ) where
 
 pub ruleset point-ways = (point-one, point-two, point-three, point-four)
 
-pub emit-byte-fits : {k v : ℕ} → Emits k v → k ≡ 1 → v < 256
-emit-byte-fits x e = x .byte e
+-- ESCAPES
 
-module _ {b b′ : List ℕ} {p r : ℕ} (k v : ℕ) where
-  pub emit-byte : k ≡ 1 → Put b b′ p r (v ∷ []) → Put b b′ p r (emitted k v)
-  unfolding emitted
-  emit-byte e x = rw e x
+module _ {s : List ℕ} {at : ℕ} where
+  behind-none : Behind s at (record { good = false; next = 0; point = 0 })
+  behind-none = record { point = omega arith; inside = λ z. absurd (true-false (sym z)); short = λ z. absurd (true-false (sym z)) }
 
-  pub emit-point : (k ≡ 0 → ⊥) → (k ≡ 1 → ⊥) → Put b b′ p r (utf8Of v) → Put b b′ p r (emitted k v)
-  emit-point n₀ n₁ x = put-as (emitted-point k v n₀ n₁) x
+  unescapes-none : {q : ℕ} {k : Quoting} → unquote q k (drop at (marked s)) ≡ fault noToken → Unescapes s q k at (record { good = false; next = 0; point = 0 })
+  unescapes-none e = record { good = λ z. absurd (true-false (sym z)); bad = λ z. e }
 
-pub emit-none : (b : List ℕ) (p k v : ℕ) → k ≡ 0 → Put b b p p (emitted k v)
-unfolding emitted
-emit-none b p k v e = rw e (put-none b p)
+  unescapes-as : {q n c : ℕ} {k : Quoting} → unquote q k (drop at (marked s)) ≡ onward q (gives (utf8Of c) character) (drop n (marked s)) → Unescapes s q k at (record { good = true; next = n; point = c })
+  unescapes-as e = record { good = λ z. e; bad = λ z. absurd (true-false z) }
 
-pub ruleset emit-ways = (emit-none, emit-byte, emit-point)
+  no-escape : {k : Quoting} {r : ReadEscape} → r ≡ record { good = false; next = 0; point = 0 } → ((q : ℕ) → unquote q k (drop at (marked s)) ≡ fault noToken) → Escapes s k at r
+  no-escape {k} u f = subst⁻¹ (Escapes s k at) u (record { reads = λ q. unescapes-none (f q); place = behind-none })
+
+  an-escape : {k : Quoting} {r : ReadEscape} {n c : ℕ} → r ≡ record { good = true; next = n; point = c } → ((q : ℕ) → unquote q k (drop at (marked s)) ≡ onward q (gives (utf8Of c) character) (drop n (marked s)))
+      → c < 0x110000 → n ≤ length s → at + 4 ≤ n → Escapes s k at r
+  an-escape {k} {c = c} u f p i l =
+      subst⁻¹ (Escapes s k at) u (record { reads = λ q. unescapes-as (f q); place = record { point = p; inside = λ z. i; short = λ z. omega (arith, utf8-most c) } })
+
+-- what must be next, and is not
+unless-next : (q : ℕ) (k : Quoting) (c : ℕ) → ((b : ℕ) → eqb b c ≡ false → moveAt q k b ≡ wrong) → (r : List ℕ) → isNext c r ≡ false → unquote q k r ≡ fault noToken
+unfolding unquote isNext onward
+unless-next q k c f [] e = refl
+unless-next q k c f (b ∷ r) e = unquote-next q k b r ∙ ap (λ (m : Move). onward q m r) (f b e)
+
+-- the low surrogate
+module _ (s : List ℕ) (at h : ℕ) {t : Bool} (x : Peeked s at 0x5c t) where
+  pub low-bare : {r : ReadEscape} → not t ≡ true → r ≡ record { good = false; next = 0; point = 0 } → Escapes s (paired h) at r
+  unfolding moveAt
+  low-bare f u = no-escape u (λ q. unless-next q (paired h) 0x5c (λ b e. rw (e, moveAt)) (drop at (marked s)) (sym (x .is) ∙ not-true t f))
+
+  module _ {t₂ : Bool} (f : not t ≡ false) (x₂ : Peeked s (at + 1) 0x75 t₂) where
+    low-first : (q : ℕ) → unquote q (paired h) (drop at (marked s)) ≡ unquote q (escape (highSurrogate h)) (drop (at + 1) (marked s))
+    unfolding moveAt
+    low-first q =
+        ap (unquote q (paired h)) (peeked-yes x (not-false t f))
+        ∙ (unquote-next q (paired h) 0x5c (drop (at + 1) (marked s)) ∙ onward-on q (escape (highSurrogate h)) (drop (at + 1) (marked s)))
+
+    pub low-letter : {r : ReadEscape} → not t₂ ≡ true → r ≡ record { good = false; next = 0; point = 0 } → Escapes s (paired h) at r
+    unfolding moveAt
+    low-letter g u =
+        no-escape u (λ q. low-first q ∙ unless-next q (escape (highSurrogate h)) 0x75 (λ b e. rw (e, moveAt)) (drop (at + 1) (marked s)) (sym (x₂ .is) ∙ not-true t₂ g))
+
+    module _ {c : ℕ} (g : not t₂ ≡ false) (y : UnitAt s (at + 2) c) where
+      low-second : (q : ℕ) → unquote q (paired h) (drop at (marked s)) ≡ unquote q (unicode 4 0 (highSurrogate h)) (drop (at + 2) (marked s))
+      unfolding moveAt
+      low-second q =
+          let e : at + 1 + 1 ≡ at + 2 = omega arith in
+          let d : drop (at + 1) (marked s) ≡ 0x75 ∷ drop (at + 2) (marked s) = rw e at (peeked-yes x₂ (not-false t₂ g)) in
+          low-first q
+          ∙ (ap (unquote q (escape (highSurrogate h))) d
+          ∙ (unquote-next q (escape (highSurrogate h)) 0x75 (drop (at + 2) (marked s)) ∙ onward-on q (unicode 4 0 (highSurrogate h)) (drop (at + 2) (marked s))))
+
+      low-unit : {m : Move} (q : ℕ) → c < 0x10000 → wholeUnit (highSurrogate h) c ≡ m → unquote q (paired h) (drop at (marked s)) ≡ onward q m (drop (at + 6) (marked s))
+      low-unit q l e =
+          let z : at + 2 + 4 ≡ at + 6 = omega arith in
+          low-second q ∙ ((rw z at (y .some l q (highSurrogate h))) ∙ ap (λ (m : Move). onward q m (drop (at + 6) (marked s))) e)
+
+      pub low-below : {r : ReadEscape} → c < 0xdc00 → r ≡ record { good = false; next = 0; point = 0 } → Escapes s (paired h) at r
+      unfolding wholeUnit onward
+      low-below l u = no-escape u (λ q. low-unit {m = wrong} q (omega arith) (rw (below-range 0xdc00 0xdfff c l, wholeUnit)))
+
+      pub low-above : {r : ReadEscape} → 0xdc00 ≤ c → 0xe000 ≤ c → r ≡ record { good = false; next = 0; point = 0 } → Escapes s (paired h) at r
+      unfolding wholeUnit onward
+      low-above l g u = no-escape u (λ q. go q (ltb c 0x10000) refl)
+        where
+          l₂ : 0xdfff < c
+          l₂ = omega arith
+
+          go : (q : ℕ) (v : Bool) → ltb c 0x10000 ≡ v → unquote q (paired h) (drop at (marked s)) ≡ fault noToken
+          go q true e = low-unit {m = wrong} q (ltb-true c 0x10000 e) (rw (above-range 0xdc00 0xdfff c l l₂, wholeUnit))
+          go q false e = low-second q ∙ y .none (ltb-false c 0x10000 e) q (highSurrogate h)
+
+      pub low-pair : {r : ReadEscape} → Surrogate h → 0xdc00 ≤ c → c < 0xe000 → r ≡ record { good = true; next = at + 6; point = 0x10000 + (h - 0xd800) * 0x400 + (c - 0xdc00) } → Escapes s (paired h) at r
+      unfolding wholeUnit
+      low-pair v l g u =
+          let l₂ : c ≤ 0xdfff = omega arith in
+          an-escape u (λ q. low-unit q (omega arith) (rw (in-range 0xdc00 0xdfff c l l₂, wholeUnit))) (omega (arith, v .top)) (omega (arith, y .inside (omega arith))) (omega arith)
+
+pub ruleset low-ways = (low-bare, low-letter, low-below, low-above, low-pair)
+
+-- behind `\u`
+module _ {s : List ℕ} {at c : ℕ} (y : UnitAt s at c) where
+  pub unicode-none : {r : ReadEscape} → 0x10000 ≤ c → r ≡ record { good = false; next = 0; point = 0 } → Escapes s (unicode 4 0 noSurrogate) at r
+  unicode-none l u = no-escape u (λ q. y .none l q noSurrogate)
+
+  module _ (l : c < 0x10000) where
+    unicode-by : {m : Move} (q : ℕ) → wholeUnit noSurrogate c ≡ m → unquote q (unicode 4 0 noSurrogate) (drop at (marked s)) ≡ onward q m (drop (at + 4) (marked s))
+    unicode-by q e = y .some l q noSurrogate ∙ ap (λ (m : Move). onward q m (drop (at + 4) (marked s))) e
+
+    unicode-as : {r : ReadEscape} → r ≡ record { good = true; next = at + 4; point = c } → wholeUnit noSurrogate c ≡ gives (utf8Of c) character → Escapes s (unicode 4 0 noSurrogate) at r
+    unicode-as u e = an-escape u (λ q. unicode-by q e) (omega arith) (y .inside l) (omega arith)
+
+    pub unicode-low : {r : ReadEscape} → c < 0xd800 → r ≡ record { good = true; next = at + 4; point = c } → Escapes s (unicode 4 0 noSurrogate) at r
+    unfolding wholeBy
+    unicode-low a u = let a₂ : c < 0xdc00 = omega arith in unicode-as u (whole-zero c false false (below-range 0xd800 0xdbff c a) (below-range 0xdc00 0xdfff c a₂))
+
+    module _ (g : 0xd800 ≤ c) where
+      pub unicode-pair : {r : ReadEscape} → c < 0xdc00 → Escapes s (paired c) (at + 4) r → Escapes s (unicode 4 0 noSurrogate) at r
+      unfolding wholeBy
+      unicode-pair a x =
+          let a₂ : c ≤ 0xdbff = omega arith in
+          let e : (q : ℕ) → unquote q (unicode 4 0 noSurrogate) (drop at (marked s)) ≡ unquote q (paired c) (drop (at + 4) (marked s)) = λ q.
+          unicode-by q (whole-zero c true _ (in-range 0xd800 0xdbff c g a₂) refl) ∙ onward-on q (paired c) (drop (at + 4) (marked s)) in
+          record {
+            reads = λ q. record { good = λ z. e q ∙ x .reads q .good z; bad = λ z. e q ∙ x .reads q .bad z };
+            place = record { point = x .place .point; inside = x .place .inside; short = λ z. omega (arith, x .place .short z) };
+          }
+
+      module _ (a : 0xdc00 ≤ c) where
+        not-first : isIn (0xd800 to 0xdbff) c ≡ false
+        not-first = let a₂ : 0xdbff < c = omega arith in above-range 0xd800 0xdbff c g a₂
+
+        pub unicode-lone : {r : ReadEscape} → c < 0xe000 → r ≡ record { good = false; next = 0; point = 0 } → Escapes s (unicode 4 0 noSurrogate) at r
+        unfolding wholeBy onward
+        unicode-lone a₂ u = let a₃ : c ≤ 0xdfff = omega arith in no-escape u (λ q. unicode-by q (whole-zero c false true not-first (in-range 0xdc00 0xdfff c a a₃)))
+
+        pub unicode-top : {r : ReadEscape} → 0xe000 ≤ c → r ≡ record { good = true; next = at + 4; point = c } → Escapes s (unicode 4 0 noSurrogate) at r
+        unfolding wholeBy
+        unicode-top a₂ u = let a₃ : 0xdfff < c = omega arith in unicode-as u (whole-zero c false false not-first (above-range 0xdc00 0xdfff c a a₃))
+
+pub ruleset unicode-ways = (unicode-none, unicode-low, unicode-pair, unicode-lone, unicode-top)
+
+-- behind a backslash
+pub escape-past : {s : List ℕ} {at : ℕ} {r : ReadEscape} → length s ≤ at → r ≡ record { good = false; next = 0; point = 0 } → EscapesUnquoted s at r
+unfolding moveAt escapedIn escapes
+escape-past {s} {at} {r} h u =
+    subst⁻¹ (EscapesUnquoted s at) u
+    (record {
+      reads = λ q l f. unescapes-none (unquote-end q (escape noSurrogate) s at h (let n : 256 ≡ q → ⊥ = omega arith in rw (ne-eqb 256 q n, moveAt)));
+      place = behind-none;
+    })
+
+module _ (s : List ℕ) (at : ℕ) (h : at < length s) where
+  -- no quote is next
+  escape-by : {m : Move} (q : ℕ) → isNext q (drop at (marked s)) ≡ false
+      → elim (eqb (getD s at 0) 0x75) [ true ↦ gives [] (unicode 4 0 noSurrogate) | false ↦ escapedIn escapes (getD s at 0) ] ≡ m
+      → unquote q (escape noSurrogate) (drop at (marked s)) ≡ onward q m (drop (at + 1) (marked s))
+  unfolding moveAt isNext
+  escape-by q f e =
+      let g : eqb (getD s at 0) q ≡ false = rw (front-marked s at h) at f in
+      unquote-by q (escape noSurrogate) s at h ((rw (g, moveAt)) ∙ e)
+
+  pub escape-unicode : {r : ReadEscape} → getD s at 0 ≡ 0x75 → Escapes s (unicode 4 0 noSurrogate) (at + 1) r → EscapesUnquoted s at r
+  escape-unicode e x =
+      let w : (q : ℕ) → isNext q (drop at (marked s)) ≡ false → unquote q (escape noSurrogate) (drop at (marked s)) ≡ unquote q (unicode 4 0 noSurrogate) (drop (at + 1) (marked s)) = λ q f.
+      escape-by q f (rw e) ∙ onward-on q (unicode 4 0 noSurrogate) (drop (at + 1) (marked s)) in
+      record {
+        reads = λ q l f. record { good = λ z. w q f ∙ x .reads q .good z; bad = λ z. w q f ∙ x .reads q .bad z };
+        place = record { point = x .place .point; inside = x .place .inside; short = λ z. omega (arith, x .place .short z) };
+      }
+
+  module _ {v : ℕ} (n : getD s at 0 ≡ 0x75 → ⊥) (y : Escaped (getD s at 0) v) where
+    letter : (q : ℕ) → isNext q (drop at (marked s)) ≡ false → unquote q (escape noSurrogate) (drop at (marked s)) ≡ onward q (escapedAs v) (drop (at + 1) (marked s))
+    letter q f = escape-by q f ((rw (ne-eqb (getD s at 0) 0x75 n)) ∙ y .is)
+
+    pub escape-wrong : {r : ReadEscape} → v ≡ 0 → r ≡ record { good = false; next = 0; point = 0 } → EscapesUnquoted s at r
+    unfolding escapedAs onward
+    escape-wrong e u = subst⁻¹ (EscapesUnquoted s at) u (record { reads = λ q l f. unescapes-none (rw (e) at (letter q f)); place = behind-none })
+
+    pub escape-letter : {r : ReadEscape} → (v ≡ 0 → ⊥) → r ≡ record { good = true; next = at + 1; point = v } → EscapesUnquoted s at r
+    unfolding escapedAs
+    escape-letter e u =
+        let w = utf8-one v (y .low) in
+        subst⁻¹ (EscapesUnquoted s at) u
+        (record {
+          reads = λ q l f. unescapes-as (letter q f ∙ ap (λ (m : Move). onward q m (drop (at + 1) (marked s))) ((rw (ne-eqb v 0 e, escapedAs)) ∙ ap (λ (x : List ℕ). gives x character) (sym w)));
+          place = record { point = omega (arith, y .low); inside = λ z. omega arith; short = λ z. omega (arith, ap length w) };
+        })
+
+pub ruleset escape-ways = (escape-past, escape-unicode, escape-wrong, escape-letter)

@@ -1,95 +1,108 @@
--- Of the code: what the code of quoted strings says of its parts: numbers for the places in a string and for what a byte does there.
-use Prim.Native.Nat.{ℕ, zero, suc, _+_, _%_, _≤_, _<_}
+-- Of the code: what the code of quoted strings says of its parts: escapes, and pieces that are an escape or a run of plain bytes.
+use Prim.Native.Nat.{ℕ, _+_, _-_, _*_, _%_, _≤_, _<_}
 use mathlib.Core.Path.{_≡_}
-use mathlib.Core.List.{List, [], _∷_}
+use mathlib.Core.List.{List, [], _∷_, _++_}
 use mathlib.Core.Bool.{true, false}
 use lib.Dec.{eqb}
-use lib.ListN.{length}
-use Rattle.notation.specs.Quoted.{utf8Of, Before, noSurrogate, highSurrogate, Quoting, character, escape, unicode, paired, Move, gives, closed, wrong, escapes, escapedIn}
-use Rattle.quoted.specs.declared.QuotedStep.{QuotedStep}
+use lib.ListN.{length, drop, getD}
+use Rattle.cbor.specs.Refusals.{Result, ok, bind, noToken}
+use Rattle.notation.specs.Scanning.{fault}
+use Rattle.notation.specs.Reading.{marked}
+use Rattle.notation.specs.Quoted.{utf8Of, Before, noSurrogate, Quoting, character, escape, unicode, Move, gives, closed, wrong, escapes, escapedIn, wholeUnit, unit, unquote}
+use Rattle.scanning.specs.ScanAnswers.{isNext}
+use Rattle.scanning.specs.TextRuns.{Textual}
+use Rattle.literal_body.specs.LiteralAnswers.{Put}
+use Rattle.quoted.specs.declared.ReadEscape.{ReadEscape}
+use Rattle.quoted.specs.declared.ReadPiece.{ReadPiece}
 
--- the surrogate that a number stands for; 0: none
-unfoldable pub beforeOf : ℕ → Before
-beforeOf zero = noSurrogate
-beforeOf (suc h) = highSurrogate (suc h)
+-- what a move makes of the text behind it
+unfoldable pub onward : ℕ → Move → List ℕ → Result (List ℕ)
+onward q (gives w k) s = bind (unquote q k s) (λ c r. ok (w ++ c) r)
+onward q closed s = ok [] s
+onward q wrong s = fault noToken
 
--- the place that a mode, what digits make, and a high surrogate stand for
-unfoldable pub quotingOf : ℕ → ℕ → ℕ → Quoting
-quotingOf m u h =
-    elim (eqb m 0) [ true ↦ character | false ↦ elim (eqb m 5) [ true ↦ escape (beforeOf h) | false ↦ elim (eqb m 6) [ true ↦ paired h | false ↦ unicode m u (beforeOf h) ] ] ]
-
--- the bytes that a kind gives: none, a byte, or a code point
-unfoldable pub emitted : ℕ → ℕ → List ℕ
-emitted zero v = []
-emitted (suc zero) v = v ∷ []
-emitted (suc (suc k)) v = utf8Of v
-
-unfoldable pub moveOf : QuotedStep → Move
-moveOf r =
-    elim (eqb (r .kind) 3) [
-      | true ↦ closed
-      | false ↦ elim (eqb (r .kind) 4) [ true ↦ wrong | false ↦ gives (emitted (r .kind) (r .value)) (quotingOf (r .mode) (r .unit) (r .high)) ]
-    ]
-
--- what digits make, before that many more
-unfoldable pub roomOf : ℕ → ℕ
-roomOf zero = 0x10000
-roomOf (suc zero) = 0x1000
-roomOf (suc (suc zero)) = 0x100
-roomOf (suc (suc (suc zero))) = 0x10
-roomOf (suc (suc (suc (suc k)))) = 1
-
--- a high surrogate
-pub record Surrogate (h : ℕ) : Type 0 where
-  pub from : 0xd800 ≤ h
-  pub top : h ≤ 0xdbff
-
--- 0 or a high surrogate
-pub record High (h : ℕ) : Type 0 where
-  pub top : h ≤ 0xdbff
-  pub none : h < 0xd800 → h ≡ 0
-
-pub record Sound (m u h : ℕ) : Type 0 where
-  pub most : m ≤ 6
-  pub unit : u < roomOf m
-  pub small : u < 0x1000
-  pub high : High h
-  pub pair : m ≡ 6 → Surrogate h
-
--- in the digits
-pub record UnitDigits (m u h : ℕ) : Type 0 where
-  pub least : 1 ≤ m
-  pub most : m ≤ 4
-  pub unit : u < roomOf m
-  pub small : u < 0x1000
-  pub high : High h
-
-pub record Whole (u h : ℕ) : Type 0 where
-  pub unit : u < 0x10000
-  pub high : High h
-
-pub record Emits (k v : ℕ) : Type 0 where
-  pub byte : k ≡ 1 → v < 256
-  pub point : v < 0x110000
-
--- the code moves as m says
-pub record Goes (m : Move) (r : QuotedStep) : Type 0 where
-  pub is : m ≡ moveOf r
-  pub sound : Sound (r .mode) (r .unit) (r .high)
-  pub emits : Emits (r .kind) (r .value)
-  pub most : r .kind ≤ 4
-
-pub record Sized (k v r : ℕ) : Type 0 where
-  pub is : r ≡ length (emitted k v)
-  pub most : r ≤ 4
+-- LETTERS
 
 unfoldable pub escapedAs : ℕ → Move
 escapedAs r = elim (eqb r 0) [ true ↦ wrong | false ↦ gives (r ∷ []) character ]
 
 pub record Escaped (b r : ℕ) : Type 0 where
   pub is : escapedIn escapes b ≡ escapedAs r
-  pub byte : r < 256
+  pub low : r < 0x80
+
+-- DIGITS
+
+-- the digit at a place; 16 or more: there is none
+pub record DigitAt (s : List ℕ) (at v : ℕ) : Type 0 where
+  pub none : 16 ≤ v → (q k c : ℕ) (h : Before) → unquote q (unicode k c h) (drop at (marked s)) ≡ fault noToken
+  pub some : v < 16 → (q k c : ℕ) (h : Before) → unquote q (unicode k c h) (drop at (marked s)) ≡ onward q (unit (k - 1) (c * 16 + v) h) (drop (at + 1) (marked s))
+  pub inside : v < 16 → at < length s
+
+-- the unit of the four digits at a place; 10000 hex or more: there are not four
+pub record UnitAt (s : List ℕ) (at u : ℕ) : Type 0 where
+  pub none : 0x10000 ≤ u → (q : ℕ) (h : Before) → unquote q (unicode 4 0 h) (drop at (marked s)) ≡ fault noToken
+  pub some : u < 0x10000 → (q : ℕ) (h : Before) → unquote q (unicode 4 0 h) (drop at (marked s)) ≡ onward q (wholeUnit h u) (drop (at + 4) (marked s))
+  pub inside : u < 0x10000 → at + 4 ≤ length s
+
+-- a high surrogate
+pub record Surrogate (h : ℕ) : Type 0 where
+  pub from : 0xd800 ≤ h
+  pub top : h ≤ 0xdbff
+
+-- ESCAPES
+
+-- from a place in an escape on: the rest of it stands for a code point, or it may not stand there
+pub record Unescapes (s : List ℕ) (q : ℕ) (k : Quoting) (at : ℕ) (r : ReadEscape) : Type 0 where
+  pub good : r .good ≡ true → unquote q k (drop at (marked s)) ≡ onward q (gives (utf8Of (r .point)) character) (drop (r .next) (marked s))
+  pub bad : r .good ≡ false → unquote q k (drop at (marked s)) ≡ fault noToken
+
+-- a good one gives no more bytes than it has
+pub record Behind (s : List ℕ) (at : ℕ) (r : ReadEscape) : Type 0 where
+  pub point : r .point < 0x110000
+  pub inside : r .good ≡ true → r .next ≤ length s
+  pub short : r .good ≡ true → at + length (utf8Of (r .point)) ≤ r .next
+
+pub record Escapes (s : List ℕ) (k : Quoting) (at : ℕ) (r : ReadEscape) : Type 0 where
+  pub reads : (q : ℕ) → Unescapes s q k at r
+  pub place : Behind s at r
+
+-- behind a backslash, where no quote is next
+pub record EscapesUnquoted (s : List ℕ) (at : ℕ) (r : ReadEscape) : Type 0 where
+  pub reads : (q : ℕ) → q < 256 → isNext q (drop at (marked s)) ≡ false → Unescapes s q (escape noSurrogate) at r
+  pub place : Behind s at r
 
 -- the last byte of a code point
 pub record Tail (c r : ℕ) : Type 0 where
   pub is : r ≡ 0x80 + c % 0x40
+
+-- PIECES
+
+pub record Part (s : List ℕ) (from end : ℕ) : Type 0 where
+  pub ahead : from ≤ end
+  pub inside : end ≤ length s
+
+-- the byte b stands at a place, and is no quote
+pub record AtPiece (s : List ℕ) (q at b : ℕ) : Type 0 where
+  pub here : at < length s
+  pub is : getD s at 0 ≡ b
+  pub other : b ≡ q → ⊥
+
+-- a byte stands there that stands for itself
+pub record AtPlain (s : List ℕ) (q at : ℕ) : Type 0 where
+  pub here : at < length s
+  pub is : Textual q 0x5c (getD s at 0)
+
+-- bytes are given by what stands from a place on, and written at p
+pub record PieceGiven (s : List ℕ) (q at : ℕ) (b b′ : List ℕ) (p : ℕ) (r : ReadPiece) : Type 0 where
+  pub given : List ℕ
+  pub is : unquote q character (drop at (marked s)) ≡ onward q (gives given character) (drop (r .next) (marked s))
+  pub put : Put b b′ p (r .pos) given
+  pub size : r .size ≡ length given
+  pub short : at + r .size ≤ r .next
+  pub ahead : at < r .next
+  pub inside : r .next ≤ length s
+
+pub record Pieced (s : List ℕ) (q at : ℕ) (b b′ : List ℕ) (p : ℕ) (r : ReadPiece) : Type 0 where
+  pub good : r .good ≡ true → PieceGiven s q at b b′ p r
+  pub bad : r .good ≡ false → unquote q character (drop at (marked s)) ≡ fault noToken
+  pub same : length b′ ≡ length b

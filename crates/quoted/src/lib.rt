@@ -3,234 +3,167 @@ use literal_body::LiteralScan;
 use literal_body::hex_value;
 use literal_body::put;
 use literal_body::put_two;
+use literal_body::unended;
+use scanning::run::text_run;
+use scanning::scan::next_is;
 ghost use mathlib.Core.Path.{_≡_};
-ghost use Prim.Native.Nat.{_<_};
-ghost use lib.ListN.{drop};
-ghost use Rattle.notation.specs.Quoted.{utf8Of, character, escape, unicode, paired, wholeUnit, moveAt, unquote};
+ghost use mathlib.Core.Bool.{true, false};
+ghost use Prim.Native.Nat.{_-_, _≤_, _<_};
+ghost use lib.ListN.{length, take, drop};
+ghost use Rattle.notation.specs.Quoted.{utf8Of, noSurrogate, character, escape, unicode, paired, unquote};
 ghost use Rattle.notation.specs.Reading.{marked};
+ghost use Rattle.scanning.specs.TextRuns.{TextRun};
 ghost use Rattle.literal_body.specs.LiteralAnswers.{Scans, Quotes, Put};
-ghost use Rattle.quoted.specs.QuotedAnswers.{beforeOf, quotingOf, emitted, Surrogate, High, Sound, UnitDigits, Whole, Emits, Goes, Sized, Escaped, Tail};
+ghost use Rattle.quoted.specs.QuotedAnswers.{Surrogate, Escaped, DigitAt, UnitAt, Escapes, EscapesUnquoted, Tail, Part, AtPiece, AtPlain, Pieced};
 
-// What a byte does. Kind 0: it gives nothing; 1: the byte `value`; 2: the code point `value`; 3: it closes the string; 4: it may
-// not stand there. Then where the string goes on. Mode 0: at a character; 1 to 4: that many digits of \u are still to come;
-// 5: behind a backslash; 6: behind a high surrogate. `unit` is what the digits make, `high` the high surrogate, 0 where none is.
-struct QuotedStep {
-    kind: u8,
-    value: u32,
-    mode: u8,
-    unit: u32,
-    high: u32,
+// What an escape stands for, and where the text goes on.
+struct ReadEscape {
+    good: bool,
+    next: usize,
+    point: u32,
 }
 
-fn goes(mode: u8, high: u32) -> QuotedStep
-    ensures { λ r. ⌜ r ≡ record { kind = 0; value = 0; mode = mode; unit = 0; high = high } ⌝ }
+fn no_escape() -> ReadEscape
+    ensures { λ r. ⌜ r ≡ record { good = false; next = 0; point = 0 } ⌝ }
 {
-    QuotedStep {
-        kind: 0,
-        value: 0,
-        mode,
-        unit: 0,
-        high,
+    ReadEscape {
+        good: false,
+        next: 0,
+        point: 0,
     }
 }
 
-fn gives(kind: u8, value: u32) -> QuotedStep
-    ensures { λ r. ⌜ r ≡ record { kind = kind; value = value; mode = 0; unit = 0; high = 0 } ⌝ }
+fn read_as(next: usize, point: u32) -> ReadEscape
+    ensures { λ r. ⌜ r ≡ record { good = true; next = next; point = point } ⌝ }
 {
-    QuotedStep {
-        kind,
-        value,
-        mode: 0,
-        unit: 0,
-        high: 0,
+    ReadEscape {
+        good: true,
+        next,
+        point,
     }
 }
 
-// The byte that a letter behind a backslash stands for; 0: none.
+// What a letter stands for that may not stand behind a backslash.
+const NO_LETTER: u8 = 0;
+
+// The byte that a letter behind a backslash stands for.
 fn escaped(b: u8) -> u8
     ensures { λ r. ⌜ Escaped b r ⌝ }
 {
     match b {
-        0x5c => 0x5c,
-        0x2f => 0x2f,
-        0x62 => 0x08,
-        0x66 => 0x0c,
-        0x6e => 0x0a,
-        0x72 => 0x0d,
-        0x74 => 0x09,
-        _ => 0,
+        b'\\' => b'\\',
+        b'/' => b'/',
+        b'b' => 0x08,
+        b'f' => 0x0c,
+        b'n' => b'\n',
+        b'r' => b'\r',
+        b't' => b'\t',
+        _ => NO_LETTER,
     }
 }
 
-fn at_character(quote: u8, b: u8) -> QuotedStep
-    ensures { λ r. ⌜ Goes (moveAt quote character b) r ⌝ }
+const NO_DIGIT: u8 = 99;
+
+// The value of the digit at a place; 16 or more where there is none.
+fn digit_at(text: &[u8], at: usize) -> u8
+    ensures { λ r. ⌜ DigitAt (now (text .entry)) at r ⌝ }
 {
-    if b == quote {
-        return gives(3, 0);
+    if text.len() <= at {
+        return NO_DIGIT;
     }
-    if b == 0x5c {
-        return goes(5, 0);
-    }
-    if b < 0x20 {
-        return gives(4, 0);
-    }
-    gives(1, b as u32)
+    hex_value(text[at])
 }
 
-fn at_escape(quote: u8, high: u32, b: u8) -> QuotedStep
-    requires { ⌜ High high ⌝ }
-    ensures { λ r. ⌜ Goes (moveAt quote (escape (beforeOf high)) b) r ⌝ }
+// No code unit: four digits make less.
+const NO_UNIT: u32 = 0x10000;
+
+// The code unit that the four digits at a place make.
+fn read_unit(text: &[u8], at: usize) -> u32
+    ensures { λ r. ⌜ UnitAt (now (text .entry)) at r ⌝ }
 {
-    if 0xd800 <= high {
-        if b == 0x75 {
-            return goes(4, high);
-        }
-        return gives(4, 0);
+    let a = digit_at(text, at);
+    if 16 <= a {
+        return NO_UNIT;
     }
-    if b == quote {
-        return gives(1, quote as u32);
+    let b = digit_at(text, at + 1);
+    if 16 <= b {
+        return NO_UNIT;
     }
-    if b == 0x75 {
-        return goes(4, 0);
+    let c = digit_at(text, at + 2);
+    if 16 <= c {
+        return NO_UNIT;
+    }
+    let d = digit_at(text, at + 3);
+    if 16 <= d {
+        return NO_UNIT;
+    }
+    a as u32 * 0x1000 + b as u32 * 0x100 + c as u32 * 0x10 + d as u32
+}
+
+// The high surrogates begin, then the low ones; behind these are characters again.
+const HIGH: u32 = 0xd800;
+
+const LOW: u32 = 0xdc00;
+
+const BEYOND: u32 = 0xe000;
+
+// A code point of two units: `\u` and the low surrogate, which must stand behind the high one.
+fn read_low(text: &[u8], at: usize, high: u32) -> ReadEscape
+    requires { ⌜ Surrogate high ⌝ }
+    ensures { λ r. ⌜ Escapes (now (text .entry)) (paired high) at r ⌝ }
+{
+    if !next_is(text, at, b'\\') {
+        return no_escape();
+    }
+    if !next_is(text, at + 1, b'u') {
+        return no_escape();
+    }
+    let low = read_unit(text, at + 2);
+    if low < LOW {
+        return no_escape();
+    }
+    if BEYOND <= low {
+        return no_escape();
+    }
+    read_as(at + 6, 0x10000 + (high - HIGH) * 0x400 + (low - LOW))
+}
+
+// Behind `\u`: surrogates only in a right pair.
+fn read_unicode(text: &[u8], at: usize) -> ReadEscape
+    ensures { λ r. ⌜ Escapes (now (text .entry)) (unicode 4 0 noSurrogate) at r ⌝ }
+{
+    let unit = read_unit(text, at);
+    if NO_UNIT <= unit {
+        return no_escape();
+    }
+    if unit < HIGH {
+        return read_as(at + 4, unit);
+    }
+    if unit < LOW {
+        return read_low(text, at + 4, unit);
+    }
+    if unit < BEYOND {
+        return no_escape();
+    }
+    read_as(at + 4, unit)
+}
+
+// Behind a backslash, where no quote stands.
+fn read_escape(text: &[u8], at: usize) -> ReadEscape
+    ensures { λ r. ⌜ EscapesUnquoted (now (text .entry)) at r ⌝ }
+{
+    if text.len() <= at {
+        return no_escape();
+    }
+    let b = text[at];
+    if b == b'u' {
+        return read_unicode(text, at + 1);
     }
     let e = escaped(b);
-    if e == 0 {
-        return gives(4, 0);
+    if e == NO_LETTER {
+        return no_escape();
     }
-    gives(1, e as u32)
-}
-
-// All four digits are read: surrogates only in a right pair.
-fn whole_unit(high: u32, unit: u32) -> QuotedStep
-    requires { ⌜ Whole unit high ⌝ }
-    ensures { λ r. ⌜ Goes (wholeUnit (beforeOf high) unit) r ⌝ }
-{
-    if 0xd800 <= high {
-        if unit < 0xdc00 {
-            return gives(4, 0);
-        }
-        if 0xdfff < unit {
-            return gives(4, 0);
-        }
-        return gives(2, 0x10000 + (high - 0xd800) * 0x400 + (unit - 0xdc00));
-    }
-    if unit < 0xd800 {
-        return gives(2, unit);
-    }
-    if unit < 0xdc00 {
-        return goes(6, unit);
-    }
-    if unit < 0xe000 {
-        return gives(4, 0);
-    }
-    gives(2, unit)
-}
-
-fn at_digit(mode: u8, unit: u32, high: u32, b: u8) -> QuotedStep
-    requires { ⌜ UnitDigits mode unit high ⌝ }
-    ensures { λ r. ⌜ Goes (moveAt 0 (unicode mode unit (beforeOf high)) b) r ⌝ }
-{
-    let v = hex_value(b);
-    if 16 <= v {
-        return gives(4, 0);
-    }
-    let u = unit * 16 + (v as u32);
-    if mode == 1 {
-        return whole_unit(high, u);
-    }
-    QuotedStep {
-        kind: 0,
-        value: 0,
-        mode: mode - 1,
-        unit: u,
-        high,
-    }
-}
-
-fn at_pair(high: u32, b: u8) -> QuotedStep
-    requires { ⌜ Surrogate high ⌝ }
-    ensures { λ r. ⌜ Goes (moveAt 0 (paired high) b) r ⌝ }
-{
-    if b == 0x5c {
-        return goes(5, high);
-    }
-    gives(4, 0)
-}
-
-fn quoted_step(quote: u8, mode: u8, unit: u32, high: u32, b: u8) -> QuotedStep
-    requires { ⌜ Sound mode unit high ⌝ }
-    ensures { λ r. ⌜ Goes (moveAt quote (quotingOf mode unit high) b) r ⌝ }
-{
-    if mode == 0 {
-        return at_character(quote, b);
-    }
-    if mode == 5 {
-        return at_escape(quote, high, b);
-    }
-    if mode == 6 {
-        return at_pair(high, b);
-    }
-    at_digit(mode, unit, high, b)
-}
-
-// How many bytes are given.
-fn emitted_size(kind: u8, value: u32) -> usize
-    ensures { λ r. ⌜ Sized kind value r ⌝ }
-{
-    if kind == 0 {
-        return 0;
-    }
-    if kind == 1 {
-        return 1;
-    }
-    if value < 0x80 {
-        return 1;
-    }
-    if value < 0x800 {
-        return 2;
-    }
-    if value < 0x10000 {
-        return 3;
-    }
-    4
-}
-
-// Whether a string ends well, from `at` on, and how many bytes its content has.
-pub fn scan_quoted(text: &[u8], at: usize, quote: u8) -> LiteralScan
-    ensures { λ r. ⌜ Scans (now (text .entry)) at r (unquote quote character (drop at (marked (now (text .entry))))) ⌝ }
-{
-    let mut i = at;
-    let mut size: usize = 0;
-    let mut mode: u8 = 0;
-    let mut unit: u32 = 0;
-    let mut high: u32 = 0;
-    while i < text.len() {
-        let m = quoted_step(quote, mode, unit, high, text[i]);
-        if 3 <= m.kind {
-            if m.kind < 4 {
-                return LiteralScan {
-                    good: true,
-                    next: i + 1,
-                    size,
-                };
-            }
-            return LiteralScan {
-                good: false,
-                next: at,
-                size: 0,
-            };
-        }
-        size += emitted_size(m.kind, m.value);
-        mode = m.mode;
-        unit = m.unit;
-        high = m.high;
-        i += 1;
-    }
-    LiteralScan {
-        good: false,
-        next: at,
-        size: 0,
-    }
+    read_as(at + 1, e as u32)
 }
 
 fn tail(c: u32) -> u8
@@ -258,38 +191,156 @@ fn put_point(out: &mut [u8], p: usize, c: u32) -> usize
     put_two(out, q, tail(c / 0x40), tail(c))
 }
 
-// Writes what is given.
-fn emit(out: &mut [u8], p: usize, kind: u8, value: u32) -> usize
-    requires { ⌜ Emits kind value ⌝ }
-    ensures { λ r. ⌜ Put (now (out .entry)) (now (out .exit)) p r (emitted kind value) ⌝ }
+// How many bytes that is.
+fn point_size(c: u32) -> usize
+    ensures { λ r. ⌜ r ≡ length (utf8Of c) ⌝ }
 {
-    if kind == 0 {
-        return p;
+    if c < 0x80 {
+        return 1;
     }
-    if kind == 1 {
-        return put(out, p, value as u8);
+    if c < 0x800 {
+        return 2;
     }
-    put_point(out, p, value)
+    if c < 0x10000 {
+        return 3;
+    }
+    4
 }
 
-// Writes the content from `pos` on, if it all fits.
-pub fn put_quoted(text: &[u8], at: usize, quote: u8, out: &mut [u8], pos: usize)
+// Writes a part of a text, if it fits, and answers the place behind it.
+fn put_part(text: &[u8], from: usize, end: usize, out: &mut [u8], p: usize) -> usize
+    requires { ⌜ Part (now text) from end ⌝ }
+    ensures { λ r. ⌜ Put (now (out .entry)) (now (out .exit)) p r (take (end - from) (drop from (now (text .entry)))) ⌝ }
+{
+    let n = end - from;
+    if out.len() < n {
+        return p;
+    }
+    if out.len() - n < p {
+        return p;
+    }
+    buffer::copy_at(&text[from..], n, out, p);
+    p + n
+}
+
+// A piece of a string that was written: where the text goes on, how many bytes the piece has, and the place behind it in the buffer.
+struct ReadPiece {
+    good: bool,
+    next: usize,
+    size: usize,
+    pos: usize,
+}
+
+fn no_piece() -> ReadPiece
+    ensures { λ r. ⌜ r ≡ record { good = false; next = 0; size = 0; pos = 0 } ⌝ }
+{
+    ReadPiece {
+        good: false,
+        next: 0,
+        size: 0,
+        pos: 0,
+    }
+}
+
+// At a backslash.
+fn escape_piece(text: &[u8], at: usize, quote: u8, out: &mut [u8], p: usize) -> ReadPiece
+    requires { ⌜ AtPiece (now text) quote at 0x5c ⌝ }
+    ensures { λ r. ⌜ Pieced (now (text .entry)) quote at (now (out .entry)) (now (out .exit)) p r ⌝ }
+{
+    if next_is(text, at + 1, quote) {
+        let pos = put(out, p, quote);
+        return ReadPiece {
+            good: true,
+            next: at + 2,
+            size: 1,
+            pos,
+        };
+    }
+    let e = read_escape(text, at + 1);
+    if !e.good {
+        return no_piece();
+    }
+    let pos = put_point(out, p, e.point);
+    ReadPiece {
+        good: true,
+        next: e.next,
+        size: point_size(e.point),
+        pos,
+    }
+}
+
+// The end of a run. Before an escape no block is looked at, as between escapes the runs are short.
+fn run_end(text: &[u8], from: usize, quote: u8) -> usize
+    requires { ⌜ from ≤ length (now text) ⌝ }
+    ensures { λ r. ⌜ TextRun (now (text .entry)) quote 0x5c from r ⌝ }
+{
+    if next_is(text, from, b'\\') {
+        return from;
+    }
+    text_run(text, from, quote, b'\\')
+}
+
+// At a byte that stands for itself.
+fn plain_piece(text: &[u8], at: usize, quote: u8, out: &mut [u8], p: usize) -> ReadPiece
+    requires { ⌜ AtPlain (now text) quote at ⌝ }
+    ensures { λ r. ⌜ Pieced (now (text .entry)) quote at (now (out .entry)) (now (out .exit)) p r ⌝ }
+{
+    let next = run_end(text, at + 1, quote);
+    let pos = put_part(text, at, next, out, p);
+    ReadPiece {
+        good: true,
+        next,
+        size: next - at,
+        pos,
+    }
+}
+
+// An escape, or a run of bytes that stand for themselves, at the byte b, which is no quote.
+fn piece(text: &[u8], at: usize, b: u8, quote: u8, out: &mut [u8], p: usize) -> ReadPiece
+    requires { ⌜ AtPiece (now text) quote at b ⌝ }
+    ensures { λ r. ⌜ Pieced (now (text .entry)) quote at (now (out .entry)) (now (out .exit)) p r ⌝ }
+{
+    if b == b'\\' {
+        return escape_piece(text, at, quote, out, p);
+    }
+    if b < 0x20 {
+        return no_piece();
+    }
+    plain_piece(text, at, quote, out, p)
+}
+
+// Whether a string ends well, from `at` on, and how many bytes its content has. The content is written from `pos` on, if it all fits.
+pub fn read_quoted(text: &[u8], at: usize, quote: u8, out: &mut [u8], pos: usize) -> LiteralScan
+    ensures { λ r. ⌜ Scans (now (text .entry)) at r (unquote quote character (drop at (marked (now (text .entry))))) ⌝ }
     ensures { λ _. ⌜ Quotes (now (out .entry)) (now (out .exit)) pos (unquote quote character (drop at (marked (now (text .entry))))) ⌝ }
 {
     let mut i = at;
     let mut p = pos;
-    let mut mode: u8 = 0;
-    let mut unit: u32 = 0;
-    let mut high: u32 = 0;
+    let mut size: usize = 0;
     while i < text.len() {
-        let m = quoted_step(quote, mode, unit, high, text[i]);
-        if 3 <= m.kind {
-            return;
+        let b = text[i];
+        if b == quote {
+            return LiteralScan {
+                good: true,
+                next: i + 1,
+                size,
+            };
         }
-        p = emit(out, p, m.kind, m.value);
-        mode = m.mode;
-        unit = m.unit;
-        high = m.high;
-        i += 1;
+        let m = piece(text, i, b, quote, out, p);
+        if !m.good {
+            return unended(at);
+        }
+        p = m.pos;
+        size += m.size;
+        i = m.next;
     }
+    unended(at)
+}
+
+// The same where nothing is to be written: no byte fits.
+pub fn scan_quoted(text: &[u8], at: usize, quote: u8) -> LiteralScan
+    ensures { λ r. ⌜ Scans (now (text .entry)) at r (unquote quote character (drop at (marked (now (text .entry))))) ⌝ }
+{
+    let mut none: [u8; 1] = [0; 1];
+    read_quoted(text, at, quote, &mut none, 1)
 }

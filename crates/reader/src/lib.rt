@@ -1,98 +1,174 @@
 // From text to the bytes of the items that it spells, in one pass. Where bytes no longer fit into the buffer it goes on without
 // writing, so that sizes stay exact.
+pub mod closer;
+pub mod opening;
+
+use crate::closer::Closer;
+use crate::closer::Follow;
+use crate::closer::counted;
+use crate::closer::first;
+use crate::closer::followed;
+use crate::closer::starts;
+use crate::closer::turned;
+use crate::opening::Opener;
+use crate::opening::opening_at;
 use encoding::answer::MadeItem;
 use encoding::answer::ReadAnswer;
-use encoding::answer::closed;
 use encoding::answer::done;
+use encoding::answer::listed;
 use encoding::answer::refuse;
 use encoding::answer::strayed;
 use encoding::close::endless;
 use encoding::close::finish;
-use encoding::heads::head_size;
-use encoding::heads::initial;
 use encoding::heads::leaf;
-use numbers::indicator::choose;
+use encoding::heads::put_head;
+use encoding::major::ARRAY;
+use encoding::major::BYTE_STRING;
+use encoding::major::ENDLESS_ARRAY;
+use encoding::major::ENDLESS_MAP;
+use encoding::major::MAP;
+use leaf_reader::Found;
+use leaf_reader::read_leaf;
+use refusal::Refusal;
 use refusal::RefusalKind;
 use saturating::sum;
+use scanning::class::OPEN_PAREN;
+use scanning::scan::TextCursor;
 use string_reader::chunked;
 use string_reader::literal;
+use token::indicator::INDEFINITE;
+use token::kind::BYTES;
+use token::kind::NO_TOKEN;
+use token::kind::SIMPLE;
 use tokens::cut::next_token;
 ghost use mathlib.Core.Path.{_≡_};
 ghost use Prim.Native.Nat.{_+_, _-_, _≤_};
 ghost use lib.ListN.{length, drop};
 ghost use Rattle.cbor.specs.Decode.{mostBytes};
 ghost use Rattle.notation.specs.Tokens.{bracket, brace, embedding};
-ghost use Rattle.notation.specs.Form.{atStart, one, items, pairs, reads};
+ghost use Rattle.notation.specs.Form.{one, reads};
 ghost use Rattle.notation.specs.Reading.{marked, sequence};
-ghost use Rattle.encoding.specs.ReadAnswers.{followed, entryRead, behindOpener, taggedRead, indicatorFor, shapeFor, mayTagNoted, Room, Opened, Loop, Ahead, ReadTold, TagMade, Bracketed, joinedAs, ofItem, ofEntry, ofClosed, ofPairs, ofTagged};
+ghost use Rattle.encoding.specs.ReadAnswers.{behindOpener, taggedRead, indicatorFor, Room, Opened, Bracketed, ReadTold, ofItem, ofClosed, ofTagged};
+ghost use Rattle.reader.specs.Openings.{isLeaf, Flat, TagMade};
+ghost use Rattle.reader.specs.Several.{asSeen, severalRead, StrayTold};
 
-// Whether a tag may stand on an item of a note (typed arrays).
-fn may_tag(number: u64, note: usize) -> bool
-    ensures { λ r. ⌜ r ≡ mayTagNoted number note ⌝ }
+// Document 01's 16 levels.
+const MOST_LEVELS: usize = 16;
+
+fn is_leaf(found: Found) -> bool
+    ensures { λ r. ⌜ r ≡ isLeaf found ⌝ }
 {
-    if note == 0 {
-        return typed_array::may_tag(number, false, 0);
+    match found {
+        Found::Leaf => true,
+        Found::Tag => false,
+        Found::Nothing => false,
     }
-    typed_array::may_tag(number, true, note - 1)
+}
+
+// The same answer, made anew: an answer that is handed on whole is copied, and the copy waits for it.
+fn again(a: ReadAnswer) -> ReadAnswer
+    ensures { λ r. ⌜ r ≡ a ⌝ }
+{
+    match a {
+        ReadAnswer::Refused(e) => {
+            let kind = e.kind;
+            ReadAnswer::Refused(Refusal {
+                kind,
+                place: e.place,
+            })
+        }
+        ReadAnswer::Made(m) => ReadAnswer::Made(MadeItem {
+            next: m.next,
+            size: m.size,
+            count: m.count,
+            indicator: m.indicator,
+            binary: m.binary,
+            length: m.length,
+        }),
+    }
+}
+
+// A refusal at the next token, which may not stand there.
+fn stray(text: &[u8], from: usize, levels: usize) -> ReadAnswer
+    requires { ⌜ from ≤ length (marked (now text)) ⌝ }
+    ensures { λ r. ⌜ StrayTold (now (text .entry)) from levels r ⌝ }
+{
+    strayed(levels, next_token(text, from))
+}
+
+// An item that opens no level, by its token.
+fn flat(text: &[u8], from: usize, levels: usize, buf: &mut [u8], pos: usize) -> ReadAnswer
+    requires { ⌜ Flat (now text) from levels ⌝ }
+    requires { ⌜ Room (now text) from pos ⌝ }
+    ensures { λ r. ⌜ ReadTold ofItem (now (text .entry)) (now (buf .entry)) (now (buf .exit)) (length (marked (now (text .entry))) - from) pos r (reads (one levels) (drop from (marked (now (text .entry))))) ⌝ }
+{
+    let t = next_token(text, from);
+    let code = t.code;
+    if code == NO_TOKEN {
+        return strayed(levels, t);
+    }
+    if code <= SIMPLE {
+        return leaf(t, buf, pos);
+    }
+    if code <= BYTES {
+        return literal(text, t, buf, pos);
+    }
+    if code == OPEN_PAREN {
+        return chunked(text, t.next, levels, buf, pos);
+    }
+    strayed(levels, t)
 }
 
 // What becomes of an item behind the head of a tag.
-fn tagged(number: u64, size: usize, m: MadeItem, place: usize) -> ReadAnswer
-    ensures { λ r. ⌜ TagMade number size m place r ⌝ }
+fn tagged(
+    number: u64,
+    head: usize,
+    next: usize,
+    size: usize,
+    binary: bool,
+    length: usize,
+    place: usize,
+) -> ReadAnswer
+    ensures { λ r. ⌜ TagMade number head next size binary length place r ⌝ }
 {
-    if may_tag(number, m.note) {
-        return done(m.next, sum(size, m.size), 1, 0);
+    if typed_array::may_tag(number, binary, length) {
+        return done(next, sum(head, size), false, 0);
     }
     refuse(RefusalKind::BadTypedArray, place)
 }
 
-// The answer for a value behind a key of some bytes.
-fn joined(size: usize, a: ReadAnswer) -> ReadAnswer
-    ensures { λ r. ⌜ r ≡ joinedAs size a ⌝ }
+// One item, a leaf mostly, from a place on, its bytes into the buffer from pos on.
+fn item(text: &[u8], from: usize, levels: usize, buf: &mut [u8], pos: usize) -> ReadAnswer
+    requires { ⌜ Room (now text) from pos ⌝ }
+    ensures { λ r. ⌜ ReadTold ofItem (now (text .entry)) (now (buf .entry)) (now (buf .exit)) (length (marked (now (text .entry))) - from) pos r (reads (one levels) (drop from (marked (now (text .entry))))) ⌝ }
 {
-    match a {
-        ReadAnswer::Refused(e) => ReadAnswer::Refused(e),
-        ReadAnswer::Made(m) => done(m.next, sum(size, m.size), 1, 0),
-    }
-}
-
-// One item from a place on, its bytes into the buffer from pos on.
-pub fn item(text: &[u8], at: usize, levels: usize, buf: &mut [u8], pos: usize) -> ReadAnswer
-    requires { ⌜ Room (now text) at pos ⌝ }
-    ensures { λ r. ⌜ ReadTold ofItem (now (text .entry)) (now (buf .entry)) (now (buf .exit)) (length (marked (now (text .entry))) - at) pos r (reads (one levels) (drop at (marked (now (text .entry))))) ⌝ }
-{
-    let t = next_token(text, at);
-    let code = t.code;
-    if code == 0 {
-        return strayed(levels, t);
-    }
-    if code <= 3 {
-        return leaf(t, buf, pos);
-    }
-    if code <= 5 {
-        return literal(text, t, buf, pos);
-    }
-    if code == 13 {
-        return chunked(text, t.next, levels, buf, pos);
+    let here = TextCursor { at: from }.skip(text);
+    let at = here.at;
+    let q = read_leaf(text, at, buf, pos);
+    let found = q.found;
+    if is_leaf(found) {
+        return done(q.next, q.size, q.binary, q.length);
     }
     if levels == 0 {
-        return strayed(levels, t);
+        return again(flat(text, from, levels, buf, pos));
     }
-    match code {
-        6 => tag(
+    let o = opening_at(text, from, at, q);
+    let opener = o.opener;
+    match opener {
+        Opener::Array => array(text, o.next, o.indicator, o.place, levels - 1, buf, pos),
+        Opener::Map => map(text, o.next, o.indicator, o.place, levels - 1, buf, pos),
+        Opener::Tag => tag(
             text,
-            t.next,
-            initial(t),
-            t.number,
-            t.place,
+            o.next,
+            o.first,
+            o.number,
+            o.place,
             levels - 1,
             buf,
             pos,
         ),
-        15 => array(text, t.next, t.indicator, t.place, levels - 1, buf, pos),
-        17 => map(text, t.next, t.indicator, t.place, levels - 1, buf, pos),
-        19 => embed(text, t.next, t.place, levels - 1, buf, pos),
-        _ => strayed(levels, t),
+        Opener::Embedded => embed(text, o.next, o.place, levels - 1, buf, pos),
+        Opener::Nothing => again(flat(text, from, levels, buf, pos)),
     }
 }
 
@@ -100,24 +176,40 @@ pub fn item(text: &[u8], at: usize, levels: usize, buf: &mut [u8], pos: usize) -
 fn array(
     text: &[u8],
     at: usize,
-    mark: u8,
+    indicator: u8,
     place: usize,
     levels: usize,
     buf: &mut [u8],
     pos: usize,
 ) -> ReadAnswer
-    requires { ⌜ Bracketed (now text) at pos place mark ⌝ }
-    ensures { λ r. ⌜ ReadTold ofItem (now (text .entry)) (now (buf .entry)) (now (buf .exit)) (length (marked (now (text .entry))) - at + 1) pos r (behindOpener levels (bracket (indicatorFor mark)) (length (marked (now (text .entry))) - place) (drop at (marked (now (text .entry))))) ⌝ }
+    requires { ⌜ Bracketed (now text) at pos place indicator ⌝ }
+    ensures { λ r. ⌜ ReadTold ofItem (now (text .entry)) (now (buf .entry)) (now (buf .exit)) (length (marked (now (text .entry))) - at + 1) pos r (behindOpener levels (bracket (indicatorFor indicator)) (length (marked (now (text .entry))) - place) (drop at (marked (now (text .entry))))) ⌝ }
 {
-    let a = list(text, at, 16, levels, buf, pos + 1);
+    let a = several(text, at, Closer::Square, levels, buf, pos + 1);
     match a {
-        ReadAnswer::Refused(e) => ReadAnswer::Refused(e),
+        ReadAnswer::Refused(e) => {
+            let kind = e.kind;
+            ReadAnswer::Refused(Refusal {
+                kind,
+                place: e.place,
+            })
+        }
         ReadAnswer::Made(m) => {
-            if mark == 1 {
-                return endless(buf, pos, 0x9f, m, 0);
+            if indicator == INDEFINITE {
+                return endless(buf, pos, ENDLESS_ARRAY, m.next, m.size, false, 0);
             }
-            let n = m.count;
-            finish(buf, pos, 4, choose(mark, n as u64), n, m, place, 0)
+            finish(
+                buf,
+                pos,
+                ARRAY,
+                indicator,
+                m.count,
+                m.next,
+                m.size,
+                place,
+                false,
+                0,
+            )
         }
     }
 }
@@ -126,24 +218,40 @@ fn array(
 fn map(
     text: &[u8],
     at: usize,
-    mark: u8,
+    indicator: u8,
     place: usize,
     levels: usize,
     buf: &mut [u8],
     pos: usize,
 ) -> ReadAnswer
-    requires { ⌜ Bracketed (now text) at pos place mark ⌝ }
-    ensures { λ r. ⌜ ReadTold ofItem (now (text .entry)) (now (buf .entry)) (now (buf .exit)) (length (marked (now (text .entry))) - at + 1) pos r (behindOpener levels (brace (indicatorFor mark)) (length (marked (now (text .entry))) - place) (drop at (marked (now (text .entry))))) ⌝ }
+    requires { ⌜ Bracketed (now text) at pos place indicator ⌝ }
+    ensures { λ r. ⌜ ReadTold ofItem (now (text .entry)) (now (buf .entry)) (now (buf .exit)) (length (marked (now (text .entry))) - at + 1) pos r (behindOpener levels (brace (indicatorFor indicator)) (length (marked (now (text .entry))) - place) (drop at (marked (now (text .entry))))) ⌝ }
 {
-    let a = entries(text, at, levels, buf, pos + 1);
+    let a = several(text, at, Closer::Curly, levels, buf, pos + 1);
     match a {
-        ReadAnswer::Refused(e) => ReadAnswer::Refused(e),
+        ReadAnswer::Refused(e) => {
+            let kind = e.kind;
+            ReadAnswer::Refused(Refusal {
+                kind,
+                place: e.place,
+            })
+        }
         ReadAnswer::Made(m) => {
-            if mark == 1 {
-                return endless(buf, pos, 0xbf, m, 0);
+            if indicator == INDEFINITE {
+                return endless(buf, pos, ENDLESS_MAP, m.next, m.size, false, 0);
             }
-            let n = m.count;
-            finish(buf, pos, 5, choose(mark, n as u64), n, m, place, 0)
+            finish(
+                buf,
+                pos,
+                MAP,
+                indicator,
+                m.count,
+                m.next,
+                m.size,
+                place,
+                false,
+                0,
+            )
         }
     }
 }
@@ -160,14 +268,27 @@ fn embed(
     requires { ⌜ Opened (now text) at pos place ⌝ }
     ensures { λ r. ⌜ ReadTold ofItem (now (text .entry)) (now (buf .entry)) (now (buf .exit)) (length (marked (now (text .entry))) - at + 1) pos r (behindOpener levels embedding (length (marked (now (text .entry))) - place) (drop at (marked (now (text .entry))))) ⌝ }
 {
-    let a = list(text, at, 20, levels, buf, pos + 1);
+    let a = several(text, at, Closer::Angle, levels, buf, pos + 1);
     match a {
-        ReadAnswer::Refused(e) => ReadAnswer::Refused(e),
-        ReadAnswer::Made(m) => {
-            let mark = (m.note % 256) as u8;
-            let n = m.size;
-            finish(buf, pos, 2, choose(mark, n as u64), n, m, place, n + 1)
+        ReadAnswer::Refused(e) => {
+            let kind = e.kind;
+            ReadAnswer::Refused(Refusal {
+                kind,
+                place: e.place,
+            })
         }
+        ReadAnswer::Made(m) => finish(
+            buf,
+            pos,
+            BYTE_STRING,
+            m.indicator,
+            m.size,
+            m.next,
+            m.size,
+            place,
+            true,
+            m.size,
+        ),
     }
 }
 
@@ -185,124 +306,84 @@ fn tag(
     requires { ⌜ Opened (now text) at pos place ⌝ }
     ensures { λ r. ⌜ ReadTold (ofTagged first number) (now (text .entry)) (now (buf .entry)) (now (buf .exit)) (length (marked (now (text .entry))) - at + 1) pos r (taggedRead levels number (length (marked (now (text .entry))) - place) (drop at (marked (now (text .entry))))) ⌝ }
 {
-    let size = head_size(first);
-    head::write_head(buf, pos, first, number);
-    let a = followed(text, at, 14, levels, buf, pos + size);
+    let size = put_head(buf, pos, first, number);
+    let a = several(text, at, Closer::Round, levels, buf, pos + size);
     match a {
-        ReadAnswer::Refused(e) => ReadAnswer::Refused(e),
-        ReadAnswer::Made(m) => tagged(number, size, m, place),
-    }
-}
-
-// An item, and behind it the token of a code.
-fn followed(
-    text: &[u8],
-    at: usize,
-    closer: u8,
-    levels: usize,
-    buf: &mut [u8],
-    pos: usize,
-) -> ReadAnswer
-    requires { ⌜ Ahead (now text) at pos closer ⌝ }
-    ensures { λ r. ⌜ ReadTold ofItem (now (text .entry)) (now (buf .entry)) (now (buf .exit)) (length (marked (now (text .entry))) - at) pos r (followed closer levels (drop at (marked (now (text .entry))))) ⌝ }
-{
-    let a = item(text, at, levels, buf, pos);
-    match a {
-        ReadAnswer::Refused(e) => ReadAnswer::Refused(e),
-        ReadAnswer::Made(m) => {
-            let t = next_token(text, m.next);
-            if t.code == closer {
-                done(t.next, m.size, 1, m.note)
-            } else {
-                strayed(levels, t)
-            }
+        ReadAnswer::Refused(e) => {
+            let kind = e.kind;
+            ReadAnswer::Refused(Refusal {
+                kind,
+                place: e.place,
+            })
         }
+        ReadAnswer::Made(m) => tagged(number, size, m.next, m.size, m.binary, m.length, place),
     }
 }
 
-// A key and its value.
-fn pair(text: &[u8], at: usize, levels: usize, buf: &mut [u8], pos: usize) -> ReadAnswer
-    requires { ⌜ Room (now text) at pos ⌝ }
-    ensures { λ r. ⌜ ReadTold ofEntry (now (text .entry)) (now (buf .entry)) (now (buf .exit)) (length (marked (now (text .entry))) - at) pos r (entryRead levels (drop at (marked (now (text .entry))))) ⌝ }
-{
-    let a = followed(text, at, 12, levels, buf, pos);
-    match a {
-        ReadAnswer::Refused(e) => ReadAnswer::Refused(e),
-        ReadAnswer::Made(k) => joined(k.size, item(text, k.next, levels, buf, pos + k.size)),
-    }
-}
-
-// The items up to a closing token.
-fn list(
+// The items up to what closes them.
+fn several(
     text: &[u8],
     from: usize,
-    closer: u8,
+    closer: Closer,
     levels: usize,
     buf: &mut [u8],
     pos: usize,
 ) -> ReadAnswer
-    requires { ⌜ Loop (now text) from pos closer ⌝ }
-    ensures { λ r. ⌜ ReadTold ofClosed (now (text .entry)) (now (buf .entry)) (now (buf .exit)) (length (marked (now (text .entry))) - from) pos r (reads (items (shapeFor closer) atStart levels) (drop from (marked (now (text .entry))))) ⌝ }
+    requires { ⌜ Room (now text) from pos ⌝ }
+    ensures { λ r. ⌜ ReadTold asSeen (now (text .entry)) (now (buf .entry)) (now (buf .exit)) (length (marked (now (text .entry))) - from) pos r (severalRead closer levels (drop from (marked (now (text .entry))))) ⌝ }
 {
-    let first = next_token(text, from);
-    if first.code == closer {
-        return closed(first.next, 0, 0, first.indicator);
+    let start = first(text, from, closer);
+    let empty = start.found;
+    if empty {
+        return listed(start.next, 0, 0, start.indicator);
     }
     let mut at = from;
     let mut n: usize = 0;
     let mut size: usize = 0;
+    let mut key = starts(closer);
     loop {
         let a = item(text, at, levels, buf, pos + size);
         match a {
-            ReadAnswer::Refused(e) => return ReadAnswer::Refused(e),
+            ReadAnswer::Refused(e) => {
+                let kind = e.kind;
+                return ReadAnswer::Refused(Refusal {
+                    kind,
+                    place: e.place,
+                });
+            }
             ReadAnswer::Made(m) => {
-                n += m.count;
+                n += counted(key);
                 size += m.size;
-                let t = next_token(text, m.next);
-                let code = t.code;
-                if code == closer {
-                    return closed(t.next, size, n, t.indicator);
+                let f = followed(text, m.next, closer, key);
+                let follow = f.follow;
+                match follow {
+                    Follow::Over => {
+                        return ReadAnswer::Made(MadeItem {
+                            next: f.next,
+                            size,
+                            count: n,
+                            indicator: f.indicator,
+                            binary: m.binary,
+                            length: m.length,
+                        });
+                    }
+                    Follow::Stray => return again(stray(text, m.next, levels)),
+                    Follow::On => {
+                        at = f.next;
+                        key = turned(closer, key);
+                    }
                 }
-                if code != 11 {
-                    return strayed(levels, t);
-                }
-                at = t.next;
             }
         }
     }
 }
 
-// The pairs of a map up to its brace.
-fn entries(text: &[u8], from: usize, levels: usize, buf: &mut [u8], pos: usize) -> ReadAnswer
-    requires { ⌜ Loop (now text) from pos 18 ⌝ }
-    ensures { λ r. ⌜ ReadTold ofPairs (now (text .entry)) (now (buf .entry)) (now (buf .exit)) (length (marked (now (text .entry))) - from) pos r (reads (pairs atStart levels) (drop from (marked (now (text .entry))))) ⌝ }
+// One item, and where the text goes on behind it.
+pub fn single(text: &[u8], from: usize, levels: usize, buf: &mut [u8], pos: usize) -> ReadAnswer
+    requires { ⌜ Room (now text) from pos ⌝ }
+    ensures { λ r. ⌜ ReadTold ofItem (now (text .entry)) (now (buf .entry)) (now (buf .exit)) (length (marked (now (text .entry))) - from) pos r (reads (one levels) (drop from (marked (now (text .entry))))) ⌝ }
 {
-    let first = next_token(text, from);
-    if first.code == 18 {
-        return done(first.next, 0, 0, 0);
-    }
-    let mut at = from;
-    let mut n: usize = 0;
-    let mut size: usize = 0;
-    loop {
-        let a = pair(text, at, levels, buf, pos + size);
-        match a {
-            ReadAnswer::Refused(e) => return ReadAnswer::Refused(e),
-            ReadAnswer::Made(m) => {
-                n += m.count;
-                size += m.size;
-                let t = next_token(text, m.next);
-                let code = t.code;
-                if code == 18 {
-                    return done(t.next, size, n, 0);
-                }
-                if code != 11 {
-                    return strayed(levels, t);
-                }
-                at = t.next;
-            }
-        }
-    }
+    several(text, from, Closer::Nothing, levels, buf, pos)
 }
 
 // All items of a text, their bytes at the front of the buffer, if they fit.
@@ -310,5 +391,5 @@ pub fn read_items(text: &[u8], buf: &mut [u8]) -> ReadAnswer
     requires { ⌜ length (now text) ≤ mostBytes ⌝ }
     ensures { λ r. ⌜ ReadTold ofClosed (now (text .entry)) (now (buf .entry)) (now (buf .exit)) (length (marked (now (text .entry)))) 0 r (sequence (now (text .entry))) ⌝ }
 {
-    list(text, 0, 21, 16, buf, 0)
+    several(text, 0, Closer::Whole, MOST_LEVELS, buf, 0)
 }

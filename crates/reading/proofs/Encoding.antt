@@ -31,7 +31,7 @@ use Rattle.outcome.specs.declared.Answer.the-variants.{Written, Refused}
 use Rattle.text_check.specs.declared.Text.{Text}
 use Rattle.text_check.specs.declared.Text.the-variants.{Good, Refused as TextRefused}
 use Rattle.outcome.proofs.Room.{laid-room, laid-yes, laid-no}
-use Rattle.operations.proofs.Verdicts.{front-all}
+use Rattle.encoding.proofs.Wrote.{wrote-held}
 use Rattle.text_check.proofs.Texts.{passes, fails, passed-short}
 
 marked-length : (s : List ℕ) → length (marked s) ≡ suc (length s)
@@ -62,7 +62,7 @@ unfolding After ofClosed itemsRead bind verdictOf andThen laid
 encode-yes s b b′ made made′ most {k = k} (ok c q) e l x i d =
     let j : x .made ≡ k = cc (x .is) in
     let n : k .size ≡ length (encodeAll (c .all)) = rw j at (x .moved .sized) in
-    let h : k .size ≤ mostBytes → take (k .size) made′ ≡ encodeAll (c .all) = λ m. rw (x .moved .wrote .is (omega arith), n) (front-all made (encodeAll (c .all))) in
+    let h : k .size ≤ mostBytes → take (k .size) made′ ≡ encodeAll (c .all) = λ m. rw n (wrote-held (x .moved .wrote) (omega (arith, n))) in
     record { is = rw e (d .is (encodeAll (c .all)) (record { sized = n; held = h })) }
 encode-yes s b b′ made made′ most (refuse n q) e l x i d = let z : _≡_ {A = ℕ} 0 1 = cc (x .is) in absurd (omega arith)
 

@@ -1,3 +1,4 @@
 pub mod ClassCode
 pub mod Marked
+pub mod RunCode
 pub mod ScanCode

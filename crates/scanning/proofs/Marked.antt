@@ -1,14 +1,13 @@
 -- A text with its end mark: what is left at a place; runs.
 -- Assumes nothing.
 use mathlib.Core.Path.{_≡_, refl, sym, ap, _∙_}
-use mathlib.Core.List.{List, [], _∷_, _++_, append-nil, append-assoc}
+use mathlib.Core.List.{List, [], _∷_, _++_, append-nil}
 use mathlib.Core.Bool.{Bool, true, false}
 use Prim.Native.Nat.{ℕ, zero, suc, _+_, _-_, _≤_, _<_}
 use native.Mathlib.Numerals.{add-one}
 use native.Mathlib.Omega.{arith}
 use lib.ListN.{length, take, drop, getD, take-append-drop, drop-of-length-le, length-drop, length-append, List·getD-append}
-use lib.Seq.{drop-cons, drop-at, take-suc}
-use lib.Dec.{eqb}
+use lib.Seq.{drop-cons, drop-at, take-suc, take-all}
 use Rattle.cbor.specs.Refusals.{Result, ok, refuse, bind}
 use Rattle.notation.specs.Scanning.{run}
 use Rattle.notation.specs.Reading.{marked}
@@ -18,6 +17,10 @@ use Rattle.notation.proofs.Equations.{bind-assoc}
 
 pub front : (s : List ℕ) (at : ℕ) → at < length s → drop at s ≡ getD s at 0 ∷ drop (at + 1) s
 front s at h = rw (add-one, drop-cons s at 0)
+
+-- a tail of a list, lent by itself
+pub tail-is : (s : List ℕ) (at : ℕ) → take (length s - at) (drop at s) ≡ drop at s
+tail-is s at = take-all (length s - at) (drop at s) (omega (arith, length-drop at s))
 
 pub length-marked : (s : List ℕ) → length (marked s) ≡ length s + 1
 unfolding marked

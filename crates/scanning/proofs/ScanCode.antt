@@ -2,28 +2,23 @@
 -- Assumes nothing.
 use mathlib.Core.Path.{_≡_, refl, sym, ap, _∙_}
 use mathlib.Core.List.{List, [], _∷_}
-use mathlib.Core.Bool.{Bool, true, false, _&&_, _||_, not}
+use mathlib.Core.Bool.{Bool, true, false, not}
 use Prim.Native.Nat.{ℕ, zero, suc, _+_, _-_, _≤_, _<_}
+use native.Mathlib.Nat.{add-zero}
 use native.Mathlib.Omega.{arith}
 use lib.Dec.{leb, eqb}
-use lib.ListN.{length, drop, getD}
-use borrow.Author.Tests.{eqb-true, eqb-false, ne-eqb, eq-eqb, le-leb, lt-leb, leb-true, leb-false, not-true, not-false}
+use lib.ListN.{length, take, drop, getD}
+use borrow.Author.Tests.{eqb-true, eqb-false, ne-eqb, eq-eqb, leb-true, leb-false, not-true, not-false}
 use Rattle.cbor.specs.Refusals.{ok}
 use Rattle.cbor.specs.Utf8.{isIn}
-use Rattle.notation.specs.Classes.{Class, blank, slash, hash, letter, digit, classNumber, classRows, classIn, classOf, is, isWord}
-use Rattle.notation.specs.Scanning.{isComment, between, slashed, hashed, Skipped, skips, stops, skipped, leftIn, skipFrom, skip, fault, whether, expect}
+use Rattle.notation.specs.Classes.{blank, classNumber, classRows, classIn, classOf, is, isWord}
+use Rattle.notation.specs.Scanning.{isComment, Skipping, between, Skipped, skips, stops, skipped, leftIn, skipFrom, skip, fault, whether, expect}
 use Rattle.notation.specs.Reading.{marked}
-use Rattle.scanning.specs.ScanAnswers.{Classed, outsideBy, endsComment, skipBy, stateOf, firstOf, Skips, Ran, isNext, Peeked}
+use Rattle.scanning.specs.TextRuns.{Textual, TextRun}
+use Rattle.scanning.specs.ScanAnswers.{Unblank, Blanks, InComment, inComment, Ends, Begins, CommentEnd, PastComment, Skips, Ran, isNext, Peeked}
 use Rattle.notation.proofs.ScanningElements.{clash}
-use Rattle.scanning.proofs.Marked.{length-marked, at-byte, at-end, past-end, Running, run-start, run-step, run-stop, run-end}
-
--- CLASSES
-pub class-as : (c : Class) {b k : ℕ} → Classed b k → is c b ≡ eqb (classNumber c) k
-unfolding is
-class-as c cl = rw (cl .is)
-
-differs : {k n : ℕ} → (k ≡ n → ⊥) → eqb n k ≡ false
-differs {k} {n} h = ne-eqb n k (λ e. h (sym e))
+use Rattle.scanning.proofs.ClassCode.{slash-at, hash-at, comment-high}
+use Rattle.scanning.proofs.Marked.{tail-is, length-marked, at-byte, at-end, past-end, Running, run-start, run-step, run-stop, run-end}
 
 pub eqb-sym : (a b : ℕ) → eqb a b ≡ eqb b a
 eqb-sym a b = go (eqb a b) refl
@@ -32,231 +27,228 @@ eqb-sym a b = go (eqb a b) refl
     go true e = sym (eq-eqb b a (sym (eqb-true a b e)))
     go false e = sym (ne-eqb b a (λ q. eqb-false a b e (sym q)))
 
-module _ {b k : ℕ} (cl : Classed b k) where
-  pub class-at : {n : ℕ} (c : Class) → k ≡ n → is c b ≡ eqb (classNumber c) n
-  class-at c e = class-as c cl ∙ ap (eqb (classNumber c)) e
+-- BLANKS
 
-  pub outside-blank : k ≡ 1 → 0 ≡ outsideBy b
-  unfolding outsideBy classNumber
-  outside-blank e = rw (class-at blank e, outsideBy)
+skip-by : (b : ℕ) (r : List ℕ) {k : Skipping} → skipped between b r ≡ skips k → skip (b ∷ r) ≡ skipFrom k r
+unfolding skip skipFrom
+skip-by b r e = rw (e, skipFrom)
 
-  pub outside-slash : k ≡ 9 → 1 ≡ outsideBy b
-  unfolding outsideBy classNumber
-  outside-slash e = rw (class-at blank e, outsideBy) (rw (class-at slash e))
+skip-stops : (b : ℕ) (r : List ℕ) {c : List ℕ} → skipped between b r ≡ stops c → skip (b ∷ r) ≡ c
+unfolding skip skipFrom
+skip-stops b r e = rw (e, skipFrom)
 
-  pub outside-hash : k ≡ 10 → 2 ≡ outsideBy b
-  unfolding outsideBy classNumber
-  outside-hash e = rw (class-at blank e, outsideBy) (rw (class-at slash e) (rw (class-at hash e)))
-
-  pub outside-end : (k ≡ 1 → ⊥) → (k ≡ 9 → ⊥) → (k ≡ 10 → ⊥) → 3 ≡ outsideBy b
-  unfolding outsideBy classNumber
-  outside-end n₁ n₂ n₃ = simp (outsideBy, class-as blank cl, class-as slash cl, class-as hash cl, differs n₁, differs n₂, differs n₃)
-
-  pub word-digit : k ≡ 2 → true ≡ isWord b
-  unfolding isWord classNumber
-  word-digit e = rw (class-at letter e, class-at digit e)
-
-  pub word-letter : k ≡ 3 → true ≡ isWord b
-  unfolding isWord classNumber
-  word-letter e = rw (class-at letter e)
-
-  pub word-none : (k ≡ 2 → ⊥) → (k ≡ 3 → ⊥) → false ≡ isWord b
-  unfolding isWord classNumber
-  word-none n₁ n₂ = simp (isWord, class-as letter cl, class-as digit cl, differs n₁, differs n₂)
-
-  pub comment-slash : (mode : ℕ) → mode ≡ 1 → eqb k 9 ≡ endsComment mode b
-  unfolding endsComment classNumber
-  comment-slash mode e = rw (e, endsComment) (eqb-sym k 9 ∙ sym (class-as slash cl))
-
-  pub comment-low : b < 0x20 → eqb k 1 ≡ isComment b
-  unfolding isComment classNumber
-  comment-low h = eqb-sym k 1 ∙ sym (class-as blank cl) ∙ rest (is blank b)
-    where
-      rest : (t : Bool) → t ≡ (t || (leb 0x20 b && leb b 0xff))
-      rest true = refl
-      rest false = rw (lt-leb 0x20 b h)
-
-pub ruleset outside-ways = (outside-blank, outside-slash, outside-hash, outside-end)
-
-pub ruleset word-ways = (word-digit, word-letter, word-none)
-
-pub comment-line : (mode b : ℕ) → (mode ≡ 1 → ⊥) → eqb b 0x0a ≡ endsComment mode b
-unfolding endsComment
-comment-line mode b n = rw (ne-eqb mode 1 n, endsComment)
-
-pub comment-high : (b : ℕ) → 0x20 ≤ b → b < 256 → true ≡ isComment b
-unfolding isComment
-comment-high b h l = rw (le-leb 0x20 b h, le-leb b 0xff (omega arith)) (rest (is blank b))
-  where
-    rest : (t : Bool) → true ≡ (t || true)
-    rest true = refl
-    rest false = refl
-
-module _ (mode start at b : ℕ) where
-  pub first-between : mode ≡ 0 → at ≡ firstOf mode start at
-  unfolding firstOf
-  first-between e = rw (e, firstOf)
-
-  pub first-inside : (mode ≡ 0 → ⊥) → start ≡ firstOf mode start at
-  unfolding firstOf
-  first-inside n = rw (ne-eqb mode 0 n, firstOf)
-
-  pub step-between : (r : ℕ) → mode ≡ 0 → r ≡ outsideBy b → r ≡ skipBy mode b
-  unfolding skipBy
-  step-between r e h = rw (e, skipBy) h
-
-  module _ (n : mode ≡ 0 → ⊥) (t : Bool) (e : t ≡ endsComment mode b) where
-    pub step-closed : t ≡ true → 0 ≡ skipBy mode b
-    unfolding skipBy
-    step-closed h = rw (ne-eqb mode 0 n, skipBy) (rw (sym e ∙ h))
-
-    pub step-inside : (u : Bool) → t ≡ false → u ≡ isComment b → u ≡ true → mode ≡ skipBy mode b
-    unfolding skipBy
-    step-inside u h f g = rw (ne-eqb mode 0 n, skipBy) (rw (sym e ∙ h) (rw (sym f ∙ g)))
-
-    pub step-ended : (u : Bool) → t ≡ false → u ≡ isComment b → u ≡ false → 3 ≡ skipBy mode b
-    unfolding skipBy
-    step-ended u h f g = rw (ne-eqb mode 0 n, skipBy) (rw (sym e ∙ h) (rw (sym f ∙ g)))
-
-pub ruleset first-ways = (first-between, first-inside)
-
-pub ruleset step-ways = (step-between, step-closed, step-inside, step-ended)
-
--- SKIPPING: a step in the numbers of the code
-abbrev kept : ℕ → List ℕ → List ℕ → List ℕ
-kept mode c r = elim (eqb mode 0) [ true ↦ r | false ↦ c ]
-
-abbrev stepped : ℕ → List ℕ → Skipped
-stepped m c = elim (eqb m 3) [ true ↦ stops c | false ↦ skips (stateOf m c) ]
-
-step-is : (mode b : ℕ) (c r : List ℕ) → mode ≤ 2 → skipped (stateOf mode c) b r ≡ stepped (skipBy mode b) (kept mode c (b ∷ r))
-unfolding skipped stateOf skipBy outsideBy endsComment
-step-is zero b c r h = go (is blank b) (is slash b) (is hash b)
-  where
-    go : (u v w : Bool) → _≡_ {A = Skipped} (elim u [ true ↦ skips between | false ↦ elim v [ true ↦ skips (slashed (b ∷ r)) | false ↦ elim w [ true ↦ skips (hashed (b ∷ r)) | false ↦ stops (b ∷ r) ] ] ])
-        (stepped (elim u [ true ↦ 0 | false ↦ elim v [ true ↦ 1 | false ↦ elim w [ true ↦ 2 | false ↦ 3 ] ] ]) (b ∷ r))
-    go true v w = refl
-    go false true w = refl
-    go false false true = refl
-    go false false false = refl
-step-is (suc zero) b c r h = go (is slash b) (isComment b)
-  where
-    go : (u v : Bool) → _≡_ {A = Skipped} (elim u [ true ↦ skips between | false ↦ elim v [ true ↦ skips (slashed c) | false ↦ stops c ] ]) (stepped (elim u [ true ↦ 0 | false ↦ elim v [ true ↦ 1 | false ↦ 3 ] ]) c)
-    go true v = refl
-    go false true = refl
-    go false false = refl
-step-is (suc (suc zero)) b c r h = go (eqb b 0x0a) (isComment b)
-  where
-    go : (u v : Bool) → _≡_ {A = Skipped} (elim u [ true ↦ skips between | false ↦ elim v [ true ↦ skips (hashed c) | false ↦ stops c ] ]) (stepped (elim u [ true ↦ 0 | false ↦ elim v [ true ↦ 2 | false ↦ 3 ] ]) c)
-    go true v = refl
-    go false true = refl
-    go false false = refl
-step-is (suc (suc (suc mode))) b c r h = absurd (omega arith)
-
--- the modes that a step leads to
-step-low : (mode b : ℕ) → mode ≤ 2 → (skipBy mode b ≡ 3 → ⊥) → skipBy mode b ≤ 2
-unfolding skipBy outsideBy
-step-low mode b h n = omega (arith, n, most (eqb mode 0) (is blank b) (is slash b) (is hash b) (endsComment mode b) (isComment b))
-  where
-    most : (z u v w x y : Bool) → elim z [ true ↦ elim u [ true ↦ 0 | false ↦ elim v [ true ↦ 1 | false ↦ elim w [ true ↦ 2 | false ↦ 3 ] ] ] | false ↦ elim x [ true ↦ 0 | false ↦ elim y [ true ↦ mode | false ↦ 3 ] ] ] ≤ 3
-    most true true v w x y = omega arith
-    most true false true w x y = omega arith
-    most true false false true x y = omega arith
-    most true false false false x y = omega arith
-    most false u v w true y = omega arith
-    most false u v w false true = omega arith
-    most false u v w false false = omega arith
-
-pub record Skimming (s : List ℕ) (i at start mode : ℕ) : Type 0 where
-  pub same : skipFrom (stateOf mode (drop start (marked s))) (drop at (marked s)) ≡ skip (drop i (marked s))
-  pub low : mode ≤ 2
-  pub ahead : i ≤ start
-  pub reach : start ≤ at
+pub record Blanking (s : List ℕ) (i at : ℕ) : Type 0 where
+  pub same : skip (drop i (marked s)) ≡ skip (drop at (marked s))
   pub inside : at ≤ length (marked s)
+  pub ahead : i ≤ at
 
-pub skim-start : {s : List ℕ} {i : ℕ} → i ≤ length (marked s) → Skimming s i i i 0
-unfolding stateOf skip
-skim-start h = record { same = refl; low = omega arith; ahead = omega arith; reach = omega arith; inside = h }
+pub blanks-start : {s : List ℕ} {i : ℕ} → i ≤ length (marked s) → Blanking s i i
+blanks-start h = record { same = refl; inside = h; ahead = omega arith }
 
-marks : (mode : ℕ) (c : List ℕ) → mode ≤ 2 → skipFrom (stateOf mode c) (256 ∷ []) ≡ kept mode c (256 ∷ [])
-unfolding skipFrom stateOf skipped is classNumber classOf classIn classRows isIn isComment
-marks zero c h = refl
-marks (suc zero) c h = refl
-marks (suc (suc zero)) c h = refl
-marks (suc (suc (suc mode))) c h = absurd (omega arith)
-
-nils : (mode : ℕ) (c : List ℕ) → mode ≤ 2 → skipFrom (stateOf mode c) [] ≡ kept mode c []
-unfolding skipFrom stateOf leftIn
-nils zero c h = refl
-nils (suc zero) c h = refl
-nils (suc (suc zero)) c h = refl
-nils (suc (suc (suc mode))) c h = absurd (omega arith)
-
-module _ {s : List ℕ} {i at start mode : ℕ} (m : Skimming s i at start mode) where
-  first-bounds : (start ≤ firstOf mode start at) × (firstOf mode start at ≤ at)
-  unfolding firstOf
-  first-bounds = go (eqb mode 0)
-    where
-      go : (t : Bool) → (start ≤ elim t [ true ↦ at | false ↦ start ]) × (elim t [ true ↦ at | false ↦ start ] ≤ at)
-      go true = (m .reach, omega arith)
-      go false = (omega arith, m .reach)
-
-  kept-is : drop (firstOf mode start at) (marked s) ≡ kept mode (drop start (marked s)) (drop at (marked s))
-  unfolding firstOf
-  kept-is = go (eqb mode 0)
-    where
-      go : (t : Bool) → drop (elim t [ true ↦ at | false ↦ start ]) (marked s) ≡ elim t [ true ↦ drop at (marked s) | false ↦ drop start (marked s) ]
-      go true = refl
-      go false = refl
-
-  module _ (h : at < length s) {start′ mode′ : ℕ} (e : start′ ≡ firstOf mode start at) (f : mode′ ≡ skipBy mode (getD s at 0)) where
-    step-here : skipped (stateOf mode (drop start (marked s))) (getD s at 0) (drop (at + 1) (marked s)) ≡ stepped mode′ (drop start′ (marked s))
-    step-here =
-        step-is mode (getD s at 0) (drop start (marked s)) (drop (at + 1) (marked s)) (m .low)
-        ∙ (ap (λ (r : List ℕ). stepped (skipBy mode (getD s at 0)) (kept mode (drop start (marked s)) r)) (sym (at-byte s at h))
-        ∙ (ap (stepped (skipBy mode (getD s at 0))) (sym kept-is) ∙ (ap (λ (u : ℕ). stepped u (drop (firstOf mode start at) (marked s))) (sym f) ∙ ap (λ (u : ℕ). stepped mode′ (drop u (marked s))) (sym e))))
-
-    pub skim-step : (mode′ ≡ 3 → ⊥) → Skimming s i (at + 1) start′ mode′
-    unfolding skipFrom
-    skim-step n =
+module _ {s : List ℕ} {i at : ℕ} (inv : Blanking s i at) where
+  module _ {t : Bool} (h : at < length s) (e : t ≡ is blank (getD s at 0)) where
+    pub blanks-on : not t ≡ false → Blanking s i (at + 1)
+    unfolding skip skipped
+    blanks-on f =
+        let g : is blank (getD s at 0) ≡ true = sym e ∙ not-false t f in
         record {
-          same = sym (rw (at-byte s at h) (rw (step-here ∙ on-when n, skipFrom))) ∙ m .same;
-          low = rw f (step-low mode (getD s at 0) (m .low) (λ q. n (f ∙ q)));
-          ahead = omega (arith, m .ahead, e, first-bounds .0);
-          reach = omega (arith, e, first-bounds .1);
+          same = inv .same ∙ (ap skip (at-byte s at h) ∙ skip-by (getD s at 0) (drop (at + 1) (marked s)) (rw (g, skipped)));
           inside = omega (arith, length-marked s);
+          ahead = omega (arith, inv .ahead);
         }
-      where
-        on-when : (mode′ ≡ 3 → ⊥) → stepped mode′ (drop start′ (marked s)) ≡ skips (stateOf mode′ (drop start′ (marked s)))
-        on-when n = rw (ne-eqb mode′ 3 n, stepped)
 
-    pub skim-stop : mode′ ≡ 3 → Skips s i start′
-    unfolding skipFrom
-    skim-stop q =
-        record {
-          stands = record { inside = omega (arith, e, first-bounds .1, m .inside); drops = sym (rw (at-byte s at h) (rw (step-here ∙ end-when, skipFrom))) ∙ m .same };
-          ahead = omega (arith, m .ahead, e, first-bounds .0);
-        }
-      where
-        end-when : stepped mode′ (drop start′ (marked s)) ≡ stops (drop start′ (marked s))
-        end-when = rw q
+    pub blanks-stop : not t ≡ true → Blanks s i at
+    blanks-stop f = record { same = inv .same; ends = record { is = λ g. sym e ∙ not-true t f; inside = inv .inside }; ahead = inv .ahead }
 
-  -- at the end mark, and behind it
-  pub skim-end : length s ≤ at → {r : ℕ} → r ≡ firstOf mode start at → Skips s i r
-  skim-end h {r} e =
-      record {
-        stands = record { inside = omega (arith, e, first-bounds .1, m .inside); drops = ap (λ (u : ℕ). drop u (marked s)) e ∙ (kept-is ∙ (sym (last mode (m .low)) ∙ m .same)) };
-        ahead = omega (arith, m .ahead, e, first-bounds .0);
-      }
+  pub blanks-end : length s ≤ at → Blanks s i at
+  blanks-end h = record { same = inv .same; ends = record { is = λ g. absurd (omega arith); inside = inv .inside }; ahead = inv .ahead }
+
+-- WHERE A COMMENT BEGINS
+
+ends-slash : Ends 0x2f
+unfolding inComment skipped
+ends-slash = record { is = λ c b s h. rw (slash-at b h, skipped) }
+
+ends-line : Ends 0x0a
+unfolding inComment skipped
+ends-line = record { is = λ c b s h. refl }
+
+module _ {s : List ℕ} {at : ℕ} (u : Unblank s at) where
+  pub comment-past : length s ≤ at → CommentEnd s at 0
+  unfolding skip skipFrom skipped leftIn is classNumber classOf classIn classRows isIn
+  comment-past h = record { none = λ z. go (leb at (length s)) refl; some = λ n. absurd (n refl); inside = u .inside }
     where
-      last : (k : ℕ) → k ≤ 2 → skipFrom (stateOf k (drop start (marked s))) (drop at (marked s)) ≡ kept k (drop start (marked s)) (drop at (marked s))
-      last k l = go (leb at (length s)) refl
-        where
-          go : (t : Bool) → leb at (length s) ≡ t → skipFrom (stateOf k (drop start (marked s))) (drop at (marked s)) ≡ kept k (drop start (marked s)) (drop at (marked s))
-          go true q = let f : at ≡ length s = omega (arith, leb-true at (length s) q) in rw (at-end s at f) (marks k (drop start (marked s)) l)
-          go false q = rw (past-end s at (leb-false at (length s) q)) (nils k (drop start (marked s)) l)
+      go : (t : Bool) → leb at (length s) ≡ t → skip (drop at (marked s)) ≡ drop at (marked s)
+      go true q = let f : at ≡ length s = omega (arith, leb-true at (length s) q) in rw (at-end s at f)
+      go false q = rw (past-end s at (leb-false at (length s) q))
 
-pub ruleset skims = (skim-step, skim-stop, skim-end)
+  module _ (h : at < length s) where
+    here : {k : Skipping} → skipped between (getD s at 0) (drop (at + 1) (marked s)) ≡ skips k → skip (drop at (marked s)) ≡ skipFrom k (drop (at + 1) (marked s))
+    here e = ap skip (at-byte s at h) ∙ skip-by (getD s at 0) (drop (at + 1) (marked s)) e
+
+    pub comment-slash : getD s at 0 ≡ 0x2f → CommentEnd s at 0x2f
+    unfolding skipped inComment is classNumber classOf classIn classRows isIn
+    comment-slash e =
+        record {
+          none = λ z. absurd (omega arith);
+          some = λ n. record {
+            here = h;
+            is = here (rw (at-byte s at h, e));
+            ends = ends-slash;
+            byte = omega arith;
+          };
+          inside = u .inside;
+        }
+
+    pub comment-hash : getD s at 0 ≡ 0x23 → CommentEnd s at 0x0a
+    unfolding skipped inComment is classNumber classOf classIn classRows isIn
+    comment-hash e =
+        record {
+          none = λ z. absurd (omega arith);
+          some = λ n. record {
+            here = h;
+            is = here (rw (at-byte s at h, e));
+            ends = ends-line;
+            byte = omega arith;
+          };
+          inside = u .inside;
+        }
+
+    pub comment-none : (getD s at 0 ≡ 0x2f → ⊥) → (getD s at 0 ≡ 0x23 → ⊥) → getD s at 0 < 256 → CommentEnd s at 0
+    unfolding skipped
+    comment-none n m l =
+        let b = getD s at 0 in
+        let k : b ≤ 256 = omega arith in
+        record {
+          none = λ z.
+              ap skip (at-byte s at h)
+              ∙ (skip-stops b (drop (at + 1) (marked s)) (simp (skipped, u .is h, slash-at b k, ne-eqb b 0x2f n, hash-at b k, ne-eqb b 0x23 m)) ∙ sym (at-byte s at h));
+          some = λ n. absurd (n refl);
+          inside = u .inside;
+        }
+
+pub ruleset comment-end-ways = (comment-past, comment-slash, comment-hash, comment-none)
+
+-- INSIDE A COMMENT
+
+pub record Commenting (s : List ℕ) (from end at : ℕ) : Type 0 where
+  pub begins : Begins s from end
+  pub same : skip (drop from (marked s)) ≡ skipFrom (inComment end (drop from (marked s))) (drop at (marked s))
+  pub inside : at ≤ length s
+  pub ahead : from < at
+
+pub comment-start : {s : List ℕ} {from end : ℕ} → Begins s from end → Commenting s from end (from + 1)
+comment-start g = record { begins = g; same = g .is; inside = omega (arith, g .here); ahead = omega arith }
+
+-- a byte of the comment
+module _ {s : List ℕ} {from end at : ℕ} (inv : Commenting s from end at) (h : at < length s) (l : getD s at 0 < 256) where
+  next-is : (k : Skipped) → elim (eqb (getD s at 0) end) [ true ↦ skips between | false ↦ elim (isComment (getD s at 0)) [ true ↦ skips (inComment end (drop from (marked s))) | false ↦ stops (drop from (marked s)) ] ] ≡ k
+      → skip (drop from (marked s)) ≡ elim k [ skips k′ ↦ skipFrom k′ (drop (at + 1) (marked s)) | stops r ↦ r ]
+  unfolding skipFrom
+  next-is k e =
+      let c = drop from (marked s) in
+      inv .same ∙ (rw (at-byte s at h) (rw (inv .begins .ends .is c (getD s at 0) (drop (at + 1) (marked s)) (omega arith) ∙ e, skipFrom)))
+
+  next-in : (getD s at 0 ≡ end → ⊥) → isComment (getD s at 0) ≡ true → Commenting s from end (at + 1)
+  next-in n e = record { begins = inv .begins; same = next-is (skips (inComment end (drop from (marked s)))) (simp (ne-eqb (getD s at 0) end n, e)); inside = omega arith; ahead = omega (arith, inv .ahead) }
+
+  next-out : (getD s at 0 ≡ end → ⊥) → isComment (getD s at 0) ≡ false → skip (drop from (marked s)) ≡ drop from (marked s)
+  next-out n e = next-is (stops (drop from (marked s))) (simp (ne-eqb (getD s at 0) end n, e))
+
+  next-end : getD s at 0 ≡ end → skip (drop from (marked s)) ≡ skip (drop (at + 1) (marked s))
+  unfolding skip
+  next-end e = next-is (skips between) (rw (eq-eqb (getD s at 0) end e))
+
+-- a comment that does not end well
+unended : {s : List ℕ} {from : ℕ} → from < length s → skip (drop from (marked s)) ≡ drop from (marked s) → PastComment s from from
+unended {s} h e = record { bad = λ z. e; good = λ n. absurd (n refl); inside = omega (arith, length-marked s); ahead = omega arith }
+
+run-in : {s : List ℕ} {from end at : ℕ} (n : ℕ) → Commenting s from end at → ((j : ℕ) → at ≤ j → j < at + n → Textual end end (getD s j 0)) → at + n ≤ length s → Commenting s from end (at + n)
+run-in {s} {from} {end} {at} zero inv f l = rw add-zero inv
+run-in {s} {from} {end} {at} (suc n) inv f l =
+    let t = f at (omega arith) (omega arith) in
+    let z : at + 1 + n ≡ at + suc n = omega arith in
+    rw z at (run-in n (next-in inv (omega arith) (t .high) (t .first) (sym (comment-high (t .low) (t .high) .is))) (λ j a b. f j (omega arith) (omega arith)) (omega arith))
+
+module _ {s : List ℕ} {from end at : ℕ} (inv : Commenting s from end at) where
+  -- at the end mark
+  pub comment-ended : length s ≤ at → PastComment s from from
+  unfolding skipFrom isComment is classNumber classOf classIn classRows isIn
+  comment-ended h =
+      let e : at ≡ length s = omega (arith, inv .inside) in
+      let n : 256 ≡ end → ⊥ = omega (arith, inv .begins .byte) in
+      let g : skipped (inComment end (drop from (marked s))) 256 [] ≡ stops (drop from (marked s)) = inv .begins .ends .is (drop from (marked s)) 256 [] (omega arith) ∙ rw (ne-eqb 256 end n) in
+      unended (inv .begins .here) (inv .same ∙ (rw (at-end s at e) (rw (g, skipFrom))))
+
+  module _ {stop : ℕ} (r : TextRun s end end at stop) where
+    run-to : Commenting s from end stop
+    run-to =
+        let z : at + (stop - at) ≡ stop = omega (arith, r .ahead) in
+        rw z at (run-in (stop - at) inv (λ j a b. r .is j a (omega arith)) (omega (arith, r .inside)))
+
+    module _ (h : stop < length s) where
+      pub comment-closed : getD s stop 0 ≡ end → PastComment s from (stop + 1)
+      comment-closed e =
+          let i = run-to in
+          let l : getD s stop 0 < 256 = omega (arith, inv .begins .byte) in
+          record { bad = λ z. absurd (omega (arith, i .ahead)); good = λ n. next-end i h l e; inside = omega (arith, length-marked s); ahead = omega (arith, i .ahead) }
+
+      module _ {t : Bool} (n : getD s stop 0 ≡ end → ⊥) (x : InComment (getD s stop 0) t) where
+        pub comment-on : not t ≡ false → Commenting s from end (stop + 1)
+        comment-on f = next-in run-to h (x .byte) n (sym (x .is) ∙ not-false t f)
+
+        pub comment-wrong : not t ≡ true → PastComment s from from
+        comment-wrong f = unended (inv .begins .here) (next-out run-to h (x .byte) n (sym (x .is) ∙ not-true t f))
+
+pub comment-open : {s : List ℕ} {from end at stop : ℕ} → Commenting s from end at → TextRun s end end at stop → length s ≤ stop → PastComment s from from
+comment-open inv r h = comment-ended (run-to inv r) h
+
+pub ruleset comment-ways = (comment-closed, comment-wrong, comment-open, comment-ended)
+
+-- BLANKS AND COMMENTS IN TURN
+
+pub record Skimming (s : List ℕ) (i at end : ℕ) : Type 0 where
+  pub same : skip (drop i (marked s)) ≡ skip (drop at (marked s))
+  pub next : CommentEnd s at end
+  pub ahead : i ≤ at
+
+pub skim-start : {s : List ℕ} {i end : ℕ} → CommentEnd s i end → Skimming s i i end
+skim-start x = record { same = refl; next = x; ahead = omega arith }
+
+module _ {s : List ℕ} {i at end : ℕ} (inv : Skimming s i at end) where
+  pub skim-begins : (end ≡ 0 → ⊥) → Begins s at end
+  skim-begins n = inv .next .some n
+
+  stopped : skip (drop at (marked s)) ≡ drop at (marked s) → Skips s i at
+  stopped e = record { stands = record { inside = inv .next .inside; drops = sym (inv .same ∙ e) }; ahead = inv .ahead }
+
+  pub skim-end : end ≡ 0 → Skips s i at
+  skim-end e = stopped (inv .next .none e)
+
+  module _ {next : ℕ} (x : PastComment s at next) where
+    pub skim-stop : next ≡ at → Skips s i at
+    skim-stop e = stopped (x .bad e)
+
+    pub skim-on : {at′ end′ : ℕ} → (next ≡ at → ⊥) → Blanks s next at′ → CommentEnd s at′ end′ → Skimming s i at′ end′
+    skim-on n y z = record { same = inv .same ∙ (x .good n ∙ y .same); next = z; ahead = omega (arith, inv .ahead, x .ahead, y .ahead) }
+
+-- the whole text, lent anew
+whole : (s : List ℕ) → take (length s - 0) (drop 0 s) ≡ s
+whole s = tail-is s 0
+
+module _ {s : List ℕ} {i at end : ℕ} (x : Blanks s i at) (y : CommentEnd s at end) where
+  pub skip-here : end ≡ 0 → Skips s i at
+  skip-here e = skim-end (record { same = x .same; next = y; ahead = x .ahead }) e
+
+pub comment-lent : {s : List ℕ} {at end : ℕ} → CommentEnd s at end → CommentEnd (take (length s - 0) (drop 0 s)) at end
+comment-lent {s} x = rw (whole s) x
+
+pub skip-on : {s : List ℕ} {i at r : ℕ} → Blanks s i at → Skips (take (length s - 0) (drop 0 s)) at r → Skips s i r
+skip-on {s} {i} {at} {r} x y =
+    let z : Skips s at r = rw (whole s) at y in
+    record { stands = record { inside = z .stands .inside; drops = z .stands .drops ∙ sym (x .same) }; ahead = omega (arith, x .ahead, z .ahead) }
+
+pub ruleset skip-ways = (skip-here, skip-on)
 
 -- WORDS
 module _ (s : List ℕ) {i : ℕ} where

@@ -1,3 +1,4 @@
-// Scanning a text: the class of each byte; blanks, comments and words, from a cursor on.
+// Scanning a text: the class of each byte; blanks, comments, words and runs of text, from a place on.
 pub mod class;
+pub mod run;
 pub mod scan;

@@ -1,80 +1,134 @@
 // Cursors: blanks and comments, words, and the byte that is next.
-use crate::class::class;
+use crate::class::is_blank;
+use crate::run::text_run;
 ghost use mathlib.Core.Path.{_≡_};
 ghost use Prim.Native.Nat.{_≤_};
 ghost use lib.ListN.{length};
 ghost use Rattle.notation.specs.Classes.{isWord};
-ghost use Rattle.notation.specs.Scanning.{isComment};
 ghost use Rattle.notation.specs.Reading.{marked};
-ghost use Rattle.scanning.specs.ScanAnswers.{outsideBy, endsComment, skipBy, firstOf, Skips, Ran, Peeked};
+ghost use Rattle.scanning.specs.ScanAnswers.{Blanks, Begins, CommentEnd, InComment, PastComment, Unblank, Skips, Ran, Peeked};
 
-fn outside(b: u8) -> u8
-    ensures { λ r. ⌜ r ≡ outsideBy b ⌝ }
+// What ends a comment where none begins.
+const NOTHING: u8 = 0;
+
+fn blanks(text: &[u8], from: usize) -> usize
+    requires { ⌜ from ≤ length (marked (now text)) ⌝ }
+    ensures { λ r. ⌜ Blanks (now (text .entry)) from r ⌝ }
 {
-    let k = class(b);
-    match k {
-        1 => 0,
-        9 => 1,
-        10 => 2,
-        _ => 3,
+    let mut at = from;
+    while at < text.len() {
+        if !is_blank(text[at]) {
+            return at;
+        }
+        at += 1;
     }
+    at
 }
 
-fn ends_comment(mode: u8, b: u8) -> bool
-    ensures { λ r. ⌜ r ≡ endsComment mode b ⌝ }
-{
-    if mode == 1 {
-        let k = class(b);
-        return k == 9;
-    }
-    b == 0x0a
-}
-
+// Whether a byte may stand in a comment.
 fn in_comment(b: u8) -> bool
-    ensures { λ r. ⌜ r ≡ isComment b ⌝ }
+    ensures { λ r. ⌜ InComment b r ⌝ }
 {
     if 0x20 <= b {
         return true;
     }
-    let k = class(b);
-    k == 1
+    is_blank(b)
 }
 
-// What a byte makes of a mode: 0 between tokens, 1 in a comment between slashes, 2 in one behind a hash, 3 the scan ends.
-fn skip_step(mode: u8, b: u8) -> u8
-    ensures { λ r. ⌜ r ≡ skipBy mode b ⌝ }
+// The byte that ends the comment that begins at a place where no blank stands.
+fn comment_end(text: &[u8], at: usize) -> u8
+    requires { ⌜ Unblank (now text) at ⌝ }
+    ensures { λ r. ⌜ CommentEnd (now (text .entry)) at r ⌝ }
 {
-    if mode == 0 {
-        return outside(b);
+    if text.len() <= at {
+        return NOTHING;
     }
-    if ends_comment(mode, b) {
-        return 0;
+    let b = text[at];
+    match b {
+        b'/' => b'/',
+        b'#' => b'\n',
+        _ => NOTHING,
     }
-    if in_comment(b) {
-        return mode;
-    }
-    3
 }
 
-fn first_of(mode: u8, start: usize, at: usize) -> usize
-    ensures { λ r. ⌜ r ≡ firstOf mode start at ⌝ }
+// Past a comment that begins at a place and ends with `end`; the place itself where it does not end well.
+fn comment(text: &[u8], from: usize, end: u8) -> usize
+    requires { ⌜ Begins (now text) from end ⌝ }
+    ensures { λ r. ⌜ PastComment (now (text .entry)) from r ⌝ }
 {
-    if mode == 0 {
+    let mut at = from + 1;
+    while at < text.len() {
+        let stop = text_run(text, at, end, end);
+        if text.len() <= stop {
+            return from;
+        }
+        let b = text[stop];
+        if b == end {
+            return stop + 1;
+        }
+        if !in_comment(b) {
+            return from;
+        }
+        at = stop + 1;
+    }
+    from
+}
+
+// Past the comment that begins at a place, and past blanks and comments behind it.
+fn comments(text: &[u8], from: usize, first: u8) -> usize
+    requires { ⌜ CommentEnd (now text) from first ⌝ }
+    ensures { λ r. ⌜ Skips (now (text .entry)) from r ⌝ }
+{
+    let mut at = from;
+    let mut end = first;
+    while end != NOTHING {
+        let next = comment(text, at, end);
+        if next == at {
+            return at;
+        }
+        at = blanks(text, next);
+        end = comment_end(text, at);
+    }
+    at
+}
+
+// Past blanks and comments. A comment that does not end well is not skipped. Two calls of `comments`, on a text of their own: so the
+// compiler keeps it out of where `skip` is called, and what is left is a loop over blanks.
+pub fn skip(text: &[u8], from: usize) -> usize
+    requires { ⌜ from ≤ length (marked (now text)) ⌝ }
+    ensures { λ r. ⌜ Skips (now (text .entry)) from r ⌝ }
+{
+    let at = blanks(text, from);
+    let end = comment_end(text, at);
+    if end == NOTHING {
         return at;
     }
-    start
+    if end == b'/' {
+        return comments(&text[0..], at, end);
+    }
+    comments(&text[0..], at, end)
 }
 
 // Whether a letter or a digit.
 fn is_word(b: u8) -> bool
     ensures { λ r. ⌜ r ≡ isWord b ⌝ }
 {
-    let k = class(b);
-    match k {
-        2 => true,
-        3 => true,
-        _ => false,
+    if b < 0x30 {
+        return false;
     }
+    if b < 0x3a {
+        return true;
+    }
+    if b < 0x41 {
+        return false;
+    }
+    if b < 0x5b {
+        return true;
+    }
+    if b < 0x61 {
+        return false;
+    }
+    b < 0x7b
 }
 
 // Whether the byte c stands at a place.
@@ -92,24 +146,12 @@ pub struct TextCursor {
 }
 
 impl TextCursor {
-    // Past blanks and comments. A comment that does not end well is not skipped.
     pub fn skip(self, text: &[u8]) -> TextCursor
         requires { ⌜ self .at ≤ length (marked (now text)) ⌝ }
         ensures { λ r. ⌜ Skips (now (text .entry)) (self .at) (r .at) ⌝ }
     {
-        let mut at = self.at;
-        let mut start = at;
-        let mut mode: u8 = 0;
-        while at < text.len() {
-            start = first_of(mode, start, at);
-            mode = skip_step(mode, text[at]);
-            if mode == 3 {
-                return TextCursor { at: start };
-            }
-            at += 1;
-        }
         TextCursor {
-            at: first_of(mode, start, at),
+            at: skip(text, self.at),
         }
     }
 

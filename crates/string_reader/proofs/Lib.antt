@@ -1,3 +1,2 @@
 pub mod ReadLoops
-pub mod ReadLists
 pub mod ReadStrings

@@ -16,16 +16,16 @@ use Rattle.notation.specs.Indicators.{Indicator}
 use Rattle.notation.specs.Tokens.{Shape, Token, begins, closes, aComma, aColon}
 use Rattle.notation.specs.Cutting.{next, place}
 use Rattle.notation.specs.Reading.{marked}
-use Rattle.token.specs.TokenAnswers.{indicatorNumber, shapeCode, codeOf, markOf, Took}
-use Rattle.encoding.specs.ReadAnswers.{View, Wrote, Room, ReadTold, Strayed}
+use Rattle.token.specs.TokenAnswers.{shapeCode, codeOf, Took}
+use Rattle.encoding.specs.ReadAnswers.{View, Tells, Wrote, Room, ReadTold, Strayed}
 use Rattle.token.specs.declared.Token.{Token as Cut}
 use Rattle.encoding.specs.declared.answer.MadeItem.{MadeItem as MadeS}
 use Rattle.encoding.specs.declared.answer.ReadAnswer.{ReadAnswer}
 use Rattle.encoding.specs.declared.answer.ReadAnswer.the-variants.{Made, Refused}
 use Rattle.scanning.proofs.Marked.{stands-left}
 use Rattle.notation.proofs.Equations.{bind-assoc}
-use Rattle.encoding.proofs.ReadWriting.{wrote-nothing, wrote-more}
-use Rattle.encoding.proofs.ReadRules.{indicatorOf, step, step-close, step-comma, step-stray, begin-close, shape-low}
+use Rattle.encoding.proofs.Wrote.{wrote-nothing, wrote-more}
+use Rattle.encoding.proofs.ReadRules.{indicatorOf, step, step-close, step-comma, step-stray, shape-low}
 use Rattle.encoding.proofs.Telling.{bind-yes, told-ok, told-lost, told-stop, Got, got, lost, token, past}
 
 -- a kind of sequence: how it is read, made, and seen by the code
@@ -39,16 +39,17 @@ pub record Row : Type 1 where
   pub rest : List ℕ → Result All
   pub add : Elem → All → All
   pub last : Elem → Indicator → All
-  pub kept : Indicator → ℕ
   pub closer : Shape
   pub levels : ℕ
   pub rest-is : (s : List ℕ) → rest s ≡ bind (elem s) (λ x r. bind (next r) (λ u r′. step rest add last levels closer x u (place r) r′))
   pub add-bytes : (x : Elem) (xs : All) → ofAll (add x xs) .bytes ≡ ofElem x .bytes ++ ofAll xs .bytes
   pub add-count : (x : Elem) (xs : All) → ofAll (add x xs) .count ≡ ofElem x .count + ofAll xs .count
-  pub add-note : (x : Elem) (xs : All) → ofAll (add x xs) .note ≡ ofAll xs .note
   pub last-bytes : (x : Elem) (i : Indicator) → ofAll (last x i) .bytes ≡ ofElem x .bytes
   pub last-count : (x : Elem) (i : Indicator) → ofAll (last x i) .count ≡ ofElem x .count
-  pub last-note : (x : Elem) (i : Indicator) → ofAll (last x i) .note ≡ kept i
+  pub plain : (xs : All) → ofAll xs .indicator ≡ 0
+  pub binary : Bool
+  pub add-tells : (x : Elem) (xs : All) → Tells (ofAll xs .held) binary (ofAll xs .count) → Tells (ofAll (add x xs) .held) binary (ofAll (add x xs) .count)
+  pub last-tells : (x : Elem) (i : Indicator) → Tells (ofAll (last x i) .held) binary (ofAll (last x i) .count)
 
 -- Before an element: n is counted, from i on up to at, and the bytes, size of them, stand in the buffer from pos on. `front` puts what
 -- was read before further ones, and what is left to read is an equation.
@@ -60,7 +61,7 @@ pub record Run (L : Row) (s b₀ : List ℕ) (i pos at n size : ℕ) (b : List �
   pub left : L .first (drop i (marked s)) ≡ bind (L .rest (drop at (marked s))) (λ xs r. ok (front xs) r)
   pub counted : (xs : L .All) → L .ofAll (front xs) .count ≡ n + L .ofAll xs .count
   pub coded : (xs : L .All) → L .ofAll (front xs) .bytes ≡ bytes ++ L .ofAll xs .bytes
-  pub noted : (xs : L .All) → L .ofAll (front xs) .note ≡ L .ofAll xs .note
+  pub tells : (xs : L .All) → Tells (L .ofAll xs .held) (L .binary) (L .ofAll xs .count) → Tells (L .ofAll (front xs) .held) (L .binary) (L .ofAll (front xs) .count)
   pub sized : length bytes ≡ size
   pub many : n ≤ size
   pub short : size + 9 * (length (marked s) - at) ≤ 9 * (length (marked s) - i)
@@ -75,36 +76,7 @@ comma-left : {A : Type 0} (rd : List ℕ → Result A) (add front : A → A) (r 
 unfolding bind
 comma-left rd add front r = bind-assoc (rd r) _ _
 
--- the indicator of a token that closes
-close-mark : (h : Shape) (tok : Token) → codeOf tok ≡ shapeCode h → markOf tok ≡ indicatorNumber (indicatorOf tok)
-unfolding codeOf markOf indicatorOf
-close-mark h (begins g) e = absurd (begin-close g h e)
-close-mark h (closes h′ i) e = refl
-close-mark h aComma e = absurd (omega (arith, shape-low h))
-close-mark h aColon e = absurd (omega (arith, shape-low h))
-
 module _ (L : Row) {s : List ℕ} {i : ℕ} where
-  -- at the start, the closing token
-  pub row-empty : {t : Cut} {b : List ℕ} {pos : ℕ} {a : ReadAnswer} (tk : Took s i t) (k : ℕ) (empty : Indicator → L .All) → t .code ≡ shapeCode (L .closer)
-      → ((j : Indicator) → t .indicator ≡ indicatorNumber j → k ≡ L .ofAll (empty j) .note)
-      → ((tok : Token) (r : List ℕ) → next (drop i (marked s)) ≡ ok tok r → codeOf tok ≡ shapeCode (L .closer) → L .first (drop i (marked s)) ≡ ok (empty (indicatorOf tok)) r)
-      → ((j : Indicator) → L .ofAll (empty j) .bytes ≡ []) → ((j : Indicator) → L .ofAll (empty j) .count ≡ 0)
-      → a ≡ Made (record { next = t .next; size = 0; count = 0; note = k }) → ReadTold (L .ofAll) s b b (length (marked s) - i) pos a (L .first (drop i (marked s)))
-  row-empty {t} {b} {pos} tk k empty e nt fe eb ec f =
-      let tt = token tk (λ z. omega (arith, shape-low (L .closer))) in
-      let c : codeOf (tt .tok) ≡ shapeCode (L .closer) = sym (tt .seen .code) ∙ e in
-      let j : Indicator = indicatorOf (tt .tok) in
-      told-ok (empty j) _ (fe (tt .tok) (tt .rest) (tt .is) c) f
-      (record {
-        stands = tt .seen .next;
-        sized = sym (ap length (eb j));
-        counted = sym (ec j);
-        noted = nt j (tt .seen .indicator ∙ close-mark (L .closer) (tt .tok) c);
-        many = omega (arith, ec j);
-        short = omega (arith, stands-left (tt .seen .next), past tk (tt .ahead));
-        wrote = rw (eb j) (wrote-nothing b pos);
-      })
-
   pub row-start : (b : List ℕ) (pos : ℕ) → L .first (drop i (marked s)) ≡ L .rest (drop i (marked s)) → Room s i pos → Run L s b i pos i 0 0 b
   row-start b pos e rm =
       record {
@@ -115,7 +87,7 @@ module _ (L : Row) {s : List ℕ} {i : ℕ} where
         left = e ∙ bind-self (L .rest (drop i (marked s)));
         counted = λ xs. sym (zero-add (L .ofAll xs .count));
         coded = λ xs. refl;
-        noted = λ xs. refl;
+        tells = λ xs h. h;
         sized = refl;
         many = omega arith;
         short = omega arith;
@@ -163,54 +135,55 @@ module _ (L : Row) {s b₀ : List ℕ} {i pos at n size : ℕ} {b b′ : List �
     module _ {t : Cut} (tk : Took s (m .next) t) where
       pub row-comma : t .code ≡ 11 → Run L s b₀ i pos (t .next) (n + m .count) (size + m .size) b′
       row-comma e =
-          let tt = token tk (λ z. omega arith) in
-          let st = tt .seen .next in
-          let c : codeOf (tt .tok) ≡ 11 = sym (tt .seen .code) ∙ e in
+          let tk′ = token tk (λ z. omega arith) in
+          let st = tk′ .seen .next in
+          let c : codeOf (tk′ .tok) ≡ 11 = sym (tk′ .seen .code) ∙ e in
           record {
             inside = st .inside;
             room = run .room;
             front = λ xs. run .front (L .add x xs);
             bytes = run .bytes ++ L .ofElem x .bytes;
             left =
-                behind ∙ bind-yes (next (drop (m .next) (marked s))) _ (tt .tok) (tt .rest) (tt .is)
+                behind ∙ bind-yes (next (drop (m .next) (marked s))) _ (tk′ .tok) (tk′ .rest) (tk′ .is)
                 ∙ ap (λ (u : Result (L .All)). bind u (λ xs r. ok (run .front xs) r))
-                (step-comma (L .rest) (L .add) (L .last) (L .levels) (L .closer) x (place (drop (m .next) (marked s))) (tt .rest) (tt .tok) c)
-                ∙ comma-left (L .rest) (L .add x) (run .front) (tt .rest) ∙ ap (λ (r : List ℕ). bind (L .rest r) (λ xs r′. ok (run .front (L .add x xs)) r′)) (sym (st .drops));
+                (step-comma (L .rest) (L .add) (L .last) (L .levels) (L .closer) x (place (drop (m .next) (marked s))) (tk′ .rest) (tk′ .tok) c)
+                ∙ comma-left (L .rest) (L .add x) (run .front) (tk′ .rest) ∙ ap (λ (r : List ℕ). bind (L .rest r) (λ xs r′. ok (run .front (L .add x xs)) r′)) (sym (st .drops));
             counted = λ xs. run .counted (L .add x xs) ∙ omega (arith, L .add-count x xs, it .moved .counted);
             coded = λ xs. run .coded (L .add x xs) ∙ rw (L .add-bytes x xs) (sym (append-assoc (run .bytes) (L .ofElem x .bytes) (L .ofAll xs .bytes)));
-            noted = λ xs. run .noted (L .add x xs) ∙ L .add-note x xs;
+            tells = λ xs h. run .tells (L .add x xs) (L .add-tells x xs h);
             sized = length-append (run .bytes) (L .ofElem x .bytes) ∙ cc (run .sized, it .moved .sized);
             many = omega (arith, run .many, it .moved .many, it .moved .counted);
-            short = omega (arith, bounded, past tk (tt .ahead));
+            short = omega (arith, bounded, past tk (tk′ .ahead));
             wrote = written;
           }
 
       pub row-less : t .code ≡ 11 → length (marked s) - t .next < length (marked s) - at
       row-less e =
-          let tt = token tk (λ z. omega arith) in
-          omega (arith, past tk (tt .ahead), tt .seen .next .inside, stands-left (it .moved .stands), it .moved .stands .inside, it .moved .short, run .inside)
+          let tk′ = token tk (λ z. omega arith) in
+          omega (arith, past tk (tk′ .ahead), tk′ .seen .next .inside, stands-left (it .moved .stands), it .moved .stands .inside, it .moved .short, run .inside)
 
       module _ {a′ : ReadAnswer} where
-        pub row-close : (k : ℕ) → t .code ≡ shapeCode (L .closer) → ((j : Indicator) → t .indicator ≡ indicatorNumber j → k ≡ L .kept j)
-            → a′ ≡ Made (record { next = t .next; size = size + m .size; count = n + m .count; note = k }) → ReadTold (L .ofAll) s b₀ b′ (length (marked s) - i) pos a′ (L .first (drop i (marked s)))
+        pub row-close : t .code ≡ shapeCode (L .closer) → a′ ≡ Made (record { next = t .next; size = size + m .size; count = n + m .count; indicator = 0; binary = L .binary; length = n + m .count }) → ReadTold (L .ofAll) s b₀ b′ (length (marked s) - i) pos a′ (L .first (drop i (marked s)))
         unfolding bind
-        row-close k e nt f =
-            let tt = token tk (λ z. omega (arith, shape-low (L .closer))) in
-            let c : codeOf (tt .tok) ≡ shapeCode (L .closer) = sym (tt .seen .code) ∙ e in
-            let j : Indicator = indicatorOf (tt .tok) in
+        row-close e f =
+            let tk′ = token tk (λ z. omega (arith, shape-low (L .closer))) in
+            let c : codeOf (tk′ .tok) ≡ shapeCode (L .closer) = sym (tk′ .seen .code) ∙ e in
+            let j : Indicator = indicatorOf (tk′ .tok) in
             let al : L .All = run .front (L .last x j) in
+            let cn : L .ofAll al .count ≡ n + m .count = run .counted (L .last x j) ∙ omega (arith, L .last-count x j, it .moved .counted) in
             let q : L .ofAll al .bytes ≡ run .bytes ++ L .ofElem x .bytes = run .coded (L .last x j) ∙ ap (λ (l : List ℕ). run .bytes ++ l) (L .last-bytes x j) in
             told-ok al _
-            (behind ∙ bind-yes (next (drop (m .next) (marked s))) _ (tt .tok) (tt .rest) (tt .is)
+            (behind ∙ bind-yes (next (drop (m .next) (marked s))) _ (tk′ .tok) (tk′ .rest) (tk′ .is)
             ∙ ap (λ (u : Result (L .All)). bind u (λ xs r. ok (run .front xs) r))
-            (step-close (L .rest) (L .add) (L .last) (L .levels) (L .closer) x (place (drop (m .next) (marked s))) (tt .rest) (tt .tok) c)) f
+            (step-close (L .rest) (L .add) (L .last) (L .levels) (L .closer) x (place (drop (m .next) (marked s))) (tk′ .rest) (tk′ .tok) c)) f
             (record {
-              stands = tt .seen .next;
+              stands = tk′ .seen .next;
               sized = sym (ap length q ∙ length-append (run .bytes) (L .ofElem x .bytes) ∙ cc (run .sized, it .moved .sized));
-              counted = sym (run .counted (L .last x j) ∙ omega (arith, L .last-count x j, it .moved .counted));
-              noted = nt j (tt .seen .indicator ∙ close-mark (L .closer) (tt .tok) c) ∙ sym (run .noted (L .last x j) ∙ L .last-note x j);
+              counted = sym cn;
+              indicated = sym (L .plain al);
+              tells = rw cn at (run .tells (L .last x j) (L .last-tells x j));
               many = omega (arith, run .counted (L .last x j), L .last-count x j, run .many, it .moved .many);
-              short = omega (arith, bounded, stands-left (tt .seen .next), past tk (tt .ahead));
+              short = omega (arith, bounded, stands-left (tk′ .seen .next), past tk (tk′ .ahead));
               wrote = rw q written;
             })
 

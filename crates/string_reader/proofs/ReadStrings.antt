@@ -2,7 +2,7 @@
 -- Assumes nothing.
 use mathlib.Core.Path.{_≡_, refl, sym, ap, _∙_}
 use mathlib.Core.List.{List, [], _∷_, _++_, append-nil}
-use mathlib.Core.Bool.{Bool, true, false}
+use mathlib.Core.Bool.{Bool, true, false, true≢false}
 use Prim.Native.Nat.{ℕ, suc, _+_, _-_, _*_, _≤_, _<_, _^_}
 use native.Mathlib.Omega.{arith}
 use lib.Dec.{eqb}
@@ -24,7 +24,7 @@ use Rattle.notation.specs.Form.{either, only, one, chunks, Chunks, give, stray,
 use Rattle.notation.specs.Reading.{marked}
 use Rattle.scanning.specs.Stands.{Stands}
 use Rattle.token.specs.TokenAnswers.{itemCode, openCode, kindCode, sizeNumber, beginCode, shapeCode, codeOf, markOf, beginMark, numberOf, beginNumber, Written, BeginsAs, Seen, Took}
-use Rattle.encoding.specs.ReadAnswers.{noteOf, ofItem, ofChunk, ofChunks, chunkOf, chunkReadBy, chunkRead, chunkedRead, kindFor, majorBy, initialBy, MajorBy, noteBy, Wrote, Room, Opened, Strings, Light, MovedOn, ReadTold, Strayed, Denies, Stringed, LiteralIs, LiteralTold, Ended, ChunksTold}
+use Rattle.encoding.specs.ReadAnswers.{heldOf, Tells, ofItem, ofChunk, ofChunks, chunkOf, chunkReadBy, chunkRead, chunkedRead, kindFor, majorBy, initialBy, isBytesBy, MajorBy, Wrote, Room, Opened, Strings, Light, MovedOn, ReadTold, Strayed, Denies, Stringed, LiteralIs, LiteralTold, Ended, ChunksTold}
 use Rattle.token.specs.declared.Token.{Token as Cut}
 use Rattle.encoding.specs.declared.answer.MadeItem.{MadeItem as MadeS}
 use Rattle.encoding.specs.declared.answer.ReadAnswer.{ReadAnswer}
@@ -34,10 +34,10 @@ use Rattle.notation.proofs.Equations.{bind-same, bind-assoc, obey-if}
 use Rattle.notation.proofs.SoundToken.{head-most}
 use Rattle.scanning.proofs.Marked.{stands-left}
 use Rattle.encoding.proofs.ReadTokens.{SizeFine, Fine}
-use Rattle.encoding.proofs.ReadWriting.{wrote-more, wrote-front, width-some, kind-major, string-head}
+use Rattle.encoding.proofs.Wrote.{wrote-more, wrote-front}
+use Rattle.encoding.proofs.ReadWriting.{width-some, kind-major, string-head}
 use Rattle.encoding.proofs.Telling.{bind-yes, bind-no, told-no, told-ok, told-lost, told-stop, denied, got, lost, token, place-at, place-left}
 use Rattle.encoding.proofs.ReadRules.{step, shape-low, one-is}
-use Rattle.string_reader.proofs.ReadLists.{room-fits}
 use Rattle.string_reader.proofs.ReadLoops.{Row, Run, row-start, row-room, row-refused, row-fits, row-count, row-comma, row-less, row-close, row-stray}
 
 -- A LITERAL, by its code
@@ -124,14 +124,18 @@ item-literal {s} {b} {b′} {at} {pos} {t} {a} d tk rm l h to =
     let z = literal-size (li .kind) (li .size) (li .held) in
     told-ok x _ (one-is d (drop at (marked s)) ∙ bind-yes (next (drop at (marked s))) _ (begins (literal (li .kind) (li .size) (li .held))) (li .rest) (li .next-is)) (g .is)
     (record {
-      stands = li .stands;
-      sized = refl;
-      counted = refl;
-      noted = refl;
-      many = z .0;
-      short = omega (arith, z .1, li .short, stands-left (li .stands), li .stands .inside, tk .from);
+      stands = rw (g .next-is) (li .stands);
+      sized = g .sized;
+      counted = g .counted;
+      indicated = g .indicated;
+      tells = g .tells;
+      many = omega (arith, z .0, g .sized);
+      short = omega (arith, z .1, g .sized, li .short, stands-left (li .stands), li .stands .inside, tk .from);
       wrote = g .wrote;
     })
+
+room-fits : {s : List ℕ} {at pos : ℕ} → Room s at pos → Fits bits64 pos
+room-fits r = record { fits = omega (arith, r .room) }
 
 -- CHUNKS, as a row
 unfoldable pub lastChunk : Kind → Chunk → Indicator → Chunks
@@ -173,10 +177,6 @@ pub chunks-count : (k : Kind) (c : Chunk) (cs : Chunks) → ofChunks k (addChunk
 unfolding ofChunks ofChunk addChunk chunksLength
 chunks-count k c cs = refl
 
-pub chunks-note : (k : Kind) (c : Chunk) (cs : Chunks) → ofChunks k (addChunk c cs) .note ≡ ofChunks k cs .note
-unfolding ofChunks addChunk
-chunks-note k c cs = refl
-
 pub chunks-last : (k : Kind) (c : Chunk) (i : Indicator) → ofChunks k (lastChunk k c i) .bytes ≡ ofChunk k c .bytes
 unfolding ofChunks ofChunk lastChunk encodeChunks
 chunks-last k c i = append-nil (encodeString k (c .width) (c .content))
@@ -185,9 +185,29 @@ pub chunks-last-count : (k : Kind) (c : Chunk) (i : Indicator) → ofChunks k (l
 unfolding ofChunks ofChunk lastChunk chunksLength
 chunks-last-count k c i = omega arith
 
-pub chunks-last-note : (k : Kind) (c : Chunk) (i : Indicator) → ofChunks k (lastChunk k c i) .note ≡ kindCode k
+pub chunks-plain : (k : Kind) (cs : Chunks) → ofChunks k cs .indicator ≡ 0
+unfolding ofChunks
+chunks-plain k cs = refl
+
+tells-of : {v : Bool} (n : ℕ) (k k′ : Kind) (cs : List Chunk) → v ≡ isBytesBy (kindCode k′) → Tells (heldOf (chunked k cs)) v n → k ≡ k′
+unfolding Tells heldOf isBytesBy kindCode
+tells-of n byteString byteString cs e h = refl
+tells-of n byteString textString cs e h = absurd (true≢false (sym (h .0) ∙ e))
+tells-of n textString byteString cs e h = absurd (true≢false (sym e ∙ h))
+tells-of n textString textString cs e h = refl
+
+tells-as : (k : Kind) (cs : List Chunk) → Tells (heldOf (chunked k cs)) (isBytesBy (kindCode k)) (chunksLength cs)
+unfolding Tells heldOf isBytesBy kindCode
+tells-as byteString cs = (refl, refl)
+tells-as textString cs = refl
+
+pub chunks-add : (k : Kind) (c : Chunk) (cs : Chunks) → Tells (ofChunks k cs .held) (isBytesBy (kindCode k)) (ofChunks k cs .count) → Tells (ofChunks k (addChunk c cs) .held) (isBytesBy (kindCode k)) (ofChunks k (addChunk c cs) .count)
+unfolding ofChunks addChunk
+chunks-add k c cs h = rw (tells-of (chunksLength (cs .all)) (cs .kind) k (cs .all) refl h) (tells-as k (c ∷ cs .all))
+
+pub chunks-end : (k : Kind) (c : Chunk) (i : Indicator) → Tells (ofChunks k (lastChunk k c i) .held) (isBytesBy (kindCode k)) (ofChunks k (lastChunk k c i) .count)
 unfolding ofChunks lastChunk
-chunks-last-note k c i = refl
+chunks-end k c i = tells-as k (c ∷ [])
 
 abbrev pub chunksRow : Kind → ℕ → Row
 chunksRow k d =
@@ -201,16 +221,17 @@ chunksRow k d =
       rest = reads (chunks (only k) d);
       add = addChunk;
       last = lastChunk k;
-      kept = λ i. kindCode k;
       closer = round;
       levels = d;
       rest-is = chunks-more k d;
       add-bytes = chunks-bytes k;
       add-count = chunks-count k;
-      add-note = chunks-note k;
       last-bytes = chunks-last k;
       last-count = chunks-last-count k;
-      last-note = chunks-last-note k;
+      plain = chunks-plain k;
+      binary = isBytesBy (kindCode k);
+      add-tells = chunks-add k;
+      last-tells = chunks-end k;
     }
 
 -- the code's `chunks`
@@ -230,8 +251,8 @@ chunks-place r = room-fits (chunks-strings r .room)
 made-never : {A : Type 0} (a : ReadAnswer) (e : Refusal) (m : MadeS) → a ≡ Refused e → a ≡ Made m → A
 made-never a e m f g = let z : _≡_ {A = ℕ} 0 1 = cc in absurd (omega arith)
 
-made-note : (a : ReadAnswer) (m m′ : MadeS) → a ≡ Made m → a ≡ Made m′ → m′ .note ≡ m .note
-made-note a m m′ f g = cc
+made-kept : (a : ReadAnswer) (m m′ : MadeS) → a ≡ Made m → a ≡ Made m′ → (v : Bool) → (m .binary ≡ v) × (m .length ≡ m .count) → (m′ .binary ≡ v) × (m′ .length ≡ m′ .count)
+made-kept a m m′ f g v h = let e : m ≡ m′ = cc in rw e at h
 
 module _ {s b₀ : List ℕ} {kind d i pos at n size : ℕ} {b b′ : List ℕ} (a : ReadAnswer)
     (run : Chunks-run kind d s b₀ i pos at n size b) (told : ReadTold (ofChunk (kindFor kind)) s b b′ (length (marked s) - at) (pos + size) a (chunkRead (kindFor kind) d (drop at (marked s)))) where
@@ -256,10 +277,10 @@ module _ {s b₀ : List ℕ} {kind d i pos at n size : ℕ} {b b′ : List ℕ} 
       chunks-less e = row-less (chunksRow (kindFor kind) d) a (run .run) told g tk e
 
       module _ {a′ : ReadAnswer} where
-        pub chunks-close : t .code ≡ 14 → a′ ≡ Made (record { next = t .next; size = size + m .size; count = n + m .count; note = kind })
+        pub chunks-close : {v : Bool} → t .code ≡ 14 → v ≡ isBytesBy kind → a′ ≡ Made (record { next = t .next; size = size + m .size; count = n + m .count; indicator = 0; binary = v; length = n + m .count })
             → ChunksTold kind s b₀ b′ (length (marked s) - i) pos a′ (reads (chunks (only (kindFor kind)) d) (drop i (marked s)))
         unfolding shapeCode
-        chunks-close e f = record { told = row-close (chunksRow (kindFor kind) d) a (run .run) told g tk kind e (λ j z. sym (run .from .kinds)) f; kept = λ m′ q. made-note a′ _ m′ f q }
+        chunks-close e w f = record { told = row-close (chunksRow (kindFor kind) d) a (run .run) told g tk e (rw (run .from .kinds) (rw w at f)); kept = λ m′ q. made-kept a′ _ m′ f q (isBytesBy kind) (w, refl) }
 
         pub chunks-stray : (t .code ≡ 14 → ⊥) → (t .code ≡ 11 → ⊥) → Strayed d t a′
             → ChunksTold kind s b₀ b′ (length (marked s) - i) pos a′ (reads (chunks (only (kindFor kind)) d) (drop i (marked s)))
@@ -312,8 +333,8 @@ mixed-by k k′ indefinite b p r n m = absurd (n refl)
 -- a chunk that was written
 done-by : {s b b′ : List ℕ} {at pos size : ℕ} {t : Cut} {a : ReadAnswer} (k k′ : Kind) (z : Size) (c r : List ℕ) (res : Result Chunk) → Took s at t → (t .indicator ≡ 1 → ⊥) → k′ ≡ k → LiteralIs s t k′ z c
     → res ≡ chunkOf k k′ z c (place (drop at (marked s))) r → Stands (marked s) (t .next) r → length c + t .place < t .next → Stringed s t b b′ pos size
-    → a ≡ Made (record { next = t .next; size = size; count = t .number; note = 0 }) → ReadTold (ofChunk k) s b b′ (length (marked s) - at) pos a res
-unfolding chunkOf sizeNumber ofChunk encodeString head
+    → a ≡ Made (record { next = t .next; size = size; count = t .number; indicator = 0; binary = false; length = 0 }) → ReadTold (ofChunk k) s b b′ (length (marked s) - at) pos a res
+unfolding chunkOf sizeNumber ofChunk encodeString head Tells
 done-by k k′ indefinite c r res tk n1 same l e sn sh sg f = absurd (n1 (l .size))
 done-by {s} {b} {b′} {at} {pos} {size} {t} {a} k k′ (definite w) c r res tk n1 same l e sn sh sg f =
     let hs : headBytes (initialBy t) (t .number) ≡ head (strings k) w (length c) = string-head l ∙ ap (λ (x : Kind). head (strings x) w (length c)) same in
@@ -324,7 +345,8 @@ done-by {s} {b} {b′} {at} {pos} {size} {t} {a} k k′ (definite w) c r res tk 
       stands = sn;
       sized = q;
       counted = l .number;
-      noted = refl;
+      indicated = refl;
+      tells = tt;
       many = omega (arith, q, z);
       short = omega (arith, q, z, head-most (strings k) w (length c), sh, stands-left sn, sn .inside, tk .from);
       wrote = rw hs at (sg .wrote c (l .number) (l .spelled));
@@ -359,7 +381,7 @@ module _ {s b b′ : List ℕ} {at pos kind : ℕ} {t : Cut} {a : ReadAnswer} (d
           told-no mixedChunks (place (drop at (marked s))) _
           (chunk-is (kindFor kind) d li ∙ mixed-by (kindFor kind) (li .kind) (li .size) (li .held) (place (drop at (marked s))) (li .rest) (λ z. n1 (li .facts .size ∙ z)) (λ e. n (li .facts .code ∙ e ∙ st .kinds))) (denied f (place-at tk))
 
-      pub chunk-done : {size : ℕ} → t .code ≡ kind → Stringed s t b b′ pos size → a ≡ Made (record { next = t .next; size = size; count = t .number; note = 0 })
+      pub chunk-done : {size : ℕ} → t .code ≡ kind → Stringed s t b b′ pos size → a ≡ Made (record { next = t .next; size = size; count = t .number; indicator = 0; binary = false; length = 0 })
           → ReadTold (ofChunk (kindFor kind)) s b b′ (length (marked s) - at) pos a (chunkRead (kindFor kind) d (drop at (marked s)))
       chunk-done {size} e sg f =
           let li = literal-here tk (st .room) l h in
@@ -403,11 +425,6 @@ not-either d aColon p r n = refl
 abbrev Whole : Chunks → List ℕ → Result Item
 Whole c r = ok (chunked (c .kind) (c .all)) r
 
-note-of : (k : Kind) (cs : Chunks) → noteBy (kindCode k) (chunksLength (cs .all)) ≡ noteOf (chunked k (cs .all))
-unfolding noteBy kindCode noteOf
-note-of byteString cs = refl
-note-of textString cs = refl
-
 pub open-room : {s : List ℕ} {at place : ℕ} (pos : ℕ) → Opened s at pos place → Room s at (pos + 1)
 open-room pos o = record { inside = o .inside; room = omega (arith, o .room) }
 
@@ -424,28 +441,28 @@ module _ {s b b′ : List ℕ} {at pos place′ : ℕ} {t : Cut} {a : ReadAnswer
   pub chunked-high : 5 < t .code → Strayed d t a → ReadTold ofItem s b b′ (length (marked s) - at + 1) pos a (chunkedRead d (drop at (marked s)))
   chunked-high h f = chunked-other (λ l m. absurd (omega arith)) f
 
-kind-noted : {n : ℕ} (k : Kind) (cs : Chunks) → n ≡ ofChunks k cs .note → kindCode (cs .kind) ≡ n
+kind-told : {s b b′ : List ℕ} {most pos : ℕ} {m : MadeS} {r : List ℕ} (k : Kind) (cs : Chunks) → m .binary ≡ isBytesBy (kindCode k) → MovedOn s b b′ most pos m (ofChunks k cs) r → cs .kind ≡ k
 unfolding ofChunks
-kind-noted k cs e = sym e
+kind-told {m = m} k cs e mv = tells-of (m .length) (cs .kind) k (cs .all) e (mv .tells)
 
 -- the chunks between their first byte and the break
-whole-told : {s b b′ b″ : List ℕ} {at pos place′ first note : ℕ} {m : MadeS} {a′ : ReadAnswer} (k : Kind) (cs : Chunks) (res : Result Item) (r : List ℕ) → res ≡ ok (chunked (cs .kind) (cs .all)) r → cs .kind ≡ k
-    → first ≡ majorBy (kindCode k) * 32 + 31 → note ≡ noteBy (kindCode k) (m .count) → MovedOn s b b′ (length (marked s) - at) (pos + 1) m (ofChunks k cs) r → Ended b′ b″ pos first m note a′ → Opened s at pos place′
+whole-told : {s b b′ b″ : List ℕ} {at pos place′ first : ℕ} {m : MadeS} {a′ : ReadAnswer} (k : Kind) (cs : Chunks) (res : Result Item) (r : List ℕ) → res ≡ ok (chunked (cs .kind) (cs .all)) r → cs .kind ≡ k
+    → first ≡ majorBy (kindCode k) * 32 + 31 → MovedOn s b b′ (length (marked s) - at) (pos + 1) m (ofChunks k cs) r → Ended b′ b″ pos first (m .next) (m .size) (m .binary) (m .length) a′ → Opened s at pos place′
     → ReadTold ofItem s b b″ (length (marked s) - at + 1) pos a′ res
 unfolding ofItem ofChunks encode enclosed openingHead closingBreak initial
-whole-told {s} {b} {b′} {b″} {at} {pos} {place′} {first} {note} {m} {a′} k cs res r e same fe ne mv en o =
+whole-told {s} {b} {b′} {b″} {at} {pos} {place′} {first} {m} {a′} k cs res r e same fe mv en o =
     let q : first ≡ majorNumber (strings k) * 32 + 31 = fe ∙ ap (λ (x : ℕ). x * 32 + 31) (kind-major k) in
     let bs : List ℕ = encodeChunks k (cs .all) in
     let l : length (first ∷ (bs ++ 255 ∷ [])) ≡ m .size + 2 = ap suc (length-append bs (255 ∷ [])) ∙ omega (arith, mv .sized) in
     let p : pos + m .size + 1 ≡ pos + length (first ∷ bs) = omega (arith, mv .sized) in
-    let n : note ≡ noteOf (chunked k (cs .all)) = ne ∙ ap (noteBy (kindCode k)) (mv .counted) ∙ note-of k cs in
     let w : Wrote b b″ pos (first ∷ (bs ++ 255 ∷ [])) = wrote-more (wrote-front (mv .wrote) (en .front)) (en .back) p in
     told-ok (chunked k (cs .all)) res (e ∙ ap (λ (x : Kind). ok (chunked x (cs .all)) r) same) (en .is)
     (record {
       stands = mv .stands;
       sized = sym (ap length (λ j. sym q j ∷ (bs ++ 255 ∷ [])) ∙ l);
       counted = refl;
-      noted = n;
+      indicated = refl;
+      tells = rw same at (mv .tells);
       many = omega arith;
       short = omega (arith, mv .short);
       wrote = rw q at w;
@@ -472,17 +489,15 @@ module _ {s b b′ : List ℕ} {at pos place′ : ℕ} {t : Cut} (d : ℕ) (a : 
     pub chunked-light : Light (pos + m .size)
     chunked-light = record { fits = omega (arith, got a (ct .told) g .moved .short, o .room) }
 
-    pub chunked-count : Light (m .count)
-    chunked-count = record { fits = omega (arith, got a (ct .told) g .moved .short, o .room, got a (ct .told) g .moved .many, got a (ct .told) g .moved .counted) }
-
-    pub chunked-done : {b″ : List ℕ} {a′ : ReadAnswer} {major note : ℕ} → MajorBy (t .code) major → note ≡ noteBy (t .code) (m .count) → Ended b′ b″ pos (major * 32 + 31) m note a′
+    pub chunked-done : {b″ : List ℕ} {a′ : ReadAnswer} {major : ℕ} → MajorBy (t .code) major → Ended b′ b″ pos (major * 32 + 31) (m .next) (m .size) (m .binary) (m .length) a′
         → ReadTold ofItem s b b″ (length (marked s) - at + 1) pos a′ (chunkedRead d (drop at (marked s)))
-    chunked-done {b″} {a′} {major} {note} mj ne en =
+    chunked-done mj en =
         let it = got a (ct .told) g in
         let code : kindCode (kindFor (t .code)) ≡ t .code = chunked-strings pos o tk l h .kinds in
-        let same : it .thing .kind ≡ kindFor (t .code) = wanted-by (kindFor (t .code)) (it .thing .kind) (kind-noted (kindFor (t .code)) (it .thing) (it .moved .noted) ∙ ct .kept m g ∙ sym code) in
+        let k = ct .kept m g in
+        let same : it .thing .kind ≡ kindFor (t .code) = kind-told (kindFor (t .code)) (it .thing) (k .0 ∙ ap isBytesBy (sym code)) (it .moved) in
         whole-told (kindFor (t .code)) (it .thing) _ (it .rest) (chunked-is ∙ bind-yes (reads (chunks (only (kindFor (t .code))) d) (drop at (marked s))) _ (it .thing) (it .rest) (it .is)) same
-        (ap (λ (x : ℕ). x * 32 + 31) (mj .is ∙ ap majorBy (sym code))) (ne ∙ ap (λ (x : ℕ). noteBy x (m .count)) (sym code)) (it .moved) en o
+        (ap (λ (x : ℕ). x * 32 + 31) (mj .is ∙ ap majorBy (sym code))) (it .moved) en o
 
 pub ruleset chunked-ways = (chunked-low, chunked-high, chunked-lost, chunked-done)
 

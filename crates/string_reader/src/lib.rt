@@ -1,33 +1,40 @@
 // String literals, and strings in chunks.
 use encoding::answer::MadeItem;
 use encoding::answer::ReadAnswer;
-use encoding::answer::closed;
 use encoding::answer::done;
+use encoding::answer::listed;
 use encoding::answer::refuse;
 use encoding::answer::strayed;
 use encoding::close::endless;
 use encoding::heads::head_size;
 use encoding::heads::initial;
 use encoding::heads::major_by;
+use encoding::major::INDEFINITE_LENGTH;
 use refusal::RefusalKind;
+use scanning::class::CLOSE_PAREN;
+use scanning::class::COMMA;
 use token::Token;
+use token::form::APOSTROPHED;
+use token::form::HEX;
+use token::form::QUOTED;
+use token::indicator::INDEFINITE;
+use token::indicator::NONE;
+use token::kind::BYTES;
+use token::kind::SIMPLE;
+use token::kind::TEXT;
 use tokens::cut::next_token;
 ghost use mathlib.Core.Path.{_≡_};
 ghost use Prim.Native.Nat.{_+_, _-_};
 ghost use lib.ListN.{length, drop};
 ghost use Rattle.notation.specs.Form.{only, chunks, reads};
 ghost use Rattle.notation.specs.Reading.{marked};
-ghost use Rattle.encoding.specs.ReadAnswers.{chunkRead, chunkedRead, kindFor, noteBy, Filled, Opened, Strings, Light, LiteralTold, ReadTold, Stringed, ChunksTold, ofItem, ofChunk};
+ghost use Rattle.encoding.specs.ReadAnswers.{chunkRead, chunkedRead, kindFor, isBytesBy, Filled, Opened, Strings, Light, LiteralTold, ReadTold, Stringed, ChunksTold, ofItem, ofChunk};
 
-// The note of a string, by the code of its literals.
-fn note_by(code: u8, n: usize) -> usize
-    requires { ⌜ Light n ⌝ }
-    ensures { λ r. ⌜ r ≡ noteBy code n ⌝ }
+// Whether literals of a kind stand for byte strings.
+fn is_binary(kind: u8) -> bool
+    ensures { λ r. ⌜ r ≡ isBytesBy kind ⌝ }
 {
-    if code == 4 {
-        return 0;
-    }
-    n + 1
+    kind != TEXT
 }
 
 // What a literal holds.
@@ -36,10 +43,18 @@ fn fill(text: &[u8], t: Token, buf: &mut [u8], pos: usize)
 {
     let form = t.form;
     match form {
-        0 => quoted::put_quoted(text, t.start, 0x22, buf, pos),
-        1 => quoted::put_quoted(text, t.start, 0x27, buf, pos),
-        2 => hex::put_hex(text, t.start, t.stop, buf, pos),
-        _ => base64::put_base64(text, t.start, t.stop, buf, pos),
+        QUOTED => {
+            quoted::read_quoted(text, t.start, b'"', buf, pos);
+        }
+        APOSTROPHED => {
+            quoted::read_quoted(text, t.start, b'\'', buf, pos);
+        }
+        HEX => {
+            hex::read_hex(text, t.start, t.stop, buf, pos);
+        }
+        _ => {
+            base64::read_base64(text, t.start, t.stop, buf, pos);
+        }
     }
 }
 
@@ -60,40 +75,34 @@ pub fn literal(text: &[u8], t: Token, buf: &mut [u8], pos: usize) -> ReadAnswer
     requires { ⌜ Light (pos + t .number) ⌝ }
     ensures { λ r. ⌜ LiteralTold (now (text .entry)) t (now (buf .entry)) (now (buf .exit)) pos r ⌝ }
 {
-    if t.indicator == 1 {
-        let nothing = MadeItem {
-            next: t.next,
-            size: 0,
-            count: 0,
-            note: 0,
-        };
-        return endless(buf, pos, initial(t), nothing, note_by(t.code, 0));
+    if t.indicator == INDEFINITE {
+        return endless(buf, pos, initial(t), t.next, 0, is_binary(t.code), 0);
     }
     let size = string(text, t, buf, pos);
-    done(t.next, size, 1, note_by(t.code, t.number as usize))
+    done(t.next, size, is_binary(t.code), t.number as usize)
 }
 
-// A chunk of a kind, by the code of its literals.
+// A chunk of a kind of literals.
 fn chunk(text: &[u8], at: usize, kind: u8, levels: usize, buf: &mut [u8], pos: usize) -> ReadAnswer
     requires { ⌜ Strings (now text) at pos kind ⌝ }
     ensures { λ r. ⌜ ReadTold (ofChunk (kindFor kind)) (now (text .entry)) (now (buf .entry)) (now (buf .exit)) (length (marked (now (text .entry))) - at) pos r (chunkRead (kindFor kind) levels (drop at (marked (now (text .entry))))) ⌝ }
 {
     let t = next_token(text, at);
     let code = t.code;
-    if code <= 3 {
+    if code <= SIMPLE {
         return strayed(levels, t);
     }
-    if 5 < code {
+    if BYTES < code {
         return strayed(levels, t);
     }
-    if t.indicator == 1 {
+    if t.indicator == INDEFINITE {
         return refuse(RefusalKind::BadIndicator, t.place);
     }
     if code != kind {
         return refuse(RefusalKind::MixedChunks, t.place);
     }
     let size = string(text, t, buf, pos);
-    done(t.next, size, t.number as usize, 0)
+    listed(t.next, size, t.number as usize, NONE)
 }
 
 // The chunks of a string up to its parenthesis.
@@ -120,10 +129,17 @@ fn chunks(
                 size += m.size;
                 let t = next_token(text, m.next);
                 let code = t.code;
-                if code == 14 {
-                    return closed(t.next, size, n, kind);
+                if code == CLOSE_PAREN {
+                    return ReadAnswer::Made(MadeItem {
+                        next: t.next,
+                        size,
+                        count: n,
+                        indicator: NONE,
+                        binary: is_binary(kind),
+                        length: n,
+                    });
                 }
-                if code != 11 {
+                if code != COMMA {
                     return strayed(levels, t);
                 }
                 at = t.next;
@@ -139,18 +155,18 @@ pub fn chunked(text: &[u8], at: usize, levels: usize, buf: &mut [u8], pos: usize
 {
     let t = next_token(text, at);
     let kind = t.code;
-    if kind <= 3 {
+    if kind <= SIMPLE {
         return strayed(levels, t);
     }
-    if 5 < kind {
+    if BYTES < kind {
         return strayed(levels, t);
     }
     let a = chunks(text, at, kind, levels, buf, pos + 1);
     match a {
         ReadAnswer::Refused(e) => ReadAnswer::Refused(e),
         ReadAnswer::Made(m) => {
-            let first = major_by(kind) * 32 + 31;
-            endless(buf, pos, first, m, note_by(kind, m.count))
+            let first = major_by(kind) * 32 + INDEFINITE_LENGTH;
+            endless(buf, pos, first, m.next, m.size, m.binary, m.length)
         }
     }
 }

@@ -1,11 +1,16 @@
 // A token, as the code hands it on.
+pub mod form;
+pub mod indicator;
+pub mod kind;
+pub mod reason;
+
+use crate::form::QUOTED;
+use crate::kind::NO_TOKEN;
 ghost use Rattle.token.specs.TokenAnswers.{Refused, TokenMade};
 
-// A token. Its code: 1 an unsigned integer, 2 a negative one, 3 a simple value, 4 a text literal, 5 a byte literal, 6 the opening of a
-// tag, else the class of its first byte (21: the end of the text); 0 a refusal, by the number that is in `indicator`. The
-// indicator of a container, or the width or size that it gives (see indicator.rt). The number: an argument, a simple
-// value, or how many bytes a literal stands for. The form of a literal (see string.rt); what it holds starts at
-// `start`, and stops at `stop` in h'..' and b64'..'. The token's place, and what is next behind it.
+// A token. Its kind (see kind.rt). The indicator of a container, or the width that it gives an argument (see indicator.rt); where there is no token, the
+// number of the refusal (see reason.rt). The number: an argument, a simple value, or how many bytes a literal stands for. The form of a literal (see
+// form.rt); what it holds starts at `start`, and stops at `stop` in h'..' and b64'..'. The token's place, and what is next behind it.
 pub struct Token {
     pub code: u8,
     pub indicator: u8,
@@ -17,14 +22,14 @@ pub struct Token {
     pub next: usize,
 }
 
-pub fn refuse(kind: u8, place: usize) -> Token
-    ensures { λ r. ⌜ Refused kind place r ⌝ }
+pub fn refuse(reason: u8, place: usize) -> Token
+    ensures { λ r. ⌜ Refused reason place r ⌝ }
 {
     Token {
-        code: 0,
-        indicator: kind,
+        code: NO_TOKEN,
+        indicator: reason,
         number: 0,
-        form: 0,
+        form: QUOTED,
         start: 0,
         stop: 0,
         place,
@@ -40,7 +45,7 @@ pub fn made(code: u8, indicator: u8, number: u64, place: usize, next: usize) -> 
         code,
         indicator,
         number,
-        form: 0,
+        form: QUOTED,
         start: 0,
         stop: 0,
         place,

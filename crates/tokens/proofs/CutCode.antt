@@ -37,7 +37,7 @@ use Rattle.numbers.proofs.NumberCode.{says-as, says-refuse, says-made}
 use Rattle.words.proofs.WordCode.{stood-digit}
 
 -- `[` AND `{`
-opening-known : (o : Indicator → Opener) (i : Indicator) (r : List ℕ) → (indicatorNumber i ≡ 2 → ⊥) → openingToken o i r ≡ ok (begins (opens (o i))) r
+pub opening-known : (o : Indicator → Opener) (i : Indicator) (r : List ℕ) → (indicatorNumber i ≡ 2 → ⊥) → openingToken o i r ≡ ok (begins (opens (o i))) r
 unfolding openingToken indicatorNumber
 opening-known o absent r n = refl
 opening-known o indefinitely r n = refl

@@ -1,4 +1,4 @@
-// String literals as tokens. Their forms: 0 "..", 1 '..', 2 h'..', 3 b64'..'.
+// String literals as tokens.
 use base64::scan_base64;
 use hex::scan_hex;
 use literal_body::LiteralScan;
@@ -10,6 +10,16 @@ use quoted::scan_quoted;
 use scanning::scan::TextCursor;
 use scanning::scan::next_is;
 use token::Token;
+use token::form::HEX;
+use token::form::QUOTED;
+use token::indicator::INDEFINITE;
+use token::indicator::MISFIT;
+use token::kind::BYTES;
+use token::kind::TEXT;
+use token::reason::BAD_CONTENT;
+use token::reason::BAD_INDICATOR;
+use token::reason::NOTHING;
+use token::reason::UNKNOWN_WORD;
 use token::refuse;
 use words::prefix_word;
 use words::worded;
@@ -28,19 +38,19 @@ ghost use Rattle.tokens.specs.CutAnswers.{quoteKind, quoteByte, literalC
 fn code_of(form: u8) -> u8
     ensures { λ r. ⌜ r ≡ kindCode (quoteKind form) ⌝ }
 {
-    if form == 0 {
-        return 4;
+    if form == QUOTED {
+        return TEXT;
     }
-    5
+    BYTES
 }
 
 fn quote_of(form: u8) -> u8
     ensures { λ r. ⌜ r ≡ quoteByte form ⌝ }
 {
-    if form == 0 {
-        return 0x22;
+    if form == QUOTED {
+        return b'"';
     }
-    0x27
+    b'\''
 }
 
 // A literal of `size` bytes: 9, or the token.
@@ -56,8 +66,8 @@ fn literal(
     ensures { λ r. ⌜ Literally form mark size start stop place next r ⌝ }
 {
     let width = choose(mark, size as u64);
-    if width == 0 {
-        return refuse(9, place);
+    if width == MISFIT {
+        return refuse(BAD_INDICATOR, place);
     }
     Token {
         code: code_of(form),
@@ -77,11 +87,11 @@ fn quoted_token(form: u8, size: usize, start: usize, place: usize, m: Mark) -> T
 {
     let mark = m.mark;
     let next = m.next;
-    if mark == 1 {
+    if mark == INDEFINITE {
         if size == 0 {
             return Token {
                 code: code_of(form),
-                indicator: 1,
+                indicator: INDEFINITE,
                 number: 0,
                 form,
                 start,
@@ -90,7 +100,7 @@ fn quoted_token(form: u8, size: usize, start: usize, place: usize, m: Mark) -> T
                 next,
             };
         }
-        return refuse(9, place);
+        return refuse(BAD_INDICATOR, place);
     }
     literal(form, mark, size, start, 0, place, next)
 }
@@ -106,13 +116,13 @@ pub(crate) fn quoted(text: &[u8], place: usize, form: u8) -> Token
         let m = indicator_at(text, q.next);
         return quoted_token(form, q.size, at, place, m);
     }
-    refuse(3, place)
+    refuse(NOTHING, place)
 }
 
 fn scan_encoded(text: &[u8], at: usize, end: usize, form: u8) -> LiteralScan
     ensures { λ r. ⌜ Decodes r (literalContent form (take (end - at) (drop at (now (text .entry))))) ⌝ }
 {
-    if form == 2 {
+    if form == HEX {
         return scan_hex(text, at, end);
     }
     scan_base64(text, at, end)
@@ -133,9 +143,9 @@ fn encoded(text: &[u8], place: usize, at: usize, form: u8) -> Token
         if right {
             return literal(form, m.mark, c.size, at, stop, place, m.next);
         }
-        return refuse(8, place);
+        return refuse(BAD_CONTENT, place);
     }
-    refuse(3, place)
+    refuse(NOTHING, place)
 }
 
 // A word with `'` behind it.
@@ -144,7 +154,7 @@ fn prefixed(text: &[u8], place: usize, end: usize) -> Token
     ensures { λ r. ⌜ Says (now (text .entry)) place r (prefixed (span place end (marked (now (text .entry)))) (drop (end + 1) (marked (now (text .entry))))) ⌝ }
 {
     let k = prefix_word(text, place, end);
-    if 4 <= k {
+    if UNKNOWN_WORD <= k {
         return refuse(k, place);
     }
     encoded(text, place, end + 1, k)
@@ -157,7 +167,7 @@ pub(crate) fn word(text: &[u8], place: usize) -> Token
 {
     let end = TextCursor { at: place + 1 }.word(text);
     let next = end.at;
-    if next_is(text, next, 0x27) {
+    if next_is(text, next, b'\'') {
         return prefixed(text, place, next);
     }
     worded(text, place, next)

@@ -1,10 +1,11 @@
 // UTF-8 (RFC 3629): the place of the first bad sequence.
 ghost use mathlib.Core.Path.{_≡_};
 ghost use mathlib.Core.List.{_∷_, []};
-ghost use Prim.Native.Nat.{_<_};
+ghost use Prim.Native.Nat.{_+_, _<_, _≤_, max};
 ghost use lib.ListN.{length, drop};
 ghost use Rattle.cbor.specs.Utf8.{_to_, follow, areIn, firstBad};
 ghost use Rattle.cbor.specs.Sequences.{behindFirst, Sequence};
+ghost use Rattle.utf8.specs.AsciiRuns.{Block, Ascii};
 
 // What a first byte says: how long its sequence is, 0 where none begins so, and the bounds of the second byte.
 struct Lead(u8, u8, u8);
@@ -12,25 +13,25 @@ struct Lead(u8, u8, u8);
 fn lead_of(b: u8) -> Lead
     ensures { λ r. ⌜ follow b ≡ behindFirst (r .0) (r .1) (r .2) ⌝ }
 {
-    if b < 0x80 {
-        return Lead(1, 0x80, 0xbf);
-    }
-    if b < 0xc2 {
-        return Lead(0, 0x80, 0xbf);
-    }
     if b < 0xe0 {
+        if b < 0x80 {
+            return Lead(1, 0x80, 0xbf);
+        }
+        if b < 0xc2 {
+            return Lead(0, 0x80, 0xbf);
+        }
         return Lead(2, 0x80, 0xbf);
     }
-    if b < 0xe1 {
-        return Lead(3, 0xa0, 0xbf);
-    }
-    if b < 0xed {
-        return Lead(3, 0x80, 0xbf);
-    }
-    if b < 0xee {
-        return Lead(3, 0x80, 0x9f);
-    }
     if b < 0xf0 {
+        if b < 0xe1 {
+            return Lead(3, 0xa0, 0xbf);
+        }
+        if b < 0xed {
+            return Lead(3, 0x80, 0xbf);
+        }
+        if b < 0xee {
+            return Lead(3, 0x80, 0x9f);
+        }
         return Lead(3, 0x80, 0xbf);
     }
     if b < 0xf1 {
@@ -80,6 +81,67 @@ fn sequence(bytes: &[u8], at: usize) -> usize
     size
 }
 
+// Blocks of ASCII are passed over whole, but only behind a few letters of it: between other letters a block would be looked at in vain.
+const BLOCK: usize = 32;
+
+const FEW: usize = 16;
+
+fn larger(a: u8, b: u8) -> u8
+    ensures { λ r. ⌜ r ≡ max a b ⌝ }
+{
+    if a < b {
+        return b;
+    }
+    a
+}
+
+// Whether a block is ASCII. The loop has no way out, so the compiler makes wide steps of it.
+fn is_ascii_block(bytes: &[u8], at: usize) -> bool
+    requires { ⌜ at + 32 ≤ length (now bytes) ⌝ }
+    ensures { λ r. ⌜ Block (now (bytes .entry)) at r ⌝ }
+{
+    let mut most: u8 = 0;
+    let mut i: usize = 0;
+    while i < BLOCK {
+        most = larger(most, bytes[at + i]);
+        i += 1;
+    }
+    most < 0x80
+}
+
+// Past whole blocks of ASCII.
+fn ascii_blocks(bytes: &[u8], from: usize) -> usize
+    requires { ⌜ from ≤ length (now bytes) ⌝ }
+    ensures { λ r. ⌜ Ascii (now (bytes .entry)) from r ⌝ }
+{
+    let mut end = from;
+    while BLOCK <= bytes.len() - end {
+        if !is_ascii_block(bytes, end) {
+            return end;
+        }
+        end += BLOCK;
+    }
+    end
+}
+
+// Past ASCII, to where other letters may stand.
+fn ascii_end(bytes: &[u8], from: usize) -> usize
+    requires { ⌜ from ≤ length (now bytes) ⌝ }
+    ensures { λ r. ⌜ Ascii (now (bytes .entry)) from r ⌝ }
+{
+    let mut end = from;
+    while end < bytes.len() {
+        if 0x80 <= bytes[end] {
+            return end;
+        }
+        if FEW <= end - from {
+            return ascii_blocks(bytes, end);
+        }
+        end += 1;
+    }
+    end
+}
+
 // The place of the first bad sequence, the length where there is none.
 pub fn first_bad(bytes: &[u8]) -> usize
     ensures { λ r. ⌜ r ≡ firstBad (now (bytes .entry)) ⌝ }
@@ -87,7 +149,7 @@ pub fn first_bad(bytes: &[u8]) -> usize
     let mut at = 0;
     while at < bytes.len() {
         if bytes[at] < 0x80 {
-            at += 1;
+            at = ascii_end(bytes, at + 1);
             continue;
         }
         let size = sequence(bytes, at);

@@ -1,5 +1,8 @@
 pub mod Leaves
 pub mod ItemLeaves
-pub mod WalkCycle
+pub mod Turns
+pub mod LeafCode
 pub mod WalkParts
+pub mod WalkCycle
 pub mod WalkItems
+pub mod LeafRun

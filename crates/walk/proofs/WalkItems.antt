@@ -1,40 +1,42 @@
 -- The walk over bytes: an item by its head, and the item behind a tag.
 -- Assumes nothing.
-use Prim.Native.Nat.{ℕ, zero, suc, _+_, _-_, _*_, _%_, _^_, _≤_, _<_, min}
+use Prim.Native.Nat.{ℕ, zero, suc, _+_, _-_, _*_, _/_, _%_, _^_, _≤_, _<_, min}
 use native.Mathlib.Omega.{arith}
 use mathlib.Core.Path.{_≡_, refl, sym, ap, _∙_}
 use mathlib.Core.Bool.{Bool, true, false, _&&_}
 use mathlib.Core.List.{List}
-use lib.Dec.{eqb}
-use lib.ListN.{length, take, drop, length-drop}
-use borrow.Author.Tests.{le-leb, lt-leb}
+use lib.Dec.{eqb, eqb→eq}
+use lib.ListN.{length, take, drop, getD, length-drop, drop-of-length-le}
+use lib.Seq.{getD-drop}
+use mir.Syntax.{w8 as bits8}
+use mir.Val.{Fits}
+use borrow.Author.Tests.{le-leb, lt-leb, eqb-true, eqb-false}
 use Rattle.cbor.specs.Refusals.{Result, ok, refuse, bind, tooLong, tooDeep, badTypedArray, notWellFormed}
 use Rattle.cbor.specs.Items.{unsigned, negative, Kind, byteString, textString, Size, definite, indefinite, Item, int, string, chunked, array, map, tag, simple}
-use Rattle.cbor.specs.Heads.{Major, integers, strings, arrays, maps, tags, simples, majorNumber, majorOf, itemMajor, nextHead, isIndefinite}
+use Rattle.cbor.specs.Heads.{Major, integers, strings, arrays, maps, tags, simples, majorNumber, majorOf, itemMajor, Head, nextHead, isIndefinite}
 use Rattle.cbor.specs.TypedArrays.{chunksLength, elementSize, divides, asked, mayTag}
 use Rattle.typed_array.specs.TypedArrayAnswers.{mayTagBy}
-use Rattle.cbor.specs.Decode.{Until, broken, ended, contentAt, extent, tagged, elements, entries, chunksOf, itemBy, itemWith, item, decode}
+use Rattle.cbor.specs.Decode.{Until, counted, broken, ended, contentAt, extent, tagged, elements, entries, chunksOf, itemBy, itemWith, item, decode}
 use Rattle.refusal.specs.RefusalKinds.{kindNumber}
-use Rattle.head.specs.HeadAnswers.{headTold, headAt}
-use Rattle.walk.specs.WalkAnswers.{PassTold, passed, passRefused, passTold, WalkTold, itemPassed, walkRefused, walkTold, withMajor, walkOf, contents, contentsAll, contentsAll₂, mapResult, toldOf, passOf, walkAllOf, below, oneOf, allOf, tagOf, untilOf, afterTold, itemAfter, Headed, Within}
+use Rattle.head.specs.HeadAnswers.{headFound, headTold, headAt, argumentAt, HeadRoom, HeadEnd}
+use Rattle.walk.specs.WalkAnswers.{PassTold, passed, passRefused, passTold, WalkTold, itemPassed, walkRefused, walkTold, withMajor, walkOf, contents, contentsAll, contentsAll₂, mapResult, toldOf, passOf, walkAllOf, below, oneOf, allOf, tagOf, untilBy, modeBy, afterTold, itemAfter, Headed, Headless, Within}
 use Rattle.cbor.specs.Flags.{kindOf}
 use Rattle.refusal.specs.declared.Refusal.{Refusal}
 use Rattle.refusal.specs.declared.RefusalKind.the-variants.{TooLong, TooDeep, BadTypedArray, NotWellFormed}
 use Rattle.head.specs.declared.HeadAt.{HeadAt}
 use Rattle.head.specs.declared.HeadRead.{HeadRead}
 use Rattle.head.specs.declared.HeadRead.the-variants.{Head as HeadV, Refused as HeadRefusedV}
-use Rattle.walk.specs.declared.WalkedItem.{WalkedItem}
+use Rattle.walk.specs.declared.Passage.{Passage}
 use Rattle.walk.specs.declared.Walked.{Walked}
-use Rattle.walk.specs.declared.Walked.the-variants.{Made as MadeV, Refused as WalkRefusedV}
 use Rattle.walk.specs.declared.Passed.{Passed}
-use Rattle.walk.specs.declared.Passed.the-variants.{Refused as RefusedV}
-use Rattle.walk.specs.declared.Extent.the-variants.{Counted, Broken, Ended}
+use Rattle.walk.specs.declared.Passed.the-variants.{Span as SpanV, Refused as RefusedV}
 use Rattle.cbor.proofs.DecodeEncode.{enterAt, by-head}
-use Rattle.cbor.proofs.Heads.{major-back}
+use Rattle.cbor.proofs.Heads.{major-back, major-most}
+use Rattle.cbor.proofs.Table.{byte}
 use Rattle.walk.proofs.Leaves.{Leaves, same}
-use Rattle.walk.proofs.ItemLeaves.{LowSize, chunks-sized, elements-sized, entries-sized, item-leaves}
-use Rattle.walk.proofs.WalkParts.{Got, got, got-both, headed, head-lost, sized-made, size-definite, size-indefinite}
-use Rattle.walk.proofs.WalkCycle.{at-front, tail-is, after-told}
+use Rattle.walk.proofs.ItemLeaves.{LowSize, head-left, chunks-sized, elements-sized, entries-sized, item-leaves}
+use Rattle.walk.proofs.WalkParts.{Got, got, got-both, head-room, head-lost, sized-made, size-definite, size-indefinite}
+use Rattle.walk.proofs.WalkCycle.{at-front, tail-is, after-told, all-leaves, one-item, all-one, all-double}
 
 -- THE MAJOR TYPE
 
@@ -79,6 +81,14 @@ unfolding item itemWith
 item-eq zero s = refl
 item-eq (suc d) s = refl
 
+item-major : (d : ℕ) (s : List ℕ) → MajorIn (majorOf (getD s 0 0 / 32)) (item d s)
+unfolding bind
+item-major d s = rw (item-eq d s) (by (nextHead s) refl)
+  where
+    by : (res : Result Head) → nextHead s ≡ res → MajorIn (majorOf (getD s 0 0 / 32)) (bind res (λ h r. itemBy (enterAt d) (h .major) (h .size) (h .argument) (length s) r))
+    by (ok h r) e = rw (← head-left s e .major) (by-major d (h .major) (h .size) (h .argument) (length s) r)
+    by (refuse n l) e = tt
+
 with-major : (n : ℕ) (m : Major) (res : Result Item) → MajorIn m res → withMajor (majorNumber m) (passOf n res) ≡ walkOf n res
 unfolding withMajor passOf mapResult toldOf walkOf
 with-major n m (ok x r) h = ap (λ (k : Major). itemPassed (n - length r) (majorNumber k) (contents x)) (sym h)
@@ -91,13 +101,19 @@ unfolding bind
 bind-zero (ok m r) = let e : 0 + m ≡ m = omega arith in ap (λ (n : ℕ). ok n r) e
 bind-zero (refuse n l) = refl
 
-pub part-told : (s : List ℕ) (at : ℕ) (rd : List ℕ → Result ℕ) (inner part : Passed) → at ≤ length s → length s * 1 < 2 ^ 63 → ((t : List ℕ) → Leaves 1 same t (rd t))
+pub part-told : (k : ℕ) (s : List ℕ) (at : ℕ) (rd : List ℕ → Result ℕ) (inner part : Passed) → at ≤ length s → length s * 1 < 2 ^ 63 → ((t : List ℕ) → Leaves k same t (rd t))
     → passTold inner ≡ toldOf (length (take (length s - at) (drop at s))) (rd (take (length s - at) (drop at s))) → passTold part ≡ afterTold at 0 (passTold inner)
     → passTold part ≡ toldOf (length s) (rd (drop at s))
-part-told s at rd inner part h long one told after =
+part-told k s at rd inner part h long one told after =
     after ∙ ap (afterTold at 0) (told ∙ ap (λ (t : List ℕ). toldOf (length t) (rd t)) (tail-is s at))
-    ∙ after-told s at 0 (rd (drop at s)) h (omega arith) (omega arith) (one (drop at s))
+    ∙ after-told k s at 0 (rd (drop at s)) h (omega arith) (omega arith) (one (drop at s))
     ∙ ap (toldOf (length s)) (bind-zero (rd (drop at s)))
+
+-- several from a place on, in a part of the bytes
+pub all-told : (major d : ℕ) (u : Until) {s : List ℕ} {from : ℕ} (inner part : Passed) → Within s from → length s * 1 < 2 ^ 63
+    → passTold inner ≡ toldOf (length (take (length s - from) (drop from s))) (allOf major d u (take (length s - from) (drop from s))) → passTold part ≡ afterTold from 0 (passTold inner)
+    → passTold part ≡ toldOf (length s) (allOf major d u (drop from s))
+all-told major d u {s} {from} inner part w long = part-told 0 s from (allOf major d u) inner part (w .inside) long (all-leaves major d u)
 
 after-item : (s : List ℕ) (at : ℕ) (res : Result Item) → at ≤ length s → length s < 2 ^ 63 → Leaves 1 contents (drop at s) res → itemAfter at (walkOf (length (drop at s)) res) ≡ walkOf (length s) res
 unfolding itemAfter walkOf
@@ -136,28 +152,22 @@ pub may-tag : (n : ℕ) (x : Item) → mayTag n x ≡ mayTagBy n (eqb (majorNumb
 unfolding mayTag mayTagBy
 may-tag n x = ap (asked n) (divides-by (elementSize n) x)
 
-tag-lost : (size : ℕ) (e : Refusal) (res : Result Item) (go : Item → List ℕ → Result ℕ) → walkTold (WalkRefusedV e) ≡ walkOf size res → passTold (RefusedV e) ≡ toldOf size (bind res go)
-unfolding walkTold walkOf passTold toldOf bind
+tag-lost : (size : ℕ) (e : Refusal) (res : Result Item) (go : Item → List ℕ → Result ℕ) → passTold (RefusedV e) ≡ toldOf size (mapResult contents res) → passTold (RefusedV e) ≡ toldOf size (bind res go)
+unfolding passTold mapResult toldOf bind
 tag-lost size e (ok x r) go h = let z : _≡_ {A = ℕ} 0 1 = cc in absurd (omega arith)
-tag-lost size e (refuse k l) go h =
-    let i : kindNumber (e .kind) ≡ k = cc in
-    let j : e .place ≡ size - l = cc in
-    λ z. passRefused (i z) (j z)
+tag-lost size e (refuse k l) go h = h
 
 -- what is told of the tag, by what is told of its item
-abbrev tagTold : ℕ → WalkedItem → Bool → PassTold
+abbrev tagTold : ℕ → Passage → Bool → PassTold
 tagTold size m v = elim v [ true ↦ passed (m .end) (m .size) | false ↦ passRefused badTypedArray (size - size) ]
 
-tag-told : (n size : ℕ) (m : WalkedItem) (v : Bool) (res : Result Item) → walkTold (MadeV m) ≡ walkOf size res → v ≡ mayTagBy n (eqb (m .major) 2) (m .size)
+tag-told : (n size : ℕ) (m : Passage) (j : Major) (v : Bool) (res : Result Item) → passTold (SpanV m) ≡ toldOf size (mapResult contents res) → MajorIn j res → v ≡ mayTagBy n (eqb (majorNumber j) 2) (m .size)
     → tagTold size m v ≡ toldOf size (bind res (λ x r. elim (mayTag n x) [ true ↦ ok (contents x) r | false ↦ refuse badTypedArray size ]))
-unfolding walkTold walkOf toldOf bind
-tag-told n size m v (ok x r) h e = ap (tagTold size m) may ∙ by (mayTag n x)
+unfolding passTold mapResult toldOf bind
+tag-told n size m j v (ok x r) h i e = ap (tagTold size m) may ∙ by (mayTag n x)
   where
     may : v ≡ mayTag n x
-    may =
-        let j : m .major ≡ majorNumber (itemMajor x) = cc in
-        let k : m .size ≡ contents x = cc in
-        e ∙ (λ z. mayTagBy n (eqb (j z) 2) (k z)) ∙ sym (may-tag n x)
+    may = let k : m .size ≡ contents x = cc in e ∙ (λ z. mayTagBy n (eqb (majorNumber (sym i z)) 2) (k z)) ∙ sym (may-tag n x)
 
     by : (u : Bool) → tagTold size m u ≡ toldOf size (elim u [ true ↦ ok (contents x) r | false ↦ refuse badTypedArray size ])
     by true =
@@ -165,21 +175,30 @@ tag-told n size m v (ok x r) h e = ap (tagTold size m) may ∙ by (mayTag n x)
         let k : m .size ≡ contents x = cc in
         λ z. passed (i z) (k z)
     by false = refl
-tag-told n size m v (refuse k l) h e = let z : _≡_ {A = ℕ} 0 1 = cc in absurd (omega arith)
+tag-told n size m j v (refuse k l) h i e = let z : _≡_ {A = ℕ} 0 1 = cc in absurd (omega arith)
 
-module _ (n d : ℕ) {s : List ℕ} {from : ℕ} (w : Within s from) (inner : Walked) (long : length s * 1 < 2 ^ 63) (told : walkTold inner ≡ walkOf (length (take (length s - from) (drop from s))) (item d (take (length s - from) (drop from s))))
-    (part : Walked) (after : walkTold part ≡ itemAfter from (walkTold inner)) where
-  part-is : walkTold part ≡ walkOf (length s) (item d (drop from s))
-  part-is = item-told d s from inner part (w .inside) long told after
+-- the item at the front, as the only one of several
+only-one : (d : ℕ) (s : List ℕ) → allOf 4 (suc d) (untilBy 0 1) s ≡ mapResult contents (item d s)
+unfolding untilBy oneOf below
+only-one d s = all-one 4 (suc d) s
 
-  pub tag-refused : {e : Refusal} → part ≡ WalkRefusedV e → passTold (RefusedV e) ≡ toldOf (length s) (tagOf n d (length s) (drop from s))
+module _ (n d : ℕ) {s : List ℕ} {from : ℕ} (w : Within s from) (inner : Passed) (long : length s * 1 < 2 ^ 63)
+    (told : passTold inner ≡ toldOf (length (take (length s - from) (drop from s))) (allOf 4 (suc d) (untilBy 0 1) (take (length s - from) (drop from s)))) (part : Passed) (after : passTold part ≡ afterTold from 0 (passTold inner)) where
+  part-is : passTold part ≡ toldOf (length s) (mapResult contents (item d (drop from s)))
+  part-is = all-told 4 (suc d) (untilBy 0 1) inner part w long told after ∙ ap (toldOf (length s)) (only-one d (drop from s))
+
+  pub tag-refused : {e : Refusal} → part ≡ RefusedV e → passTold (RefusedV e) ≡ toldOf (length s) (tagOf n d (length s) (drop from s))
   unfolding tagOf
   tag-refused h = tag-lost (length s) _ (item d (drop from s)) _ (rw h at part-is)
 
-  module _ {m : WalkedItem} (h : part ≡ MadeV m) {v : Bool} (j : v ≡ mayTagBy n (eqb (m .major) 2) (m .size)) where
+  module _ {m : Passage} (h : part ≡ SpanV m) {x : ℕ} (i : x ≡ majorNumber (majorOf (getD s from 0 / 32))) {v : Bool} (j : v ≡ mayTagBy n (eqb x 2) (m .size)) where
     tag-is : tagTold (length s) m v ≡ toldOf (length s) (tagOf n d (length s) (drop from s))
     unfolding tagOf
-    tag-is = tag-told n (length s) m v (item d (drop from s)) (rw h at part-is) j
+    tag-is =
+        let z : from + 0 ≡ from = omega arith in
+        let b : getD (drop from s) 0 0 ≡ getD s from 0 = getD-drop from s 0 0 ∙ ap (λ (k : ℕ). getD s k 0) z in
+        let q = rw b at (item-major d (drop from s)) in
+        tag-told n (length s) m (majorOf (getD s from 0 / 32)) v (item d (drop from s)) (rw h at part-is) q (rw i at j)
 
     pub tag-good : {t : PassTold} → v ≡ true → t ≡ passed (m .end) (m .size) → t ≡ toldOf (length s) (tagOf n d (length s) (drop from s))
     tag-good y f = f ∙ ap (tagTold (length s) m) (sym y) ∙ tag-is
@@ -192,26 +211,22 @@ pub ruleset tag-turns = (tag-refused, tag-good, tag-bad)
 
 -- ITEMS
 
-lost-item : (n : ℕ) (e : Refusal) (res : Result Item) → passTold (RefusedV e) ≡ passOf n res → walkTold (WalkRefusedV e) ≡ walkOf n res
-unfolding passTold passOf mapResult toldOf walkTold walkOf
-lost-item n e (ok x r) h = let z : _≡_ {A = ℕ} 0 1 = cc in absurd (omega arith)
-lost-item n e (refuse k l) h =
-    let i : kindNumber (e .kind) ≡ k = cc in
-    let j : e .place ≡ n - l = cc in
-    λ z. walkRefused (i z) (j z)
+pub major-none : (s : List ℕ) (at : ℕ) → length s ≤ at → 0 ≡ majorNumber (majorOf (getD s at 0 / 32))
+unfolding majorNumber majorOf
+major-none s at h =
+    let z : at ≡ at + 0 = omega arith in
+    let e : getD s at 0 ≡ 0 = ap (λ (k : ℕ). getD s k 0) z ∙ sym (getD-drop at s 0 0) ∙ ap (λ (l : List ℕ). getD l 0 0) (drop-of-length-le s h) in
+    rw e
 
-module _ (d : ℕ) (s : List ℕ) (a : HeadRead) (told : headTold a ≡ headAt s 0) where
-  pub item-refused : {e : Refusal} → a ≡ HeadRefusedV e → walkTold (WalkRefusedV e) ≡ walkOf (length s) (item d s)
-  unfolding passOf
-  item-refused i = lost-item (length s) _ (item d s) (rw (item-eq d s) (head-lost s contents _ a told i))
+pub major-byte : (b : ℕ) → Fits bits8 b → b / 32 ≡ majorNumber (majorOf (b / 32))
+unfolding majorNumber majorOf
+major-byte b u = let h : b < 256 = omega arith in sym (eqb→eq (majorNumber (majorOf (b / 32))) (b / 32) (byte (λ k. eqb (majorNumber (majorOf (k / 32))) (k / 32)) tt b h))
 
-  pub item-made : {h : HeadAt} {t : WalkTold} (span : Passed) → a ≡ HeadV h → passTold span ≡ passOf (length s) (item d s) → t ≡ withMajor (h .major) (passTold span) → t ≡ walkOf (length s) (item d s)
-  item-made span i e f =
-      let g = got (headed s a told i) in
-      f ∙ (λ z. withMajor (g .major z) (e z))
-      ∙ with-major (length s) (g .head .major) (item d s) (rw (by-head d s (g .head) (g .rest) (g .is)) (by-major d (g .head .major) (g .head .size) (g .head .argument) (length s) (g .rest)))
-
-pub ruleset item-ways = (item-refused, item-made)
+pub item-is : (d : ℕ) (s : List ℕ) (span : Passed) {m : ℕ} {t : WalkTold} → m ≡ majorNumber (majorOf (getD s 0 0 / 32)) → passTold span ≡ toldOf (length s) (allOf 4 (suc d) (untilBy 0 1) s) → t ≡ withMajor m (passTold span)
+    → t ≡ walkOf (length s) (item d s)
+unfolding passOf
+item-is d s span i e f =
+    f ∙ (λ z. withMajor (i z) ((e ∙ ap (toldOf (length s)) (only-one d s)) z)) ∙ with-major (length s) (majorOf (getD s 0 0 / 32)) (item d s) (item-major d s)
 
 -- several inside an item, as the code walks over them
 all-chunks : (k : Kind) (d : ℕ) (s : List ℕ) → allOf (majorNumber (strings k)) d broken s ≡ mapResult chunksLength (chunksOf k s)
@@ -259,15 +274,15 @@ module _ (d size : ℕ) {t : PassTold} where
   a-string tags w n r l h e = absurd (omega arith)
   a-string simples w n r l h e = absurd (omega arith)
 
-  a-chunked : (m : Major) (n : ℕ) (r : List ℕ) → 1 < majorNumber m → majorNumber m ≤ 3 → t ≡ toldOf size (allOf (majorNumber m) d broken r) → Behind d size m indefinite n r t
+  a-chunked : (e : ℕ) (m : Major) (n : ℕ) (r : List ℕ) → 1 < majorNumber m → majorNumber m ≤ 3 → t ≡ toldOf size (allOf (majorNumber m) e broken r) → Behind d size m indefinite n r t
   unfolding itemBy contents majorNumber
-  a-chunked (integers unsigned) n r l h e = absurd (omega arith)
-  a-chunked (integers negative) n r l h e = absurd (omega arith)
-  a-chunked (strings k) n r l h e = e ∙ ap (toldOf size) (all-chunks k d r ∙ sym (sized-made contents chunksLength (chunked k) (λ cs. refl) (chunksOf k r)))
-  a-chunked arrays n r l h e = absurd (omega arith)
-  a-chunked maps n r l h e = absurd (omega arith)
-  a-chunked tags n r l h e = absurd (omega arith)
-  a-chunked simples n r l h e = absurd (omega arith)
+  a-chunked c (integers unsigned) n r l h e = absurd (omega arith)
+  a-chunked c (integers negative) n r l h e = absurd (omega arith)
+  a-chunked c (strings k) n r l h e = e ∙ ap (toldOf size) (all-chunks k c r ∙ sym (sized-made contents chunksLength (chunked k) (λ cs. refl) (chunksOf k r)))
+  a-chunked c arrays n r l h e = absurd (omega arith)
+  a-chunked c maps n r l h e = absurd (omega arith)
+  a-chunked c tags n r l h e = absurd (omega arith)
+  a-chunked c simples n r l h e = absurd (omega arith)
 
   too-deep : (m : Major) (z : Size) (n : ℕ) (r : List ℕ) → LowSize m z n → d ≡ 0 → 3 < majorNumber m → (majorNumber m ≡ 7 → ⊥) → t ≡ passRefused tooDeep 0 → Behind d size m z n r t
   unfolding itemBy mapResult toldOf majorNumber isIndefinite
@@ -335,6 +350,14 @@ module _ {s : List ℕ} {h : HeadAt} (hd : Headed s h) where
   unfolding majorNumber
   simply e = major-is simples e
 
+  until-is : untilBy (modeBy (h .info)) (h .argument) ≡ extent (g .head .size) (h .argument)
+  unfolding untilBy modeBy extent
+  until-is = by (eqb (h .info) 31) refl
+    where
+      by : (v : Bool) → eqb (h .info) 31 ≡ v → untilBy (elim v [ true ↦ 1 | false ↦ 0 ]) (h .argument) ≡ extent (g .head .size) (h .argument)
+      by true i = sym (ap (λ (z : Size). extent z (h .argument)) (size-indefinite (g .left) (sym (g .info) ∙ eqb-true (h .info) 31 i)))
+      by false i = size-definite (g .left) (λ z. counted (h .argument) ≡ extent z (h .argument)) (λ x. eqb-false (h .info) 31 i (g .info ∙ x)) (λ w. refl)
+
   module _ (d : ℕ) {t : PassTold} where
     known : Behind d (length s) (g .head .major) (g .head .size) (g .head .argument) (g .rest) t → t ≡ passOf (length s) (item d s)
     unfolding passOf
@@ -351,12 +374,11 @@ module _ {s : List ℕ} {h : HeadAt} (hd : Headed s h) where
           (e ∙ got-both g (λ n r. toldOf (length s) (mapResult length (contentAt (kindOf (eqb (h .major) 3)) n (length s) r)))
           ∙ ap (λ (m : ℕ). toldOf (length s) (mapResult length (contentAt (kindOf (eqb m 3)) (g .head .argument) (length s) (g .rest)))) (g .major))))
 
-      pub behind-chunks : h .info ≡ 31 → t ≡ toldOf (length s) (allOf (h .major) d (untilOf Broken) (drop (h .end) s)) → t ≡ passOf (length s) (item d s)
-      unfolding untilOf
-      behind-chunks o e =
+      chunks-in : (c : ℕ) → h .info ≡ 31 → t ≡ toldOf (length s) (allOf (h .major) c broken (drop (h .end) s)) → t ≡ passOf (length s) (item d s)
+      chunks-in c o e =
           known (rw (size-indefinite (g .left) (sym (g .info) ∙ o))
-          (a-chunked d (length s) (g .head .major) (g .head .argument) (g .rest) (omega (arith, g .major)) (omega (arith, g .major))
-          (e ∙ ap (λ (r : List ℕ). toldOf (length s) (allOf (h .major) d broken r)) (g .drops) ∙ ap (λ (m : ℕ). toldOf (length s) (allOf m d broken (g .rest))) (g .major))))
+          (a-chunked d (length s) c (g .head .major) (g .head .argument) (g .rest) (omega (arith, g .major)) (omega (arith, g .major))
+          (e ∙ ap (λ (r : List ℕ). toldOf (length s) (allOf (h .major) c broken r)) (g .drops) ∙ ap (λ (m : ℕ). toldOf (length s) (allOf m c broken (g .rest))) (g .major))))
 
     module _ (e : h .major ≡ 7) where
       pub behind-break : h .info ≡ 31 → t ≡ passRefused (kindNumber NotWellFormed) 0 → t ≡ passOf (length s) (item d s)
@@ -387,15 +409,86 @@ module _ {s : List ℕ} {h : HeadAt} (hd : Headed s h) where
               several-in (length s) d (g .head .major) z (g .head .argument) (g .rest) p (omega (arith, g .major)) (λ x. q (g .major ∙ x)) (λ x. o (g .major ∙ x))
               (e ∙ got-both g (λ n r. toldOf (length s) (allOf (h .major) d (extent z n) r)) ∙ ap (λ (m : ℕ). toldOf (length s) (allOf m d (extent z (g .head .argument)) (g .rest))) (g .major))
 
-          pub behind-broken : h .info ≡ 31 → t ≡ toldOf (length s) (allOf (h .major) d (untilOf Broken) (drop (h .end) s)) → t ≡ passOf (length s) (item d s)
-          unfolding untilOf extent
-          behind-broken i e = known (rw (size-indefinite (g .left) (sym (g .info) ∙ i)) (several-at indefinite e))
+          inside : t ≡ toldOf (length s) (allOf (h .major) (suc (d - 1)) (untilBy (modeBy (h .info)) (h .argument)) (drop (h .end) s)) → t ≡ passOf (length s) (item d s)
+          inside e =
+              let k : suc (d - 1) ≡ d = omega arith in
+              known (several-at (g .head .size) (e ∙ (λ z. toldOf (length s) (allOf (h .major) (k z) (until-is z) (drop (h .end) s)))))
 
-          pub behind-counted : (h .info ≡ 31 → ⊥) → t ≡ toldOf (length s) (allOf (h .major) d (untilOf (Counted (h .argument))) (drop (h .end) s)) → t ≡ passOf (length s) (item d s)
-          unfolding untilOf extent
-          behind-counted i e = known (size-definite (g .left) (λ z. Behind d (length s) (g .head .major) z (g .head .argument) (g .rest) t) (λ x. i (g .info ∙ x)) (λ w. several-at (definite w) e))
+          pub behind-map : (h .major ≡ 4 → ⊥) → {mode : ℕ} → mode ≡ modeBy (h .info) → t ≡ toldOf (length s) (allOf 5 (suc (d - 1)) (untilBy mode (h .argument)) (drop (h .end) s)) → t ≡ passOf (length s) (item d s)
+          behind-map r m e =
+              let five : 5 ≡ h .major = omega (arith, g .major, major-most (g .head .major)) in
+              inside (e ∙ (λ z. toldOf (length s) (allOf (five z) (suc (d - 1)) (untilBy (m z) (h .argument)) (drop (h .end) s))))
 
-pub ruleset behind-ways = (behind-leaf, behind-string, behind-chunks, behind-break, behind-simple, behind-deep, behind-tag, behind-broken, behind-counted)
+-- what is inside, walked over in a part of the bytes
+module _ {s : List ℕ} {h : HeadAt} (hd : Headed s h) (d : ℕ) (inner part : Passed) (long : length s * 1 < 2 ^ 63) (after : passTold part ≡ afterTold (h .end) 0 (passTold inner)) where
+  pub behind-chunks : 1 < h .major → h .major ≤ 3 → h .info ≡ 31
+      → passTold inner ≡ toldOf (length (take (length s - h .end) (drop (h .end) s))) (allOf (h .major) (suc d) (untilBy 1 0) (take (length s - h .end) (drop (h .end) s))) → passTold part ≡ passOf (length s) (item d s)
+  unfolding untilBy
+  behind-chunks l u o told = chunks-in hd d l u (suc d) o (all-told (h .major) (suc d) broken inner part (head-room hd) long told after)
+
+  pub behind-array : (d ≡ 0 → ⊥) → h .major ≡ 4 → {mode : ℕ} → mode ≡ modeBy (h .info)
+      → passTold inner ≡ toldOf (length (take (length s - h .end) (drop (h .end) s))) (allOf 4 (suc (d - 1)) (untilBy mode (h .argument)) (take (length s - h .end) (drop (h .end) s))) → passTold part ≡ passOf (length s) (item d s)
+  behind-array p r {mode} m told =
+      inside hd d (omega arith) (omega arith) p (omega arith)
+      (all-told 4 (suc (d - 1)) (untilBy mode (h .argument)) inner part (head-room hd) long told after
+      ∙ (λ z. toldOf (length s) (allOf (sym r z) (suc (d - 1)) (untilBy (m z) (h .argument)) (drop (h .end) s))))
+
+pub ruleset behind-ways = (behind-string, behind-chunks, behind-deep, behind-tag, behind-array, behind-map)
+
+-- the entries of a map
+module _ (d : ℕ) {s : List ℕ} {from : ℕ} (w : Within s from) (inner : Passed) (long : length s * 1 < 2 ^ 63) (part : Passed) (after : passTold part ≡ afterTold from 0 (passTold inner)) (mode count : ℕ) where
+  pub map-twice : mode ≡ 0 → passTold inner ≡ toldOf (length (take (length s - from) (drop from s))) (allOf 4 (suc d) (untilBy 0 (count * 2)) (take (length s - from) (drop from s)))
+      → passTold part ≡ toldOf (length s) (allOf 5 (suc d) (untilBy mode count) (drop from s))
+  unfolding untilBy
+  map-twice e told = rw e (all-told 4 (suc d) (counted (count * 2)) inner part w long told after ∙ ap (toldOf (length s)) (all-double (suc d) count (drop from s)))
+
+  pub map-several : passTold inner ≡ toldOf (length (take (length s - from) (drop from s))) (allOf 5 (suc d) (untilBy mode count) (take (length s - from) (drop from s)))
+      → passTold part ≡ toldOf (length s) (allOf 5 (suc d) (untilBy mode count) (drop from s))
+  map-several told = all-told 5 (suc d) (untilBy mode count) inner part w long told after
+
+pub ruleset map-ways = (map-twice, map-several)
+
+-- AN ITEM BY WHERE ITS HEAD ENDS
+
+pub no-head : {s : List ℕ} {at r : ℕ} → HeadEnd s at r → r ≡ 0 → HeadEnd s at 0
+no-head h e = rw e at h
+
+module _ {s : List ℕ} (he : HeadEnd s 0 0) (a : HeadRead) (told : headTold a ≡ headAt s 0) where
+  pub headless-refused : {e : Refusal} → a ≡ HeadRefusedV e → Headless s (RefusedV e)
+  unfolding passOf
+  headless-refused i = record { is = λ d. rw (item-eq d s) (head-lost s contents _ a told i) }
+
+  pub headless-not : {h : HeadAt} {r : Passed} → a ≡ HeadV h → Headless s r
+  unfolding headTold
+  headless-not {h} i = absurd (he .lost refl (h .major) (h .info) (h .argument) (h .end) (rw i at told))
+
+pub ruleset headless-ways = (headless-refused, headless-not)
+
+pub one-headless : (d : ℕ) {s : List ℕ} {r : Passed} → Headless s r → passTold r ≡ toldOf (length s) (oneOf 4 (suc d) s)
+one-headless d {s} h = one-item (length s) d s (h .is d)
+
+module _ {s : List ℕ} {end : ℕ} (he : HeadEnd s 0 end) (nz : end ≡ 0 → ⊥) where
+  pub one-room : HeadRoom s 0
+  one-room = he .room nz
+
+  pub one-inside : 0 < length s
+  one-inside = omega (arith, he .room nz .inside)
+
+  pub one-headed : {n : ℕ} → n ≡ argumentAt s 0 → Headed s (record { major = getD s 0 0 / 32; info = getD s 0 0 % 32; argument = n; end = end })
+  unfolding headTold
+  one-headed e = record { is = ap (λ (n : ℕ). headFound (getD s 0 0 / 32) (getD s 0 0 % 32) n end) e ∙ he .found nz }
+
+  module _ (d : ℕ) {t : PassTold} where
+    pub one-leaf : getD s 0 0 / 32 ≤ 1 → t ≡ passed end 0 → t ≡ toldOf (length s) (oneOf 4 (suc d) s)
+    one-leaf l e = one-item (length s) d s (behind-leaf (one-headed refl) d l e)
+
+    pub one-break : getD s 0 0 / 32 ≡ 7 → getD s 0 0 ≡ 255 → t ≡ passRefused (kindNumber NotWellFormed) 0 → t ≡ toldOf (length s) (oneOf 4 (suc d) s)
+    one-break m b e = one-item (length s) d s (behind-break (one-headed refl) d m (ap (λ (k : ℕ). k % 32) b) e)
+
+    pub one-simple : getD s 0 0 / 32 ≡ 7 → (getD s 0 0 ≡ 255 → ⊥) → t ≡ passed end 0 → t ≡ toldOf (length s) (oneOf 4 (suc d) s)
+    one-simple m b e = one-item (length s) d s (behind-simple (one-headed refl) d m (omega arith) e)
+
+pub ruleset one-ways = (one-headless, one-leaf, one-break, one-simple, one-item)
 
 -- THE WHOLE
 
@@ -403,11 +496,8 @@ pub all-long : (s : List ℕ) {t : PassTold} → 65535 < length s → t ≡ pass
 unfolding walkAllOf decode mapResult toldOf kindNumber
 all-long s h e = e ∙ rw (lt-leb (length s) 65535 h, decode) (at-front tooLong (length s))
 
-pub all-short : (s : List ℕ) {t : PassTold} → length s ≤ 65535 → t ≡ toldOf (length s) (allOf 4 17 (untilOf Ended) (drop 0 s)) → t ≡ walkAllOf (length s) (decode s)
-unfolding walkAllOf decode untilOf below
+pub all-short : (s : List ℕ) {t : PassTold} → length s ≤ 65535 → t ≡ toldOf (length s) (allOf 4 (suc 16) (untilBy 2 0) s) → t ≡ walkAllOf (length s) (decode s)
+unfolding walkAllOf decode untilBy below
 all-short s h e = e ∙ ap (toldOf (length s)) (all-items 17 ended s) ∙ sym (rw (le-leb (length s) 65535 h, decode))
-
-pub all-room : (s : List ℕ) → Within s 0
-all-room s = record { inside = omega arith }
 
 pub ruleset all-ways = (all-long, all-short)

@@ -2,13 +2,11 @@
 -- Assumes nothing.
 use Prim.Native.Nat.{ℕ, zero, suc, _+_, _-_, _/_, _≤_, _<_}
 use native.Mathlib.Omega.{arith}
-use native.Mathlib.Numerals.{add-one}
 use mathlib.Core.Path.{_≡_, refl, sym, ap, _∙_}
 use mathlib.Core.Bool.{Bool, true, false}
 use mathlib.Core.List.{List, [], _∷_}
 use lib.Dec.{eqb}
-use lib.ListN.{length, take, drop, getD, length-drop, length-take, drop-of-length-le}
-use lib.Seq.{drop-cons}
+use lib.ListN.{length, take, drop, getD, length-drop, length-take}
 use borrow.Author.Tests.{le-leb, lt-leb, eq-eqb, ne-eqb}
 use Rattle.memory.specs.Sums.{capped}
 use Rattle.cbor.specs.Refusals.{Result, ok, refuse, bind, notUtf8, endsInside, notWellFormed}
@@ -16,10 +14,10 @@ use Rattle.cbor.specs.Items.{Kind, Size, definite, indefinite, Chunk}
 use Rattle.cbor.specs.Heads.{Major, strings, majorNumber, majorOf, Head, nextHead, taking}
 use Rattle.cbor.specs.Utf8.{firstBad, isUtf8}
 use Rattle.cbor.specs.Valid.{isText}
-use Rattle.cbor.specs.Decode.{counted, another, stepAt, contentAt, chunkBy, chunkAt}
+use Rattle.cbor.specs.Decode.{contentAt, chunkBy, chunkAt}
 use Rattle.refusal.specs.RefusalKinds.{kindNumber}
 use Rattle.head.specs.HeadAnswers.{headFound, headTold, sizeInformation, headFrom, headAt}
-use Rattle.walk.specs.WalkAnswers.{PassTold, passed, passRefused, passTold, walkTold, withMajor, asSpan, mapResult, toldOf, chunkContents, untilOf, turnOf, TurnInside, Turned, afterTold, itemAfter, Headed, Within}
+use Rattle.walk.specs.WalkAnswers.{PassTold, passed, passRefused, passTold, walkTold, withMajor, mapResult, toldOf, chunkContents, afterTold, itemAfter, Headed, Within}
 use Rattle.cbor.specs.Flags.{kindOf}
 use Rattle.refusal.specs.declared.Refusal.{Refusal}
 use Rattle.refusal.specs.declared.RefusalKind.{RefusalKind}
@@ -33,9 +31,6 @@ use Rattle.walk.specs.declared.Walked.the-variants.{Made as MadeV, Refus
 use Rattle.walk.specs.declared.Passage.{Passage}
 use Rattle.walk.specs.declared.Passed.{Passed}
 use Rattle.walk.specs.declared.Passed.the-variants.{Span as SpanV, Refused as RefusedV}
-use Rattle.walk.specs.declared.Extent.{Extent}
-use Rattle.walk.specs.declared.Extent.the-variants.{Counted, Broken, Ended}
-use Rattle.walk.specs.declared.Turn.the-variants.{Over, Another}
 use Rattle.walk.proofs.ItemLeaves.{LowSize, HeadLeft, head-left}
 
 -- ANSWERS
@@ -73,17 +68,6 @@ module _ (major : ℕ) {span : Passed} where
 
 pub ruleset with-ways = (major-made, major-refused)
 
-module _ {whole : Walked} where
-  pub span-made : {m : WalkedItem} {t : PassTold} → whole ≡ MadeV m → t ≡ passed (m .end) (m .size) → t ≡ asSpan (walkTold whole)
-  unfolding walkTold asSpan
-  span-made e h = h ∙ rw e
-
-  pub span-refused : {e : Refusal} → whole ≡ WalkRefusedV e → passTold (RefusedV e) ≡ asSpan (walkTold whole)
-  unfolding walkTold passTold asSpan
-  span-refused e = rw e
-
-pub ruleset span-ways = (span-made, span-refused)
-
 module _ (from x : ℕ) {inner : Walked} where
   pub item-after-made : {m : WalkedItem} → inner ≡ MadeV m → x ≡ capped from (m .end) → walkTold (MadeV (record { end = x; major = m .major; size = m .size })) ≡ itemAfter from (walkTold inner)
   unfolding walkTold itemAfter
@@ -94,47 +78,6 @@ module _ (from x : ℕ) {inner : Walked} where
   item-after-refused e h = rw (e, h)
 
 pub ruleset item-after-ways = (item-after-made, item-after-refused)
-
--- TURNS
-
-front : (s : List ℕ) (at : ℕ) → at < length s → drop at s ≡ getD s at 0 ∷ drop (at + 1) s
-front s at h = rw (add-one, drop-cons s at 0)
-
-count-down : (n : ℕ) (t : List ℕ) → (n ≡ 0 → ⊥) → another (counted (n - 1)) ≡ stepAt (counted n) t
-unfolding stepAt
-count-down zero t h = absurd (h refl)
-count-down (suc n) t h = let e : suc n - 1 ≡ n = omega arith in ap (λ (k : ℕ). another (counted k)) e
-
-module _ (s : List ℕ) (at : ℕ) {u : Extent} where
-  pub turn-none : {n : ℕ} → u ≡ Counted n → n ≡ 0 → Turned s at u (Over at)
-  unfolding untilOf turnOf TurnInside stepAt
-  turn-none e z = record { is = rw (e, z); inside = λ h. h }
-
-  pub turn-count : {n : ℕ} → u ≡ Counted n → (n ≡ 0 → ⊥) → Turned s at u (Another (Counted (n - 1)))
-  unfolding untilOf turnOf TurnInside
-  turn-count {n} e z = record { is = rw e (count-down n (drop at s) z); inside = λ h. tt }
-
-  pub turn-past : u ≡ Broken → length s ≤ at → Turned s at u (Another Broken)
-  unfolding untilOf turnOf TurnInside stepAt
-  turn-past e h = record { is = rw (e, drop-of-length-le s h); inside = λ h. tt }
-
-  pub turn-break : u ≡ Broken → at < length s → getD s at 0 ≡ 255 → Turned s at u (Over (at + 1))
-  unfolding untilOf turnOf TurnInside stepAt
-  turn-break e h b = record { is = rw (e, front s at h) (rw (eq-eqb (getD s at 0) 255 b, stepAt)); inside = λ l. omega arith }
-
-  pub turn-on : u ≡ Broken → at < length s → (getD s at 0 ≡ 255 → ⊥) → Turned s at u (Another Broken)
-  unfolding untilOf turnOf TurnInside stepAt
-  turn-on e h b = record { is = rw (e, front s at h) (rw (ne-eqb (getD s at 0) 255 b, stepAt)); inside = λ l. tt }
-
-  pub turn-end : u ≡ Ended → length s ≤ at → Turned s at u (Over at)
-  unfolding untilOf turnOf TurnInside stepAt
-  turn-end e h = record { is = rw (e, drop-of-length-le s h); inside = λ l. l }
-
-  pub turn-more : u ≡ Ended → at < length s → Turned s at u (Another Ended)
-  unfolding untilOf turnOf TurnInside stepAt
-  turn-more e h = record { is = rw (e, front s at h); inside = λ l. tt }
-
-pub ruleset turn-ways = (turn-none, turn-count, turn-past, turn-break, turn-on, turn-end, turn-more)
 
 -- STRINGS
 
@@ -225,6 +168,9 @@ headed s a e i = record { is = rw i at e }
 
 pub head-room : {s : List ℕ} {h : HeadAt} → Headed s h → Within s (h .end)
 head-room {s} e = let g = got e in record { inside = omega (arith, g .ends) }
+
+pub head-inside : {s : List ℕ} {h : HeadAt} → Headed s h → h .end ≤ length s
+head-inside e = head-room e .inside
 
 -- a head that is refused, and whatever begins with it
 lost-of : {A : Type 0} (f : A → ℕ) (s : List ℕ) (e : Refusal) (res : Result Head) (go : Head → List ℕ → Result A) → headTold (HeadRefusedV e) ≡ headFrom (length s) res

@@ -1,1 +1,2 @@
 pub mod WalkAnswers
+pub mod WalkLeaves

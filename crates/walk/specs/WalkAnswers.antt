@@ -2,7 +2,7 @@
 use Prim.Native.Nat.{ℕ, zero, suc, _+_, _-_, _≤_}
 use mathlib.Core.Path.{_≡_}
 use mathlib.Core.List.{List}
-use mathlib.Core.Bool.{true, false}
+use mathlib.Core.Bool.{Bool, true, false}
 use lib.Dec.{eqb}
 use lib.ListN.{length, drop}
 use Rattle.memory.specs.Sums.{capped}
@@ -20,10 +20,6 @@ use Rattle.walk.specs.declared.Walked.{Walked}
 use Rattle.walk.specs.declared.Walked.the-variants.{Made as MadeV, Refused as RefusedV}
 use Rattle.walk.specs.declared.Passed.{Passed}
 use Rattle.walk.specs.declared.Passed.the-variants.{Span as SpanV, Refused as PassRefusedV}
-use Rattle.walk.specs.declared.Extent.{Extent}
-use Rattle.walk.specs.declared.Extent.the-variants.{Counted, Broken, Ended}
-use Rattle.walk.specs.declared.Turn.{Turn}
-use Rattle.walk.specs.declared.Turn.the-variants.{Over, Another}
 
 -- THE ANSWER
 
@@ -48,10 +44,6 @@ walkTold (RefusedV e) = walkRefused (kindNumber (e .kind)) (e .place)
 unfoldable pub withMajor : ℕ → PassTold → WalkTold
 withMajor m (passed e k) = itemPassed e m k
 withMajor m (passRefused i p) = walkRefused i p
-
-unfoldable pub asSpan : WalkTold → PassTold
-asSpan (itemPassed e m k) = passed e k
-asSpan (walkRefused i p) = passRefused i p
 
 -- the bytes of the strings in an item: of a string its own, chunked or not
 unfoldable mutual
@@ -121,22 +113,25 @@ allOf major d u s = several 0 _+_ (oneOf major d) u s
 unfoldable pub tagOf : ℕ → ℕ → ℕ → List ℕ → Result ℕ
 tagOf n d left s = bind (item d s) (λ x r. elim (mayTag n x) [ true ↦ ok (contents x) r | false ↦ refuse badTypedArray left ])
 
-unfoldable pub untilOf : Extent → Until
-untilOf (Counted n) = counted n
-untilOf Broken = broken
-untilOf Ended = ended
+-- how far they go, by the code's numbers: 0 a number of them, 1 to a break, else to the end of the bytes
+unfoldable pub untilBy : ℕ → ℕ → Until
+untilBy mode n = elim (eqb mode 0) [ true ↦ counted n | false ↦ elim (eqb mode 1) [ true ↦ broken | false ↦ ended ] ]
 
-unfoldable pub turnOf : List ℕ → Turn → Step
-turnOf s (Over e) = finished (drop e s)
-turnOf s (Another u) = another (untilOf u)
+unfoldable pub modeBy : ℕ → ℕ
+modeBy i = elim (eqb i 31) [ true ↦ 1 | false ↦ 0 ]
 
-unfoldable pub TurnInside : List ℕ → Turn → Type 0
-TurnInside s (Over e) = e ≤ length s
-TurnInside s (Another u) = Unit
+-- a break is passed
+unfoldable pub behindBy : ℕ → ℕ
+behindBy mode = elim (eqb mode 1) [ true ↦ 1 | false ↦ 0 ]
 
-pub record Turned (s : List ℕ) (at : ℕ) (u : Extent) (r : Turn) : Type 0 where
-  pub is : turnOf s r ≡ stepAt (untilOf u) (drop at s)
-  pub inside : at ≤ length s → TurnInside s r
+unfoldable pub stepBy : Bool → ℕ → ℕ → List ℕ → ℕ → Step
+stepBy true mode n s at = finished (drop (at + behindBy mode) s)
+stepBy false mode n s at = another (untilBy mode (n - 1))
+
+-- r: none of them is left
+pub record Turned (s : List ℕ) (at mode n : ℕ) (r : Bool) : Type 0 where
+  pub is : stepAt (untilBy mode n) (drop at s) ≡ stepBy r mode n s at
+  pub inside : r ≡ true → at ≤ length s → at + behindBy mode ≤ length s
 
 -- the same answer counted from `from` places before, with `size` bytes of strings before it
 unfoldable pub afterTold : ℕ → ℕ → PassTold → PassTold
@@ -150,6 +145,10 @@ itemAfter from (walkRefused i p) = walkRefused i (capped from p)
 -- the head at the front
 pub record Headed (s : List ℕ) (h : HeadAt) : Type 0 where
   pub is : headTold (HeadV h) ≡ headAt s 0
+
+-- the head at the front is refused, and so is each item that begins with it
+pub record Headless (s : List ℕ) (r : Passed) : Type 0 where
+  pub is : (d : ℕ) → passTold r ≡ passOf (length s) (item d s)
 
 pub record Within (s : List ℕ) (from : ℕ) : Type 0 where
   pub inside : from ≤ length s

@@ -2,10 +2,21 @@
 use numbers::amount::Amount;
 use numbers::amount::count_digits;
 use numbers::number::number;
+use scanning::class::DIGIT;
 use scanning::class::class;
 use scanning::scan::next_is;
 use token::Token;
+use token::form::BASE64;
+use token::form::HEX;
+use token::indicator::NONE;
+use token::kind::BEHIND;
+use token::kind::END;
+use token::kind::SIMPLE;
 use token::made;
+use token::reason::BAD_CONTENT;
+use token::reason::FLOAT;
+use token::reason::NOTHING;
+use token::reason::UNKNOWN_WORD;
 use token::refuse;
 ghost use mathlib.Core.Path.{_≡_};
 ghost use Prim.Native.Nat.{_+_, _≤_};
@@ -16,6 +27,17 @@ ghost use Rattle.notation.specs.Reading.{marked};
 ghost use Rattle.scanning.specs.Stands.{span};
 ghost use Rattle.token.specs.TokenAnswers.{Says};
 ghost use Rattle.words.specs.WordAnswers.{WordPart, Enclosed, otherWord, valueWord, prefixWord, Simples, SimpleIn, Stood};
+
+// The simple values that have words (RFC 8949, section 3.3), and the word before others.
+const FALSE: u8 = 20;
+
+const TRUE: u8 = 21;
+
+const NULL: u8 = 22;
+
+const UNDEFINED: u8 = 23;
+
+const SIMPLE_OF: u8 = 24;
 
 // Whether a word begins at a place.
 fn starts_with(text: &[u8], at: usize, word: &[u8]) -> bool
@@ -49,47 +71,47 @@ fn other_word(text: &[u8], from: usize, end: usize) -> u8
     ensures { λ r. ⌜ r ≡ otherWord (span from end (marked (now (text .entry)))) ⌝ }
 {
     if is_same(text, from, end, b"NaN") {
-        return 6;
+        return FLOAT;
     }
     if is_same(text, from, end, b"Infinity") {
-        return 6;
+        return FLOAT;
     }
-    4
+    UNKNOWN_WORD
 }
 
-// The number of a word.
+// What a word stands for: a simple value, SIMPLE_OF, or the number of a refusal, which is below them.
 fn value_word(text: &[u8], from: usize, end: usize) -> u8
     requires { ⌜ WordPart (now text) from end ⌝ }
     ensures { λ r. ⌜ r ≡ valueWord (span from end (marked (now (text .entry)))) ⌝ }
 {
     if is_same(text, from, end, b"false") {
-        return 20;
+        return FALSE;
     }
     if is_same(text, from, end, b"true") {
-        return 21;
+        return TRUE;
     }
     if is_same(text, from, end, b"null") {
-        return 22;
+        return NULL;
     }
     if is_same(text, from, end, b"undefined") {
-        return 23;
+        return UNDEFINED;
     }
     if is_same(text, from, end, b"simple") {
-        return 24;
+        return SIMPLE_OF;
     }
     other_word(text, from, end)
 }
 
-// The form of literal that a prefix gives, 2 or 3.
+// The form of literal that a prefix gives, or the number of a refusal, which is above them.
 pub fn prefix_word(text: &[u8], from: usize, end: usize) -> u8
     requires { ⌜ WordPart (now text) from end ⌝ }
     ensures { λ r. ⌜ r ≡ prefixWord (span from end (marked (now (text .entry)))) ⌝ }
 {
     if is_same(text, from, end, b"h") {
-        return 2;
+        return HEX;
     }
     if is_same(text, from, end, b"b64") {
-        return 3;
+        return BASE64;
     }
     other_word(text, from, end)
 }
@@ -106,7 +128,7 @@ fn plain_decimal(text: &[u8], from: usize, end: usize) -> bool
     if size == 1 {
         return true;
     }
-    0x31 <= text[from]
+    b'1' <= text[from]
 }
 
 fn is_simple(a: Amount) -> bool
@@ -133,11 +155,11 @@ fn simple_in(text: &[u8], place: usize, from: usize, end: usize, a: Amount) -> T
 {
     if plain_decimal(text, from, end) {
         if is_simple(a) {
-            return made(3, 0, a.value, place, end + 1);
+            return made(SIMPLE, NONE, a.value, place, end + 1);
         }
-        return refuse(8, place);
+        return refuse(BAD_CONTENT, place);
     }
-    refuse(4, place)
+    refuse(UNKNOWN_WORD, place)
 }
 
 // Behind the word `simple`.
@@ -145,17 +167,17 @@ fn simple_token(text: &[u8], place: usize, at: usize) -> Token
     requires { ⌜ at ≤ length (now text) ⌝ }
     ensures { λ r. ⌜ Says (now (text .entry)) place r (simpleToken (drop at (marked (now (text .entry))))) ⌝ }
 {
-    if next_is(text, at, 0x28) {
+    if next_is(text, at, b'(') {
         let from = at + 1;
         let d = count_digits(text, from, 10, 0);
         let end = d.next;
-        if next_is(text, end, 0x29) {
+        if next_is(text, end, b')') {
             let a = d.amount;
             return simple_in(text, place, from, end, a);
         }
-        return refuse(4, place);
+        return refuse(UNKNOWN_WORD, place);
     }
-    refuse(4, place)
+    refuse(UNKNOWN_WORD, place)
 }
 
 // A word with no `'` behind it.
@@ -164,16 +186,16 @@ pub fn worded(text: &[u8], place: usize, end: usize) -> Token
     ensures { λ r. ⌜ Says (now (text .entry)) place r (worded (span place end (marked (now (text .entry)))) (drop end (marked (now (text .entry))))) ⌝ }
 {
     let k = value_word(text, place, end);
-    if k == 24 {
+    if k == SIMPLE_OF {
         return simple_token(text, place, end);
     }
-    if k < 20 {
+    if k < FALSE {
         return refuse(k, place);
     }
-    made(3, 0, k as u64, place, end)
+    made(SIMPLE, NONE, k as u64, place, end)
 }
 
-// The class of the byte at a place; 21: the text ends there, 22: it ended before.
+// The class of the byte at a place, or that the text ends there, or has ended before.
 pub fn class_at(text: &[u8], at: usize) -> u8
     ensures { λ r. ⌜ Stood (now (text .entry)) at r ⌝ }
 {
@@ -181,9 +203,9 @@ pub fn class_at(text: &[u8], at: usize) -> u8
         return class(text[at]);
     }
     if at == text.len() {
-        return 21;
+        return END;
     }
-    22
+    BEHIND
 }
 
 // Behind `-`: an integer, or `Infinity`.
@@ -192,11 +214,11 @@ pub fn after_minus(text: &[u8], place: usize, at: usize) -> Token
     ensures { λ r. ⌜ Says (now (text .entry)) place r (afterMinus (drop at (marked (now (text .entry))))) ⌝ }
 {
     let k = class_at(text, at);
-    if k == 2 {
+    if k == DIGIT {
         return number(text, place, at, true);
     }
     if starts_with(text, at, b"Infinity") {
-        return refuse(6, place);
+        return refuse(FLOAT, place);
     }
-    refuse(3, place)
+    refuse(NOTHING, place)
 }

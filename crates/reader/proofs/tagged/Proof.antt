@@ -1,10 +1,10 @@
 -- `reader::tagged` meets its contract.
 -- Assumes nothing.
 use borrow.Author.Needs.{needs}
+use Rattle.refusal.specs.RefusalKinds.{kindNumber}
+use Rattle.reader.proofs.ReadItems.{tagged-ways}
 use Rattle.reader.proofs.tagged.Statement.{statement}
 use Rattle.reader.proofs.tagged.Tie as tie
-use Rattle.refusal.specs.RefusalKinds.{kindNumber}
-use Rattle.encoding.proofs.ReadSmall.{tagged-ways}
 
 pub tagged-spec : {M : Type 1} → statement M
 unfolding kindNumber

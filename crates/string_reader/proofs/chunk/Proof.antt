@@ -1,10 +1,10 @@
 -- `string_reader::chunk` meets its contract.
 -- Assumes nothing.
 use borrow.Author.Needs.{needs}
-use Rattle.refusal.specs.RefusalKinds.{kindNumber}
-use Rattle.string_reader.proofs.ReadStrings.{chunk-ways, chunk-light}
 use Rattle.string_reader.proofs.chunk.Statement.{statement}
 use Rattle.string_reader.proofs.chunk.Tie as tie
+use Rattle.refusal.specs.RefusalKinds.{kindNumber}
+use Rattle.string_reader.proofs.ReadStrings.{chunk-ways, chunk-light}
 
 pub chunk-spec : {M : Type 1} → statement M
 unfolding kindNumber
@@ -20,7 +20,7 @@ chunk-spec =
     (λ c κs. search needs)  -- refuse-requires-2
     (λ c. search chunk-ways)  -- returns-4
     (λ c κs. search chunk-light)  -- string-requires
-    (λ c κs. search needs)  -- done-requires
+    (λ c κs. search needs)  -- listed-requires
     (λ c. search needs)  -- same-length
     (λ c. search chunk-ways)  -- returns-5
     )

@@ -1,9 +1,9 @@
 -- `string_reader::chunked` meets its contract.
 -- Assumes nothing.
 use borrow.Author.Needs.{needs}
-use Rattle.string_reader.proofs.ReadStrings.{opened-fits, chunked-strings, major-fits, major-open, chunked-count, chunked-light, chunked-ways}
 use Rattle.string_reader.proofs.chunked.Statement.{statement}
 use Rattle.string_reader.proofs.chunked.Tie as tie
+use Rattle.string_reader.proofs.ReadStrings.{opened-fits, chunked-strings, major-fits, major-open, chunked-light, chunked-ways}
 
 pub chunked-spec : {M : Type 1} → statement M
 chunked-spec =
@@ -20,7 +20,6 @@ chunked-spec =
     (λ c κs. search needs)  -- major-by-requires
     (λ c. search major-fits)  -- mul-first
     (λ c. search major-open)  -- add-first
-    (λ c κs. search chunked-count)  -- note-by-requires
     (λ c κs. search chunked-light)  -- endless-requires
     (λ c. search needs)  -- same-length
     (λ c. search chunked-ways)  -- returns-3

@@ -1,12 +1,12 @@
 -- `string_reader::chunks` meets its contract.
 -- Assumes nothing.
 use Rattle.string_reader.proofs.chunks.Statement.{statement}
+use Rattle.string_reader.proofs.chunks.Tie as tie
 use Rattle.notation.specs.Reading.{marked}
 use lib.ListN.{length}
 use Prim.Native.Nat.{_-_}
 use Rattle.encoding.proofs.Telling.{made-inside}
 use Rattle.string_reader.proofs.ReadStrings.{Chunks-run, chunks-start, chunks-place, chunks-strings, chunks-ways, chunks-same, chunks-sum, chunks-fits, chunks-less, chunks-comma}
-use Rattle.string_reader.proofs.chunks.Tie as tie
 use borrow.Author.Needs.{needs}
 
 abbrev Inv-loop : tie.InvT-loop
@@ -28,7 +28,7 @@ chunks-spec =
     (λ c. search chunks-sum)  -- add-n
     (λ c. search chunks-fits)  -- add-size
     (λ c κs. search made-inside)  -- next-token-requires
-    (λ c κs. search needs)  -- closed-requires
+    (λ c κs. search needs)  -- is-binary-requires
     (λ c. search chunks-same)  -- same-length-2
     (λ c. search chunks-ways)  -- returns-2
     (λ c κs. search needs)  -- strayed-requires

@@ -2,7 +2,8 @@
 -- Assumes nothing.
 use Rattle.utf8.proofs.first_bad.Statement.{statement}
 use Rattle.utf8.proofs.first_bad.Tie as tie
-use Rattle.cbor.proofs.Sequences.{Walked, walk-start, walk-ascii, walk-on, walk-bad, walk-end}
+use Rattle.cbor.proofs.Sequences.{Walked, walk-start, walk-on, walk-bad, walk-end}
+use Rattle.utf8.proofs.Runs.{walk-past}
 use Prim.Native.Nat.{_-_}
 use lib.ListN.{length}
 use borrow.Author.Needs.{needs}
@@ -18,12 +19,13 @@ first-bad-spec =
     tie.close (tie.spec Inv-loop μ-loop
     (λ c. search walk-start)  -- loop-holds
     (λ c. search needs)  -- shared-slice-read-if1
-    (λ c. search needs)  -- add-at
+    (λ c. search needs)  -- add-ascii-end
+    (λ c κs. search needs)  -- ascii-end-requires
     (λ c. search needs)  -- loop-less
-    (λ c. search walk-ascii)  -- loop-again
+    (λ c. search walk-past)  -- loop-again
     (λ c κs. search needs)  -- sequence-requires
     (λ c. search walk-bad)  -- returns
-    (λ c. search needs)  -- add-at-2
+    (λ c. search needs)  -- add-at
     (λ c. search needs)  -- loop-less-2
     (λ c. search walk-on)  -- loop-again-2
     (λ c. search walk-end)  -- returns-2

@@ -20,7 +20,7 @@ count-digits-spec =
     (λ c. search needs)  -- shared-slice-read-digit-value
     (λ c κs. search needs)  -- digit-value-requires
     (λ c. search tally-stop)  -- returns
-    (λ c κs. search tally-base)  -- grow-requires
+    (λ c κs. search tally-base)  -- with-digit-requires
     (λ c. search needs)  -- add-at
     (λ c. search needs)  -- loop-less
     (λ c. search tally-step)  -- loop-again

@@ -1,0 +1,210 @@
+-- Four letters side by side: the table of their values, the word that they make and its bytes.
+-- Assumes nothing.
+use mathlib.Core.Path.{_≡_, refl, sym, ap, _∙_}
+use mathlib.Core.List.{List, [], _∷_, _++_}
+use mathlib.Core.Bool.{Bool, true, false, _||_}
+use Prim.Native.Nat.{ℕ, zero, suc, _+_, _-_, _*_, _/_, _%_, _≤_, _<_}
+use native.Mathlib.Omega.{arith}
+use lib.Dec.{T, leb, eqb, leb→le}
+use lib.ListN.{length, getD}
+use native.Mathlib.Numerals.{add-one}
+use mir.Syntax.{w64 as bits64}
+use mir.Val as Bits
+use borrow.Author.Tests.{leb-true, leb-false, ne-eqb}
+use Rattle.cbor.specs.Utf8.{isIn}
+use Rattle.cbor.proofs.Table.{byte}
+use Rattle.notation.specs.Classes.{blank, classNumber, classRows, classIn, classOf, is}
+use Rattle.notation.specs.Literals.{after, Sextet, sextet, padding, nonAlphabet, sextetAt, sextets, valued, isPadding, fullFour, base64From, base64Content}
+use Rattle.scanning.specs.Stands.{span}
+use Rattle.literal_body.specs.LiteralAnswers.{Put}
+use Rattle.literal_body.specs.LiteralReading.{Within, Yields, Progressed}
+use Rattle.base64.specs.Base64Answers.{sextetNumber, sextetWeight, Weighs, wordAt}
+use Rattle.notation.proofs.SoundContent.{Fits, sextet-fits}
+use Rattle.literal_body.proofs.LiteralCode.{put-more}
+use Rattle.literal_body.proofs.MatchCode.{arm, range-above}
+use Rattle.literal_body.proofs.ReadingCode.{span-step, progress-more}
+
+-- WORDS
+
+unfoldable pub weighs : ℕ → ℕ → Bool
+weighs k x = eqb x (sextetWeight k)
+
+pub weight-key : {b r k : ℕ} → b ≡ k → T (weighs k r) → Weighs b r
+unfolding weighs
+weight-key e t = record { is = arm sextetWeight e t }
+
+-- n numbers from k on
+abbrev count : ℕ → ℕ → List ℕ
+count zero k = []
+count (suc n) k = k ∷ count n (suc k)
+
+abbrev pub weightKeys : List ℕ
+weightKeys = count 26 0x41 ++ (count 26 0x61 ++ (count 10 0x30 ++ (0x2b ∷ 0x2d ∷ 0x2f ∷ 0x5f ∷ [])))
+
+weight-most : (b : ℕ) → sextetWeight b ≤ 0x100_0000
+unfolding sextetWeight
+weight-most b = go (sextetAt b) (sextet-fits b)
+  where
+    go : (x : Sextet) → Fits x → elim x [ sextet v ↦ v | padding ↦ 0x100_0000 | nonAlphabet ↦ 0x100_0000 ] ≤ 0x100_0000
+    go (sextet v) f = omega arith
+    go padding f = omega arith
+    go nonAlphabet f = omega arith
+
+-- a letter with a value is no blank
+none-above : (b : ℕ) → 0x7a < b → sextetAt b ≡ nonAlphabet
+unfolding sextetAt
+none-above b h =
+    let e₁ = range-above 0x41 0x5a b (omega arith) in
+    let e₂ = range-above 0x61 0x7a b h in
+    let e₃ = range-above 0x30 0x39 b (omega arith) in
+    let n₁ = ne-eqb b 0x2b (λ z. omega arith) in
+    let n₂ = ne-eqb b 0x2d (λ z. omega arith) in
+    let n₃ = ne-eqb b 0x2f (λ z. omega arith) in
+    let n₄ = ne-eqb b 0x5f (λ z. omega arith) in
+    let n₅ = ne-eqb b 0x3d (λ z. omega arith) in
+    λ j. by (e₁ j) (e₂ j) (e₃ j) (n₁ j || n₂ j) (n₃ j || n₄ j) (n₅ j)
+  where
+    by : Bool → Bool → Bool → Bool → Bool → Bool → Sextet
+    by t u v w x y =
+        elim t [
+          | true ↦ sextet (b - 0x41)
+          | false ↦ elim u [
+            | true ↦ sextet (b - 0x47)
+            | false ↦ elim v [ true ↦ sextet (b + 4) | false ↦ elim w [ true ↦ sextet 62 | false ↦ elim x [ true ↦ sextet 63 | false ↦ elim y [ true ↦ padding | false ↦ nonAlphabet ] ] ] ]
+          ]
+        ]
+
+blank-no : (b v : ℕ) → is blank b ≡ true → sextetAt b ≡ sextet v → v ≤ 63 → ⊥
+unfolding sextetAt sextetNumber isIn is classNumber classOf classIn classRows
+blank-no b v q e f = go (leb b 0x7a) refl
+  where
+    test : b < 256 → T (elim (is blank b) [ true ↦ leb 64 (sextetNumber (sextetAt b)) | false ↦ true ])
+    test u = byte (λ k. elim (is blank k) [ true ↦ leb 64 (sextetNumber (sextetAt k)) | false ↦ true ]) tt b u
+
+    go : (t : Bool) → leb b 0x7a ≡ t → ⊥
+    go true p =
+        let l = leb-true b 0x7a p in
+        let x : T (leb 64 (sextetNumber (sextetAt b))) = rw q at (test (omega arith)) in
+        let y : 64 ≤ sextetNumber (sextetAt b) = leb→le 64 (sextetNumber (sextetAt b)) x in
+        let z : sextetNumber (sextetAt b) ≡ v = ap sextetNumber e in
+        omega arith
+    go false p = let z : _≡_ {A = ℕ} 0 1 = cc (none-above b (leb-false b 0x7a p)) in absurd (omega arith)
+
+weight-letter : (b : ℕ) (s : List ℕ) → sextetWeight b < 0x100_0000 → (sextetWeight b ≤ 63) × (sextets (b ∷ s) ≡ sextet (sextetWeight b) ∷ sextets s)
+unfolding sextetWeight sextets
+weight-letter b s h = go (sextetAt b) refl (sextet-fits b) h (is blank b) refl
+  where
+    go : (x : Sextet) → sextetAt b ≡ x → Fits x → elim x [ sextet v ↦ v | padding ↦ 0x100_0000 | nonAlphabet ↦ 0x100_0000 ] < 0x100_0000 → (t : Bool) → is blank b ≡ t
+        → (elim x [ sextet v ↦ v | padding ↦ 0x100_0000 | nonAlphabet ↦ 0x100_0000 ] ≤ 63)
+        × (_≡_ {A = List Sextet} (elim t [ true ↦ sextets s | false ↦ x ∷ sextets s ]) (sextet (elim x [ sextet v ↦ v | padding ↦ 0x100_0000 | nonAlphabet ↦ 0x100_0000 ]) ∷ sextets s))
+    go (sextet v) e f l false q = (f, refl)
+    go (sextet v) e f l true q = absurd (blank-no b v q e f)
+    go padding e f l t q = absurd (omega arith)
+    go nonAlphabet e f l t q = absurd (omega arith)
+
+-- WORDS OF FOUR LETTERS
+
+bound : ℕ → ℕ
+bound zero = 0
+bound (suc k) = bound k * 64 + 0x100_0000
+
+word-most : (s : List ℕ) (at k : ℕ) → wordAt s at k ≤ bound k
+unfolding wordAt bound
+word-most s at zero = omega arith
+word-most s at (suc k) = omega (arith, word-most s at k, weight-most (getD s (at + k) 0))
+
+bound-most : (k : ℕ) → k < 4 → bound k ≤ 0x10_4100_0000
+unfolding bound
+bound-most zero h = omega arith
+bound-most (suc zero) h = omega arith
+bound-most (suc (suc zero)) h = omega arith
+bound-most (suc (suc (suc zero))) h = omega arith
+bound-most (suc (suc (suc (suc k)))) h = absurd (omega arith)
+
+pub record Weighed (s : List ℕ) (at k w : ℕ) : Type 0 where
+  pub is : w ≡ wordAt s at k
+  pub most : k ≤ 4
+
+pub weighed-start : (s : List ℕ) (at : ℕ) → Weighed s at 0 0
+unfolding wordAt
+weighed-start s at = record { is = refl; most = omega arith }
+
+module _ {s : List ℕ} {at k w : ℕ} (inv : Weighed s at k w) where
+  module _ (h : k < 4) where
+    weighed-most : w ≤ 0x10_4100_0000
+    weighed-most = omega (arith, inv .is, word-most s at k, bound-most k h)
+
+    pub weighed-high : Bits.Fits bits64 (w * 64)
+    weighed-high = record { fits = omega (arith, weighed-most) }
+
+    module _ {v : ℕ} (x : Weighs (getD s (at + k) 0) v) where
+      pub weighed-sum : Bits.Fits bits64 (w * 64 + v)
+      weighed-sum = record { fits = omega (arith, weighed-most, x .is, weight-most (getD s (at + k) 0)) }
+
+      pub weighed-on : Weighed s at (k + 1) (w * 64 + v)
+      unfolding wordAt
+      weighed-on = record { is = rw (add-one k) (λ i. inv .is i * 64 + x .is i); most = omega arith }
+
+  pub weighed-end : 4 ≤ k → w ≡ wordAt s at 4
+  weighed-end l = let e : k ≡ 4 = omega (arith, inv .most) in inv .is ∙ ap (wordAt s at) e
+
+-- four letters with values make three bytes, whatever follows
+abbrev pub bytesOf : ℕ → ℕ → ℕ → ℕ → List ℕ
+bytesOf a b c d = (a * 4 + b / 16) ∷ (b % 16 * 16 + c / 4) ∷ (c % 4 * 64 + d) ∷ []
+
+pub four-front : (a b c d : ℕ) (r : List Sextet) → base64From (sextet a ∷ sextet b ∷ sextet c ∷ sextet d ∷ r) ≡ after (bytesOf a b c d) (base64From r)
+unfolding base64From isPadding fullFour valued
+four-front a b c d [] = refl
+four-front a b c d (e ∷ r) = refl
+
+-- the same bytes, by the word
+module _ (a b c d : ℕ) (ha : a ≤ 63) (hb : b ≤ 63) (hc : c ≤ 63) (hd : d ≤ 63) where
+  low-byte : c % 4 * 64 + d ≡ (((a * 64 + b) * 64 + c) * 64 + d) % 0x100
+  low-byte = omega arith
+
+  middle-byte : b % 16 * 16 + c / 4 ≡ (((a * 64 + b) * 64 + c) * 64 + d) / 0x100 % 0x100
+  middle-byte = omega arith
+
+  high-byte : a * 4 + b / 16 ≡ (((a * 64 + b) * 64 + c) * 64 + d) / 0x1_0000
+  high-byte = omega arith
+
+letter-step : (s : List ℕ) (i j stop : ℕ) → i + 1 ≡ j → i < stop → stop ≤ length s → sextetWeight (getD s i 0) < 0x100_0000
+    → (sextetWeight (getD s i 0) ≤ 63) × (sextets (span i stop s) ≡ sextet (sextetWeight (getD s i 0)) ∷ sextets (span j stop s))
+letter-step s i j stop e h l w =
+    let x = weight-letter (getD s i 0) (span (i + 1) stop s) w in
+    (x .0, ap sextets (span-step s i stop h l) ∙ x .1 ∙ ap (λ (k : ℕ). sextet (sextetWeight (getD s i 0)) ∷ sextets (span k stop s)) e)
+
+word-yields : (s : List ℕ) (at stop w : ℕ) → at + 4 ≤ stop → stop ≤ length s → w ≡ wordAt s at 4 → w < 0x100_0000
+    → Yields base64Content s stop at (at + 4) (w / 0x1_0000 ∷ w / 0x100 % 0x100 ∷ w % 0x100 ∷ [])
+unfolding base64Content wordAt
+word-yields s at stop w h l e g =
+    let a = sextetWeight (getD s at 0) in
+    let b = sextetWeight (getD s (at + 1) 0) in
+    let c = sextetWeight (getD s (at + 2) 0) in
+    let d = sextetWeight (getD s (at + 3) 0) in
+    let z : at + 0 ≡ at = omega arith in
+    let e₀ : sextetWeight (getD s (at + 0) 0) ≡ a = ap (λ (k : ℕ). sextetWeight (getD s k 0)) z in
+    let f : w ≡ ((a * 64 + b) * 64 + c) * 64 + d = omega (arith, e, e₀) in
+    let x₀ = letter-step s at (at + 1) stop refl (omega arith) l (omega arith) in
+    let x₁ = letter-step s (at + 1) (at + 2) stop (omega arith) (omega arith) l (omega arith) in
+    let x₂ = letter-step s (at + 2) (at + 3) stop (omega arith) (omega arith) l (omega arith) in
+    let x₃ = letter-step s (at + 3) (at + 4) stop (omega arith) (omega arith) l (omega arith) in
+    let k : sextets (span at stop s) ≡ sextet a ∷ sextet b ∷ sextet c ∷ sextet d ∷ sextets (span (at + 4) stop s) =
+    x₀ .1 ∙ ap (λ (u : List Sextet). sextet a ∷ u) (x₁ .1 ∙ ap (λ (u : List Sextet). sextet b ∷ u) (x₂ .1 ∙ ap (λ (u : List Sextet). sextet c ∷ u) (x₃ .1))) in
+    let p₁ : a * 4 + b / 16 ≡ w / 0x1_0000 = high-byte a b c d (x₀ .0) (x₁ .0) (x₂ .0) (x₃ .0) ∙ ap (λ (k : ℕ). k / 0x1_0000) (sym f) in
+    let p₂ : b % 16 * 16 + c / 4 ≡ w / 0x100 % 0x100 = middle-byte a b c d (x₀ .0) (x₁ .0) (x₂ .0) (x₃ .0) ∙ ap (λ (k : ℕ). k / 0x100 % 0x100) (sym f) in
+    let p₃ : c % 4 * 64 + d ≡ w % 0x100 = low-byte a b c d (x₀ .0) (x₁ .0) (x₂ .0) (x₃ .0) ∙ ap (λ (k : ℕ). k % 0x100) (sym f) in
+    record {
+      is = ap base64From k ∙ four-front a b c d (sextets (span (at + 4) stop s)) ∙ (λ j. after (p₁ j ∷ p₂ j ∷ p₃ j ∷ []) (base64From (sextets (span (at + 4) stop s))));
+      ahead = omega arith;
+      inside = omega arith;
+      short = omega arith;
+    }
+
+pub put-three : {b b₁ b₂ : List ℕ} {p q r x y z : ℕ} → Put b b₁ p q (x ∷ y ∷ []) → Put b₁ b₂ q r (z ∷ []) → Put b b₂ p r (x ∷ y ∷ z ∷ [])
+put-three x y = put-more x y
+
+pub fours-on : {s : List ℕ} {stop from : ℕ} {b b₁ b₂ : List ℕ} {pos at p size w p′ : ℕ} → Within s from stop → Progressed base64Content s stop from b b₁ pos (record { next = at; pos = p; size = size })
+    → 4 ≤ stop - at → w ≡ wordAt s at 4 → w < 0x100_0000 → Put b₁ b₂ p p′ (w / 0x1_0000 ∷ w / 0x100 % 0x100 ∷ w % 0x100 ∷ [])
+    → Progressed base64Content s stop from b b₂ pos (record { next = at + 4; pos = p′; size = size + 3 })
+fours-on {s} {stop} {at = at} {w = w} i inv h e g x = progress-more inv (word-yields s at stop w (omega arith) (i .inside) e g) x refl

@@ -1,0 +1,13 @@
+-- `leaf_reader::integer::major_of` meets its contract.
+-- Assumes nothing.
+use borrow.Author.Needs.{needs}
+use Rattle.leaf_reader.proofs.IntegerCode.{major-ways}
+use Rattle.leaf_reader.proofs.integer.major_of.Statement.{statement}
+use Rattle.leaf_reader.proofs.integer.major_of.Tie as tie
+
+pub major-of-spec : {M : Type 1} → statement M
+major-of-spec =
+    tie.close (tie.spec
+    (λ c. search major-ways)  -- returns
+    (λ c. search major-ways)  -- returns-2
+    )

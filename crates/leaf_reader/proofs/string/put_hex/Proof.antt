@@ -1,0 +1,16 @@
+-- `leaf_reader::string::put_hex` meets its contract.
+-- Assumes nothing.
+use borrow.Author.Needs.{needs}
+use Rattle.leaf_reader.proofs.StringCode.{hex-made}
+use Rattle.leaf_reader.proofs.string.put_hex.Statement.{statement}
+use Rattle.leaf_reader.proofs.string.put_hex.Tie as tie
+
+pub put-hex-spec : {M : Type 1} → statement M
+put-hex-spec =
+    tie.close (tie.spec
+    (λ c κs. search needs)  -- put-head-requires
+    (λ c κs. search needs)  -- pairs-behind-requires
+    (λ c. search needs)  -- add-result
+    (λ c. search needs)  -- same-length
+    (λ c. search hex-made)  -- returns
+    )

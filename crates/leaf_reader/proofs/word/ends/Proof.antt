@@ -1,0 +1,15 @@
+-- `leaf_reader::word::ends` meets its contract.
+-- Assumes nothing.
+use borrow.Author.Needs.{needs}
+use Rattle.leaf_reader.proofs.WordCode.{ends-ways}
+use Rattle.leaf_reader.proofs.word.ends.Statement.{statement}
+use Rattle.leaf_reader.proofs.word.ends.Tie as tie
+
+pub ends-spec : {M : Type 1} → statement M
+ends-spec =
+    tie.close (tie.spec
+    (λ c. search ends-ways)  -- returns
+    (λ c. search needs)  -- shared-slice-read-ends-word
+    (λ c κs. search needs)  -- ends-word-requires
+    (λ c. search ends-ways)  -- returns-2
+    )

@@ -1,0 +1,2 @@
+pub mod LeafAnswers
+pub mod LeafParts

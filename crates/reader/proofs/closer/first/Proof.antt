@@ -1,0 +1,17 @@
+-- `reader::closer::first` meets its contract.
+-- Assumes nothing.
+use borrow.Author.Needs.{needs}
+use Rattle.reader.proofs.Closers.{skip-inside, first-ways}
+use Rattle.reader.proofs.closer.first.Statement.{statement}
+use Rattle.reader.proofs.closer.first.Tie as tie
+
+pub first-spec : {M : Type 1} → statement M
+first-spec =
+    tie.close (tie.spec
+    (λ c κs. search needs)  -- may-be-empty-requires
+    (λ c κs. search needs)  -- skip-requires
+    (λ c κs. search skip-inside)  -- closes-requires
+    (λ c. search first-ways)  -- returns
+    (λ c κs. search needs)  -- none-requires
+    (λ c. search first-ways)  -- returns-2
+    )

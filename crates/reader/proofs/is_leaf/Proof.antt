@@ -1,0 +1,18 @@
+-- `reader::is_leaf` meets its contract.
+-- Assumes nothing.
+use borrow.Author.Needs.{needs}
+use Rattle.reader.specs.Openings.{isLeaf}
+use Rattle.reader.proofs.is_leaf.Statement.{statement}
+use Rattle.reader.proofs.is_leaf.Tie as tie
+
+pub is-leaf-spec : {M : Type 1} → statement M
+unfolding isLeaf
+is-leaf-spec =
+    tie.close (tie.spec
+    (λ c. search needs)  -- enum-told
+    (λ c. search needs)  -- enum-told-2
+    (λ c. search needs)  -- enum-told-3
+    (λ c. search needs)  -- returns
+    (λ c. search needs)  -- returns-2
+    (λ c. search needs)  -- returns-3
+    )

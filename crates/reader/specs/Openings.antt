@@ -1,0 +1,93 @@
+-- Of the code: what opens a level, and an item that opens none. s is a text.
+use Prim.Native.Nat.{ℕ, _+_, _-_, _≤_, _<_, _^_, min}
+use mathlib.Core.Path.{_≡_}
+use mathlib.Core.Bool.{Bool, true, false}
+use mathlib.Core.List.{List, _∷_}
+use lib.ListN.{length, drop}
+use Rattle.cbor.specs.Refusals.{ok, badTypedArray}
+use Rattle.cbor.specs.Widths.{Width, limit, shortest, information}
+use Rattle.cbor.specs.Heads.{tags, initial}
+use Rattle.typed_array.specs.TypedArrayAnswers.{mayTagBy}
+use Rattle.notation.specs.Tokens.{Opener as Opens, bracket, brace, tagging, embedding, opens, begins}
+use Rattle.notation.specs.Cutting.{next, place}
+use Rattle.notation.specs.Reading.{marked}
+use Rattle.token.specs.TokenAnswers.{indicatorNumber}
+use Rattle.token.specs.declared.Token.{Token as Cut}
+use Rattle.leaf_reader.specs.declared.Found.{Found}
+use Rattle.leaf_reader.specs.declared.Found.the-variants.{Leaf, Tag as TagFound, Nothing as NoLeaf}
+use Rattle.leaf_reader.specs.declared.LeafRead.{LeafRead}
+use Rattle.leaf_reader.specs.LeafAnswers.{CutAt}
+use Rattle.encoding.specs.ReadAnswers.{indicatorFor, initialBy, Denies}
+use Rattle.encoding.specs.declared.answer.ReadAnswer.{ReadAnswer}
+use Rattle.encoding.specs.declared.answer.ReadAnswer.the-variants.{Made}
+use Rattle.scanning.specs.ScanAnswers.{Skips}
+use Rattle.reader.specs.Several.{NextAt}
+use Rattle.reader.specs.declared.opening.Opener.{Opener}
+use Rattle.reader.specs.declared.opening.Opener.the-variants.{Array, Map, Tag, Embedded, Nothing}
+use Rattle.reader.specs.declared.opening.Opening.{Opening}
+
+unfoldable pub isLeaf : Found → Bool
+isLeaf Leaf = true
+isLeaf TagFound = false
+isLeaf NoLeaf = false
+
+-- the next token from a place on opens a level by op
+pub record OpensAs (s : List ℕ) (from : ℕ) (o : Opening) (op : Opens) : Type 0 where
+  pub next-at : NextAt s from (o .next) (begins (opens op))
+  pub place-is : place (drop from (marked s)) ≡ length (marked s) - o .place
+  pub before : o .place ≤ length (marked s)
+
+pub record Bracketing (s : List ℕ) (from : ℕ) (o : Opening) (op : Opens) : Type 0 where
+  pub opens-as : OpensAs s from o op
+  pub known : indicatorNumber (indicatorFor (o .indicator)) ≡ o .indicator
+
+pub record Tagging (s : List ℕ) (from : ℕ) (o : Opening) : Type 0 where
+  pub width : Width
+  pub opens-as : OpensAs s from o (tagging width (o .number))
+  pub fits : o .number ≤ limit width
+  pub first : o .first ≡ initial tags (information width (o .number))
+
+-- what opens a level there, or that nothing does
+pub record OpeningTold (s : List ℕ) (from : ℕ) (o : Opening) : Type 0 where
+  pub array : o .opener ≡ Array → Bracketing s from o (bracket (indicatorFor (o .indicator)))
+  pub map : o .opener ≡ Map → Bracketing s from o (brace (indicatorFor (o .indicator)))
+  pub tag : o .opener ≡ Tag → Tagging s from o
+  pub embedded : o .opener ≡ Embedded → OpensAs s from o embedding
+  pub none : o .opener ≡ Nothing → (op : Opens) (r : List ℕ) → next (drop from (marked s)) ≡ ok (begins (opens op)) r → ⊥
+
+-- a place behind blanks and comments where no leaf was read: a tag, or nothing is known
+pub record Opened (s : List ℕ) (from at : ℕ) (q : LeafRead) : Type 0 where
+  pub skips : Skips s from at
+  pub tag : q .found ≡ TagFound → CutAt s at (q .next) (begins (opens (tagging (shortest (q .number)) (q .number))))
+
+-- no level is opened from a place on, where d are left
+pub record Flat (s : List ℕ) (from d : ℕ) : Type 0 where
+  pub is : (d ≡ 0 → ⊥) → (op : Opens) (r : List ℕ) → next (drop from (marked s)) ≡ ok (begins (opens op)) r → ⊥
+
+-- what becomes of an item behind a tag's head of some bytes
+pub record TagMade (n head next′ size : ℕ) (binary : Bool) (length′ place′ : ℕ) (a : ReadAnswer) : Type 0 where
+  pub refused : mayTagBy n binary length′ ≡ false → Denies badTypedArray place′ a
+  pub made : mayTagBy n binary length′ ≡ true → a ≡ Made (record { next = next′; size = min (head + size) (2 ^ 64 - 1); count = 1; indicator = 0; binary = false; length = 0 })
+
+-- what a token makes of it
+pub record ByToken (t : Cut) (o : Opening) : Type 0 where
+  pub array : t .code ≡ 15 → o ≡ record { opener = Array; indicator = t .indicator; first = 0; number = 0; place = t .place; next = t .next }
+  pub map : t .code ≡ 17 → o ≡ record { opener = Map; indicator = t .indicator; first = 0; number = 0; place = t .place; next = t .next }
+  pub embedded : t .code ≡ 19 → o ≡ record { opener = Embedded; indicator = 0; first = 0; number = 0; place = t .place; next = t .next }
+  pub tag : t .code ≡ 6 → o ≡ record { opener = Tag; indicator = 0; first = initialBy t; number = t .number; place = t .place; next = t .next }
+  pub none : (t .code ≡ 6 → ⊥) → (t .code ≡ 15 → ⊥) → (t .code ≡ 17 → ⊥) → (t .code ≡ 19 → ⊥) → o .opener ≡ Nothing
+
+-- the byte of an array, or of a map, stands behind blanks and comments
+unfoldable pub bracketByte : Opener → ℕ
+bracketByte Array = 0x5b
+bracketByte Map = 0x7b
+bracketByte Tag = 0
+bracketByte Embedded = 0
+bracketByte Nothing = 0
+
+pub record BracketAt (s : List ℕ) (from at : ℕ) (o : Opener) : Type 0 where
+  pub skips : Skips s from at
+  pub before : from ≤ length (marked s)
+  pub inside : at < length s
+  pub is : drop at (marked s) ≡ bracketByte o ∷ drop (at + 1) (marked s)
+  pub some : (bracketByte o ≡ 0 → ⊥)

@@ -1,0 +1,263 @@
+// What closes a list of items, and what stands behind one of them.
+use numbers::indicator::indicator_at;
+use scanning::scan::TextCursor;
+use scanning::scan::next_is;
+use token::indicator::NONE;
+ghost use mathlib.Core.Path.{_≡_};
+ghost use mathlib.Core.Bool.{false};
+ghost use Prim.Native.Nat.{_+_, _≤_};
+ghost use lib.ListN.{length};
+ghost use Rattle.notation.specs.Reading.{marked};
+ghost use Rattle.reader.specs.Several.{isSingle, mayBeEmpty, starts, turned, counted, SignAt, GoesOn, ClosesAt, SeparatesAt, StartsAt, Ends, Follows};
+
+// What closes a list: `]`, `}`, `)`, `>>` or the end of the text. `Nothing`: one item is all.
+pub enum Closer {
+    Square,
+    Curly,
+    Round,
+    Angle,
+    Whole,
+    Nothing,
+}
+
+// Whether the token that closes stands at a place; its indicator, and where the text goes on behind it.
+pub struct Closing {
+    pub found: bool,
+    pub next: usize,
+    pub indicator: u8,
+}
+
+// What stands behind an item: what parts it from the next one, what ends the list, or what may not stand there.
+pub enum Follow {
+    On,
+    Over,
+    Stray,
+}
+
+// It, and where the text goes on behind it; the indicator of what ends the list.
+pub struct Follower {
+    pub follow: Follow,
+    pub next: usize,
+    pub indicator: u8,
+}
+
+fn is_single(closer: Closer) -> bool
+    ensures { λ r. ⌜ r ≡ isSingle closer ⌝ }
+{
+    match closer {
+        Closer::Nothing => true,
+        Closer::Square => false,
+        Closer::Curly => false,
+        Closer::Round => false,
+        Closer::Angle => false,
+        Closer::Whole => false,
+    }
+}
+
+fn may_be_empty(closer: Closer) -> bool
+    ensures { λ r. ⌜ r ≡ mayBeEmpty closer ⌝ }
+{
+    match closer {
+        Closer::Square => true,
+        Closer::Curly => true,
+        Closer::Angle => true,
+        Closer::Whole => true,
+        Closer::Round => false,
+        Closer::Nothing => false,
+    }
+}
+
+// Whether the first item is a key.
+pub(crate) fn starts(closer: Closer) -> bool
+    ensures { λ r. ⌜ r ≡ starts closer ⌝ }
+{
+    match closer {
+        Closer::Curly => true,
+        Closer::Square => false,
+        Closer::Round => false,
+        Closer::Angle => false,
+        Closer::Whole => false,
+        Closer::Nothing => false,
+    }
+}
+
+// Whether the next item is a key.
+pub(crate) fn turned(closer: Closer, key: bool) -> bool
+    ensures { λ r. ⌜ r ≡ turned closer key ⌝ }
+{
+    match closer {
+        Closer::Curly => !key,
+        Closer::Square => false,
+        Closer::Round => false,
+        Closer::Angle => false,
+        Closer::Whole => false,
+        Closer::Nothing => false,
+    }
+}
+
+// A key and its value count as one.
+pub(crate) fn counted(key: bool) -> usize
+    ensures { λ r. ⌜ r ≡ counted key ⌝ }
+{
+    if key {
+        return 0;
+    }
+    1
+}
+
+// A closing token of one byte.
+fn sign(text: &[u8], at: usize, c: u8) -> Closing
+    requires { ⌜ at ≤ length (now text) + 1 ⌝ }
+    ensures { λ r. ⌜ SignAt (now (text .entry)) at c r ⌝ }
+{
+    Closing {
+        found: next_is(text, at, c),
+        next: at + 1,
+        indicator: NONE,
+    }
+}
+
+fn none(at: usize) -> Closing
+    ensures { λ r. ⌜ r ≡ record { found = false; next = at; indicator = 0 } ⌝ }
+{
+    Closing {
+        found: false,
+        next: at,
+        indicator: NONE,
+    }
+}
+
+// `>>` with its indicator.
+fn angles(text: &[u8], at: usize) -> Closing
+    requires { ⌜ at ≤ length (now text) + 1 ⌝ }
+    ensures { λ r. ⌜ ClosesAt (now (text .entry)) at Closer.Angle r ⌝ }
+{
+    if next_is(text, at, b'>') {
+        if next_is(text, at + 1, b'>') {
+            let m = indicator_at(text, at + 2);
+            return Closing {
+                found: true,
+                next: m.next,
+                indicator: m.mark,
+            };
+        }
+        return none(at);
+    }
+    none(at)
+}
+
+// No byte is the end of the text.
+fn goes_on(b: u8, at: usize) -> Closing
+    ensures { λ r. ⌜ GoesOn b at r ⌝ }
+{
+    none(at)
+}
+
+// The end of the text.
+fn end(text: &[u8], at: usize) -> Closing
+    requires { ⌜ at ≤ length (now text) + 1 ⌝ }
+    ensures { λ r. ⌜ ClosesAt (now (text .entry)) at Closer.Whole r ⌝ }
+{
+    if at < text.len() {
+        return goes_on(text[at], at);
+    }
+    Closing {
+        found: at == text.len(),
+        next: at + 1,
+        indicator: NONE,
+    }
+}
+
+fn closes(text: &[u8], at: usize, closer: Closer) -> Closing
+    requires { ⌜ at ≤ length (now text) + 1 ⌝ }
+    ensures { λ r. ⌜ ClosesAt (now (text .entry)) at closer r ⌝ }
+{
+    match closer {
+        Closer::Square => sign(text, at, b']'),
+        Closer::Curly => sign(text, at, b'}'),
+        Closer::Round => sign(text, at, b')'),
+        Closer::Angle => angles(text, at),
+        Closer::Whole => end(text, at),
+        Closer::Nothing => end(text, at),
+    }
+}
+
+// Behind a key a colon, else a comma; a tag has one item.
+fn separates(text: &[u8], at: usize, closer: Closer, key: bool) -> bool
+    requires { ⌜ at ≤ length (now text) + 1 ⌝ }
+    ensures { λ r. ⌜ SeparatesAt (now (text .entry)) at closer key r ⌝ }
+{
+    if key {
+        return next_is(text, at, b':');
+    }
+    match closer {
+        Closer::Square => next_is(text, at, b','),
+        Closer::Curly => next_is(text, at, b','),
+        Closer::Angle => next_is(text, at, b','),
+        Closer::Whole => next_is(text, at, b','),
+        Closer::Round => false,
+        Closer::Nothing => false,
+    }
+}
+
+// Whether a list ends where it begins.
+pub(crate) fn first(text: &[u8], from: usize, closer: Closer) -> Closing
+    requires { ⌜ from ≤ length (marked (now text)) ⌝ }
+    ensures { λ r. ⌜ StartsAt (now (text .entry)) from closer r ⌝ }
+{
+    if may_be_empty(closer) {
+        let here = TextCursor { at: from }.skip(text);
+        return closes(text, here.at, closer);
+    }
+    none(from)
+}
+
+// What stands behind an item.
+pub(crate) fn followed(text: &[u8], from: usize, closer: Closer, key: bool) -> Follower
+    requires { ⌜ from ≤ length (marked (now text)) ⌝ }
+    ensures { λ r. ⌜ Follows (now (text .entry)) from closer key r ⌝ }
+{
+    if is_single(closer) {
+        return Follower {
+            follow: Follow::Over,
+            next: from,
+            indicator: NONE,
+        };
+    }
+    let here = TextCursor { at: from }.skip(text);
+    let at = here.at;
+    if separates(text, at, closer, key) {
+        return Follower {
+            follow: Follow::On,
+            next: at + 1,
+            indicator: NONE,
+        };
+    }
+    if key {
+        return Follower {
+            follow: Follow::Stray,
+            next: at,
+            indicator: NONE,
+        };
+    }
+    ended(closes(text, at, closer))
+}
+
+// The end of a list, or what may not stand there.
+fn ended(c: Closing) -> Follower
+    ensures { λ r. ⌜ Ends c r ⌝ }
+{
+    let found = c.found;
+    if found {
+        return Follower {
+            follow: Follow::Over,
+            next: c.next,
+            indicator: c.indicator,
+        };
+    }
+    Follower {
+        follow: Follow::Stray,
+        next: c.next,
+        indicator: NONE,
+    }
+}

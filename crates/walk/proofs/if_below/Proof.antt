@@ -1,0 +1,13 @@
+-- `walk::if_below` meets its contract.
+-- Assumes nothing.
+use Rattle.walk.proofs.if_below.Statement.{statement}
+use Rattle.walk.proofs.if_below.Tie as tie
+use Rattle.walk.proofs.LeafCode.{below-ways}
+use borrow.Author.Needs.{needs}
+
+pub if-below-spec : {M : Type 1} → statement M
+if-below-spec =
+    tie.close (tie.spec
+    (λ c. search below-ways)  -- returns
+    (λ c. search below-ways)  -- returns-2
+    )
