@@ -1,91 +1,43 @@
 -- Base64 text: a letter, a group of letters, and the loops that count and write what they stand for.
 -- Assumes nothing.
 use mathlib.Core.Path.{_≡_, refl, sym, ap, _∙_}
-use mathlib.Core.List.{List, [], _∷_}
-use mathlib.Core.Bool.{Bool, true, false, _&&_, _||_}
+use mathlib.Core.List.{List, [], _∷_, _++_}
+use mathlib.Core.Bool.{Bool, true, false, _&&_}
 use Prim.Native.Nat.{ℕ, zero, suc, _+_, _-_, _*_, _/_, _%_, _≤_, _<_}
 use native.Mathlib.Omega.{arith}
-use lib.Dec.{T, leb, eqb, eqb→eq}
-use lib.ListN.{length, take, replicate}
+use lib.Dec.{T, leb, eqb}
+use lib.ListN.{length, take}
 use mir.Val as Bits
 use borrow.Author.Tests.{le-leb, lt-leb, leb-true, eq-eqb, ne-eqb, lt-ltb, le-ltb}
-use Rattle.cbor.specs.Utf8.{isIn}
-use Rattle.cbor.proofs.Table.{every, between}
 use Rattle.cbor.proofs.Utf8Laws.{both-true}
 use Rattle.notation.specs.Classes.{is}
 use Rattle.notation.specs.Literals.{Content, standsFor, bad, after, Sextet, sextet, padding, nonAlphabet, sextetAt, valued, lastTwo, lastThree, isPadding, lastFour, fullFour, base64From}
 use Rattle.literal_body.specs.LiteralAnswers.{Put}
-use Rattle.base64.specs.Base64Answers.{sextetNumber, sextetOf, sign, waits, waitingOf, allSextets, firstByte, secondOf, thirdOf, base64Bytes, flowing, fullSize, lastTwoSize, lastThreeSize, lastFourSize, Last}
+use Rattle.base64.specs.Base64Answers.{sextetNumber, sextetOf, waits, waitingOf, allSextets, firstByte, secondOf, thirdOf, base64Bytes, flowing, fullSize, lastTwoSize, lastThreeSize, lastFourSize, Last}
 use Rattle.base64.specs.declared.Group.{Group}
 use Rattle.notation.proofs.SoundContent.{Fits}
+use Rattle.literal_body.proofs.MatchCode.{arm}
 use Rattle.literal_body.proofs.LiteralCode.{take-none, put-none, put-more}
 
 -- LETTERS
 
-signBy : Bool → Bool → Bool → Bool → Bool → ℕ
-signBy p m s u e = elim (p || m) [ true ↦ 62 | false ↦ elim (s || u) [ true ↦ 63 | false ↦ elim e [ true ↦ 64 | false ↦ 65 ] ] ]
+abbrev pub number : ℕ → ℕ
+number b = sextetNumber (sextetAt b)
 
-module _ {b : ℕ} where
-  pub sign-plus : b ≡ 0x2b → 62 ≡ sign b
-  unfolding sign
-  sign-plus e = rw e
+unfoldable pub numbers : ℕ → ℕ → Bool
+numbers k x = eqb x (number k)
 
-  pub sign-minus : b ≡ 0x2d → 62 ≡ sign b
-  unfolding sign
-  sign-minus e = rw e
+pub number-key : {b r k : ℕ} → b ≡ k → T (numbers k r) → r ≡ sextetNumber (sextetAt b)
+unfolding numbers
+number-key e t = arm number e t
 
-  pub sign-slash : b ≡ 0x2f → 63 ≡ sign b
-  unfolding sign
-  sign-slash e = rw e
+-- n numbers from k on
+abbrev count : ℕ → ℕ → List ℕ
+count zero k = []
+count (suc n) k = k ∷ count n (suc k)
 
-  pub sign-underscore : b ≡ 0x5f → 63 ≡ sign b
-  unfolding sign
-  sign-underscore e = rw e
-
-  pub sign-equals : b ≡ 0x3d → 64 ≡ sign b
-  unfolding sign
-  sign-equals e = rw e
-
-  pub sign-none : (b ≡ 0x2b → ⊥) → (b ≡ 0x2d → ⊥) → (b ≡ 0x2f → ⊥) → (b ≡ 0x5f → ⊥) → (b ≡ 0x3d → ⊥) → 65 ≡ sign b
-  unfolding sign signBy
-  sign-none n₁ n₂ n₃ n₄ n₅ = sym (λ j. signBy (ne-eqb b 0x2b n₁ j) (ne-eqb b 0x2d n₂ j) (ne-eqb b 0x2f n₃ j) (ne-eqb b 0x5f n₄ j) (ne-eqb b 0x3d n₅ j))
-
-pub ruleset sign-ways = (sign-plus, sign-minus, sign-slash, sign-underscore, sign-equals, sign-none)
-
--- between two bounds
-a-sign : {b r : ℕ} (lo hi : ℕ) → lo ≤ b → b < hi → T (every (λ k x. eqb (sign k) (sextetNumber (sextetAt k))) lo (replicate (hi - lo) 0)) → r ≡ sign b → r ≡ sextetNumber (sextetAt b)
-a-sign {b} lo hi p q t e = e ∙ eqb→eq (sign b) (sextetNumber (sextetAt b)) (between (λ k. eqb (sign k) (sextetNumber (sextetAt k))) lo hi t b p q)
-
-module _ {b : ℕ} where
-  pub sextet-below : {r : ℕ} → b < 0x30 → r ≡ sign b → r ≡ sextetNumber (sextetAt b)
-  unfolding sign sextetAt sextetNumber isIn
-  sextet-below h e = a-sign 0 0x30 (omega arith) h tt e
-
-  pub sextet-digit : 0x30 ≤ b → b < 0x3a → b + 4 ≡ sextetNumber (sextetAt b)
-  unfolding sextetAt sextetNumber isIn
-  sextet-digit l h = eqb→eq (b + 4) (sextetNumber (sextetAt b)) (between (λ k. eqb (k + 4) (sextetNumber (sextetAt k))) 0x30 0x3a tt b l h)
-
-  pub sextet-between : {r : ℕ} → 0x3a ≤ b → b < 0x41 → r ≡ sign b → r ≡ sextetNumber (sextetAt b)
-  unfolding sign sextetAt sextetNumber isIn
-  sextet-between l h e = a-sign 0x3a 0x41 l h tt e
-
-  pub sextet-upper : 0x41 ≤ b → b < 0x5b → b - 0x41 ≡ sextetNumber (sextetAt b)
-  unfolding sextetAt sextetNumber isIn
-  sextet-upper l h = eqb→eq (b - 0x41) (sextetNumber (sextetAt b)) (between (λ k. eqb (k - 0x41) (sextetNumber (sextetAt k))) 0x41 0x5b tt b l h)
-
-  pub sextet-beyond : {r : ℕ} → 0x5b ≤ b → b < 0x61 → r ≡ sign b → r ≡ sextetNumber (sextetAt b)
-  unfolding sign sextetAt sextetNumber isIn
-  sextet-beyond l h e = a-sign 0x5b 0x61 l h tt e
-
-  pub sextet-lower : 0x61 ≤ b → b < 0x7b → b - 0x47 ≡ sextetNumber (sextetAt b)
-  unfolding sextetAt sextetNumber isIn
-  sextet-lower l h = eqb→eq (b - 0x47) (sextetNumber (sextetAt b)) (between (λ k. eqb (k - 0x47) (sextetNumber (sextetAt k))) 0x61 0x7b tt b l h)
-
-  pub sextet-above : {r : ℕ} → 0x7b ≤ b → b < 256 → r ≡ sign b → r ≡ sextetNumber (sextetAt b)
-  unfolding sign sextetAt sextetNumber isIn
-  sextet-above l h e = a-sign 0x7b 256 l h tt e
-
-pub ruleset sextet-ways = (sextet-below, sextet-digit, sextet-between, sextet-upper, sextet-beyond, sextet-lower, sextet-above)
+abbrev pub numberKeys : List ℕ
+numberKeys = 0x2b ∷ 0x2d ∷ 0x2f ∷ (count 10 0x30 ++ (0x3d ∷ (count 26 0x41 ++ (0x5f ∷ count 26 0x61))))
 
 pub sextet-back : (x : Sextet) → Fits x → sextetOf (sextetNumber x) ≡ x
 unfolding sextetOf sextetNumber

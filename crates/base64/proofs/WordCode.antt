@@ -1,12 +1,12 @@
 -- Four letters side by side: the table of their values, the word that they make and its bytes.
 -- Assumes nothing.
 use mathlib.Core.Path.{_≡_, refl, sym, ap, _∙_}
-use mathlib.Core.List.{List, [], _∷_, _++_}
+use mathlib.Core.List.{List, [], _∷_}
 use mathlib.Core.Bool.{Bool, true, false, _||_}
 use Prim.Native.Nat.{ℕ, zero, suc, _+_, _-_, _*_, _/_, _%_, _≤_, _<_}
 use native.Mathlib.Omega.{arith}
 use lib.Dec.{T, leb, eqb, leb→le}
-use lib.ListN.{length, getD}
+use lib.ListN.{length, set, getD, length-set}
 use native.Mathlib.Numerals.{add-one}
 use mir.Syntax.{w64 as bits64}
 use mir.Val as Bits
@@ -18,9 +18,9 @@ use Rattle.notation.specs.Literals.{after, Sextet, sextet, padding, nonAlphabet
 use Rattle.scanning.specs.Stands.{span}
 use Rattle.literal_body.specs.LiteralAnswers.{Put}
 use Rattle.literal_body.specs.LiteralReading.{Within, Yields, Progressed}
-use Rattle.base64.specs.Base64Answers.{sextetNumber, sextetWeight, Weighs, wordAt}
+use Rattle.base64.specs.Base64Answers.{sextetNumber, sextetWeight, Weighs, wordAt, WordThere}
 use Rattle.notation.proofs.SoundContent.{Fits, sextet-fits}
-use Rattle.literal_body.proofs.LiteralCode.{put-more}
+use Rattle.literal_body.proofs.LiteralCode.{put-one, put-more}
 use Rattle.literal_body.proofs.MatchCode.{arm, range-above}
 use Rattle.literal_body.proofs.ReadingCode.{span-step, progress-more}
 
@@ -29,26 +29,17 @@ use Rattle.literal_body.proofs.ReadingCode.{span-step, progress-more}
 unfoldable pub weighs : ℕ → ℕ → Bool
 weighs k x = eqb x (sextetWeight k)
 
-pub weight-key : {b r k : ℕ} → b ≡ k → T (weighs k r) → Weighs b r
+pub weight-key : {b r k : ℕ} → b ≡ k → T (weighs k r) → T (leb r 63) → Weighs b r
 unfolding weighs
-weight-key e t = record { is = arm sextetWeight e t }
+weight-key {r = r} e t l = let m = leb→le r 63 l in record { is = λ h. arm sextetWeight e t; most = omega arith }
 
--- n numbers from k on
-abbrev count : ℕ → ℕ → List ℕ
-count zero k = []
-count (suc n) k = k ∷ count n (suc k)
+pub weight-none : {b : ℕ} → Weighs b 0x200_0000
+weight-none = record { is = λ h. absurd (omega arith); most = omega arith }
 
-abbrev pub weightKeys : List ℕ
-weightKeys = count 26 0x41 ++ (count 26 0x61 ++ (count 10 0x30 ++ (0x2b ∷ 0x2d ∷ 0x2f ∷ 0x5f ∷ [])))
+pub weight-rest : {b : ℕ} → Weighs b 0x100_0000
+weight-rest = record { is = λ h. absurd (omega arith); most = omega arith }
 
-weight-most : (b : ℕ) → sextetWeight b ≤ 0x100_0000
-unfolding sextetWeight
-weight-most b = go (sextetAt b) (sextet-fits b)
-  where
-    go : (x : Sextet) → Fits x → elim x [ sextet v ↦ v | padding ↦ 0x100_0000 | nonAlphabet ↦ 0x100_0000 ] ≤ 0x100_0000
-    go (sextet v) f = omega arith
-    go padding f = omega arith
-    go nonAlphabet f = omega arith
+pub ruleset weight-ways = (weight-key, weight-none, weight-rest)
 
 -- a letter with a value is no blank
 none-above : (b : ℕ) → 0x7a < b → sextetAt b ≡ nonAlphabet
@@ -104,16 +95,11 @@ weight-letter b s h = go (sextetAt b) refl (sextet-fits b) h (is blank b) refl
 
 -- WORDS OF FOUR LETTERS
 
-bound : ℕ → ℕ
+pub bound : ℕ → ℕ
 bound zero = 0
-bound (suc k) = bound k * 64 + 0x100_0000
+bound (suc k) = bound k * 64 + 0x200_0000
 
-word-most : (s : List ℕ) (at k : ℕ) → wordAt s at k ≤ bound k
-unfolding wordAt bound
-word-most s at zero = omega arith
-word-most s at (suc k) = omega (arith, word-most s at k, weight-most (getD s (at + k) 0))
-
-bound-most : (k : ℕ) → k < 4 → bound k ≤ 0x10_4100_0000
+bound-most : (k : ℕ) → k < 4 → bound k ≤ 0x20_8200_0000
 unfolding bound
 bound-most zero h = omega arith
 bound-most (suc zero) h = omega arith
@@ -122,31 +108,39 @@ bound-most (suc (suc (suc zero))) h = omega arith
 bound-most (suc (suc (suc (suc k)))) h = absurd (omega arith)
 
 pub record Weighed (s : List ℕ) (at k w : ℕ) : Type 0 where
-  pub is : w ≡ wordAt s at k
+  pub is : w < 0x100_0000 → w ≡ wordAt s at k
   pub most : k ≤ 4
+  pub small : w ≤ bound k
 
 pub weighed-start : (s : List ℕ) (at : ℕ) → Weighed s at 0 0
-unfolding wordAt
-weighed-start s at = record { is = refl; most = omega arith }
+unfolding wordAt bound
+weighed-start s at = record { is = λ h. refl; most = omega arith; small = omega arith }
 
 module _ {s : List ℕ} {at k w : ℕ} (inv : Weighed s at k w) where
   module _ (h : k < 4) where
-    weighed-most : w ≤ 0x10_4100_0000
-    weighed-most = omega (arith, inv .is, word-most s at k, bound-most k h)
+    weighed-most : w ≤ 0x20_8200_0000
+    weighed-most = omega (arith, inv .small, bound-most k h)
 
     pub weighed-high : Bits.Fits bits64 (w * 64)
     weighed-high = record { fits = omega (arith, weighed-most) }
 
     module _ {v : ℕ} (x : Weighs (getD s (at + k) 0) v) where
       pub weighed-sum : Bits.Fits bits64 (w * 64 + v)
-      weighed-sum = record { fits = omega (arith, weighed-most, x .is, weight-most (getD s (at + k) 0)) }
+      weighed-sum = record { fits = omega (arith, weighed-most, x .most) }
+
+      next-is : w * 64 + v < 0x100_0000 → w * 64 + v ≡ wordAt s at (suc k)
+      unfolding wordAt
+      next-is l = let a = inv .is (omega arith) in let b = x .is (omega arith) in λ i. a i * 64 + b i
+
+      next-small : w * 64 + v ≤ bound (suc k)
+      unfolding bound
+      next-small = omega (arith, inv .small, x .most)
 
       pub weighed-on : Weighed s at (k + 1) (w * 64 + v)
-      unfolding wordAt
-      weighed-on = record { is = rw (add-one k) (λ i. inv .is i * 64 + x .is i); most = omega arith }
+      weighed-on = record { is = rw (add-one k) next-is; most = omega arith; small = rw (add-one k) next-small }
 
-  pub weighed-end : 4 ≤ k → w ≡ wordAt s at 4
-  weighed-end l = let e : k ≡ 4 = omega (arith, inv .most) in inv .is ∙ ap (wordAt s at) e
+  pub weighed-end : 4 ≤ k → WordThere s at w
+  weighed-end l = let e : k ≡ 4 = omega (arith, inv .most) in record { is = λ h. inv .is h ∙ ap (wordAt s at) e }
 
 -- four letters with values make three bytes, whatever follows
 abbrev pub bytesOf : ℕ → ℕ → ℕ → ℕ → List ℕ
@@ -201,10 +195,41 @@ word-yields s at stop w h l e g =
       short = omega arith;
     }
 
-pub put-three : {b b₁ b₂ : List ℕ} {p q r x y z : ℕ} → Put b b₁ p q (x ∷ y ∷ []) → Put b₁ b₂ q r (z ∷ []) → Put b b₂ p r (x ∷ y ∷ z ∷ [])
-put-three x y = put-more x y
+module _ (b : List ℕ) (p x y z : ℕ) where
+  pub word-short : length b < 3 → Put b b p p (x ∷ y ∷ z ∷ [])
+  word-short h = record { same = refl; is = λ l. absurd (omega arith); next = λ l. absurd (omega arith) }
+
+  pub word-past : 3 ≤ length b → length b - 3 < p → Put b b p p (x ∷ y ∷ z ∷ [])
+  word-past g h = record { same = refl; is = λ l. absurd (omega arith); next = λ l. absurd (omega arith) }
+
+  pub word-put : 3 ≤ length b → p ≤ length b - 3 → Put b (set (set (set b p x) (p + 1) y) (p + 2) z) p (p + 3) (x ∷ y ∷ z ∷ [])
+  word-put g h =
+      let e₁ : p + 1 + 1 ≡ p + 2 = omega arith in
+      let e₂ : p + 2 + 1 ≡ p + 3 = omega arith in
+      let b₁ = set b p x in
+      let l₁ : length b₁ ≡ length b = length-set b p x in
+      let b₂ = set b₁ (p + 1) y in
+      let l₂ : length b₂ ≡ length b₁ = length-set b₁ (p + 1) y in
+      let u = put-one b p x (omega arith) in
+      let v : Put b₁ b₂ (p + 1) (p + 2) (y ∷ []) = rw e₁ at (put-one b₁ (p + 1) y (omega arith)) in
+      let w : Put b₂ (set b₂ (p + 2) z) (p + 2) (p + 3) (z ∷ []) = rw e₂ at (put-one b₂ (p + 2) z (omega arith)) in
+      put-more (put-more u v) w
+
+module _ {n p : ℕ} (g : 3 ≤ n) (h : p ≤ n - 3) where
+  pub first-fits : p < n
+  first-fits = omega arith
+
+  pub second-fits : p + 1 < n
+  second-fits = omega arith
+
+  pub third-fits : p + 2 < n
+  third-fits = omega arith
+
+pub ruleset word-fits = (first-fits, second-fits, third-fits)
+
+pub ruleset word-ways = (word-short, word-past, word-put)
 
 pub fours-on : {s : List ℕ} {stop from : ℕ} {b b₁ b₂ : List ℕ} {pos at p size w p′ : ℕ} → Within s from stop → Progressed base64Content s stop from b b₁ pos (record { next = at; pos = p; size = size })
-    → 4 ≤ stop - at → w ≡ wordAt s at 4 → w < 0x100_0000 → Put b₁ b₂ p p′ (w / 0x1_0000 ∷ w / 0x100 % 0x100 ∷ w % 0x100 ∷ [])
+    → 4 ≤ stop - at → WordThere s at w → w < 0x100_0000 → Put b₁ b₂ p p′ (w / 0x1_0000 ∷ w / 0x100 % 0x100 ∷ w % 0x100 ∷ [])
     → Progressed base64Content s stop from b b₂ pos (record { next = at + 4; pos = p′; size = size + 3 })
-fours-on {s} {stop} {at = at} {w = w} i inv h e g x = progress-more inv (word-yields s at stop w (omega arith) (i .inside) e g) x refl
+fours-on {s} {stop} {at = at} {w = w} i inv h e g x = progress-more inv (word-yields s at stop w (omega arith) (i .inside) (e .is g) g) x refl

@@ -2,7 +2,7 @@
 use Prim.Native.Nat.{ℕ, zero, suc, _+_, _*_, _/_, _%_, _≤_, _<_}
 use mathlib.Core.Path.{_≡_}
 use mathlib.Core.List.{List, [], _∷_, _++_}
-use mathlib.Core.Bool.{Bool, true, false, _&&_, _||_}
+use mathlib.Core.Bool.{Bool, true, false, _&&_}
 use lib.Dec.{eqb, leb, ltb}
 use lib.ListN.{take, getD}
 use Rattle.notation.specs.Classes.{blank, is}
@@ -19,21 +19,22 @@ sextetNumber nonAlphabet = 65
 unfoldable pub sextetOf : ℕ → Sextet
 sextetOf n = elim (leb n 63) [ true ↦ sextet n | false ↦ elim (eqb n 64) [ true ↦ padding | false ↦ nonAlphabet ] ]
 
--- the number of what is no letter and no digit
-unfoldable pub sign : ℕ → ℕ
-sign b = elim (eqb b 0x2b || eqb b 0x2d) [ true ↦ 62 | false ↦ elim (eqb b 0x2f || eqb b 0x5f) [ true ↦ 63 | false ↦ elim (eqb b 0x3d) [ true ↦ 64 | false ↦ 65 ] ] ]
-
 -- what a byte adds to a word of four letters; 2^24: it has no value
 unfoldable pub sextetWeight : ℕ → ℕ
 sextetWeight b = elim (sextetAt b) [ sextet v ↦ v | padding ↦ 0x100_0000 | nonAlphabet ↦ 0x100_0000 ]
 
 pub record Weighs (b r : ℕ) : Type 0 where
-  pub is : r ≡ sextetWeight b
+  pub is : r < 0x100_0000 → r ≡ sextetWeight b
+  pub most : r ≤ 0x200_0000
 
 -- the word of k bytes
 unfoldable pub wordAt : List ℕ → ℕ → ℕ → ℕ
 wordAt s at zero = 0
 wordAt s at (suc k) = wordAt s at k * 64 + sextetWeight (getD s (at + k) 0)
+
+-- r is the word of four letters, unless it is too large for one
+pub record WordThere (s : List ℕ) (at r : ℕ) : Type 0 where
+  pub is : r < 0x100_0000 → r ≡ wordAt s at 4
 
 -- nothing but blanks stands between two places
 pub record Blanks (s : List ℕ) (stop from r : ℕ) : Type 0 where

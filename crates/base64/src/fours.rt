@@ -1,18 +1,20 @@
 // Letters of base64 text that stand four by four without a blank.
 use literal_body::Progress;
-use literal_body::put;
-use literal_body::put_two;
-ghost use mathlib.Core.Path.{_≡_};
 ghost use mathlib.Core.List.{_∷_, []};
 ghost use Prim.Native.Nat.{_+_, _/_, _%_, _≤_, _<_};
 ghost use lib.ListN.{length};
 ghost use Rattle.notation.specs.Literals.{base64Content};
 ghost use Rattle.literal_body.specs.LiteralAnswers.{Put};
 ghost use Rattle.literal_body.specs.LiteralReading.{Within, Progressed};
-ghost use Rattle.base64.specs.Base64Answers.{Weighs, wordAt};
+ghost use Rattle.base64.specs.Base64Answers.{Weighs, WordThere};
 
 // What four letters weigh at least of which one has no value.
 const NO_WORD: u64 = 0x100_0000;
+
+// What some bytes weigh that have no value. With so many arms the table has a row for every byte, and none is tested before it is looked up.
+const NO_LETTER: u64 = 0x200_0000;
+
+const WORD_BYTES: usize = 3;
 
 // What a letter adds to a word. It is called in one place, so that it is inlined there and becomes a table.
 fn weight(b: u8) -> u64
@@ -85,6 +87,51 @@ fn weight(b: u8) -> u64
         0x2d => 62,
         0x2f => 63,
         0x5f => 63,
+        0x00 => NO_LETTER,
+        0x01 => NO_LETTER,
+        0x02 => NO_LETTER,
+        0x03 => NO_LETTER,
+        0x04 => NO_LETTER,
+        0x05 => NO_LETTER,
+        0x06 => NO_LETTER,
+        0x07 => NO_LETTER,
+        0x08 => NO_LETTER,
+        0x09 => NO_LETTER,
+        0x0a => NO_LETTER,
+        0x0b => NO_LETTER,
+        0x0c => NO_LETTER,
+        0x0d => NO_LETTER,
+        0x0e => NO_LETTER,
+        0x0f => NO_LETTER,
+        0x10 => NO_LETTER,
+        0x11 => NO_LETTER,
+        0x12 => NO_LETTER,
+        0x13 => NO_LETTER,
+        0x14 => NO_LETTER,
+        0x15 => NO_LETTER,
+        0x16 => NO_LETTER,
+        0x17 => NO_LETTER,
+        0x18 => NO_LETTER,
+        0x19 => NO_LETTER,
+        0x1a => NO_LETTER,
+        0x1b => NO_LETTER,
+        0x1c => NO_LETTER,
+        0x1d => NO_LETTER,
+        0x1e => NO_LETTER,
+        0x1f => NO_LETTER,
+        0x20 => NO_LETTER,
+        0x21 => NO_LETTER,
+        0x22 => NO_LETTER,
+        0x23 => NO_LETTER,
+        0x24 => NO_LETTER,
+        0x25 => NO_LETTER,
+        0x26 => NO_LETTER,
+        0x27 => NO_LETTER,
+        0x28 => NO_LETTER,
+        0x29 => NO_LETTER,
+        0x2a => NO_LETTER,
+        0x7f => NO_LETTER,
+        0x80 => NO_LETTER,
         _ => NO_WORD,
     }
 }
@@ -92,7 +139,7 @@ fn weight(b: u8) -> u64
 // The 24 bits of four letters side by side.
 fn word(text: &[u8], at: usize) -> u64
     requires { ⌜ at + 4 ≤ length (now text) ⌝ }
-    ensures { λ r. ⌜ r ≡ wordAt (now (text .entry)) at 4 ⌝ }
+    ensures { λ r. ⌜ WordThere (now (text .entry)) at r ⌝ }
 {
     let mut w: u64 = 0;
     let mut k: usize = 0;
@@ -103,12 +150,21 @@ fn word(text: &[u8], at: usize) -> u64
     w
 }
 
+// Writes the three bytes of a word, if they fit, and answers the place behind them.
 fn put_word(out: &mut [u8], p: usize, w: u64) -> usize
     requires { ⌜ w < 0x100_0000 ⌝ }
     ensures { λ r. ⌜ Put (now (out .entry)) (now (out .exit)) p r (w / 0x1_0000 ∷ w / 0x100 % 0x100 ∷ w % 0x100 ∷ []) ⌝ }
 {
-    let q = put_two(out, p, (w / 0x1_0000) as u8, (w / 0x100 % 0x100) as u8);
-    put(out, q, (w % 0x100) as u8)
+    if out.len() < WORD_BYTES {
+        return p;
+    }
+    if out.len() - WORD_BYTES < p {
+        return p;
+    }
+    out[p] = (w / 0x1_0000) as u8;
+    out[p + 1] = (w / 0x100 % 0x100) as u8;
+    out[p + 2] = (w % 0x100) as u8;
+    p + WORD_BYTES
 }
 
 // Writes the bytes of letters that stand four by four without a blank, whatever follows them.
@@ -135,7 +191,7 @@ pub(crate) fn put_fours(
             };
         }
         p = put_word(out, p, w);
-        size += 3;
+        size += WORD_BYTES;
         at += 4;
     }
     Progress {

@@ -21,8 +21,9 @@ use Rattle.refusal.specs.declared.Refusal.{Refusal}
 use Rattle.refusal.specs.declared.RefusalKind.the-variants.{TooLong}
 use Rattle.cbor.proofs.Results.{refused-not-accepted}
 use Rattle.cbor.proofs.Paths.{part-at-path}
-use Rattle.notation.specs.Reading.{single, readItem}
+use Rattle.notation.specs.Reading.{marked, single, readItem}
 use Rattle.notation.specs.Alone.{plus}
+use Rattle.notation.proofs.MarkedText.{marked-length}
 use Rattle.encoding.specs.ReadAnswers.{Wrote, ReadTold, ofItem}
 use Rattle.encoding.proofs.Wrote.{wrote-held}
 use Rattle.one_item.proofs.ReadOne.{one-accepted, one-denied}
@@ -31,7 +32,7 @@ use Rattle.encoding.specs.declared.answer.ReadAnswer.{ReadAnswer}
 use Rattle.encoding.specs.declared.answer.ReadAnswer.the-variants.{Made as ReadMade, Refused as ReadRefused}
 use Rattle.operations.specs.Operations.{andThen, room, fitting, written, itemsOf, spotOf, lookUp, level, replaced, correction, zeroed, correct}
 use Rattle.looking.specs.Answers.{locateTold, locateOf}
-use Rattle.outcome.specs.Outcomes.{outcomeOf}
+use Rattle.outcome.specs.Outcomes.{outcomeOf, Roomy}
 use Rattle.text_check.specs.TextAnswers.{textTold, passing}
 use Rattle.planning.specs.PlanAnswers.{splice, Bounded, lengthFor, PlanFor, Plans}
 use Rattle.correcting.specs.Corrections.{Spots, NewRead, Newly, decisionOf, Planned, roomFor, Replaces, Decides, Corrects}
@@ -68,18 +69,19 @@ module _ (s : List ℕ) {t : Text} (h : textTold t ≡ passing s) where
       let p : passing s ≡ refused (kindNumber (e .kind)) (e .place) = sym h ∙ rw i in
       newly s levels item (ReadRefused e) _ (fails s (verdictOf (length s) (single levels s)) p) (e, refl, refl, refl)
 
-  pub new-read : {levels most : ℕ} {item item′ : List ℕ} {a : ReadAnswer} → t ≡ Good → length item ≡ mostBytes → ReadTold ofItem s item item′ most 0 a (plus (single levels s)) → Newly s levels item′ a
+  pub new-read : {levels : ℕ} {item item′ : List ℕ} {a : ReadAnswer} → t ≡ Good → Roomy s item → ReadTold ofItem s item item′ (length (marked s)) 0 a (plus (single levels s)) → Newly s levels item′ a
   unfolding textTold readItem NewRead
-  new-read {levels} {most} {item} {item′} {a} i l told = go a told
+  new-read {levels} {item} {item′} {a} i l told = go a told
     where
       passed : readItem levels s ≡ verdictOf (length s) (single levels s)
       passed = passes s (verdictOf (length s) (single levels s)) (sym h ∙ rw i)
 
-      go : (a : ReadAnswer) → ReadTold ofItem s item item′ most 0 a (plus (single levels s)) → Newly s levels item′ a
+      go : (a : ReadAnswer) → ReadTold ofItem s item item′ (length (marked s)) 0 a (plus (single levels s)) → Newly s levels item′ a
       go (ReadMade m) x =
           let o = one-accepted levels (ReadMade m) x refl in
-          let w : m .size ≤ mostBytes → take (m .size) item′ ≡ encode (o .item) = λ n. stands (o .size) (o .wrote) (omega (arith, n, l)) in
-          newly s levels item′ (ReadMade m) _ (passed ∙ o .is) (m, refl, record { sized = o .size; held = w }, o .wrote .same ∙ l)
+          let f : m .size ≤ mostBytes → m .size ≤ length item = λ n. omega (arith, n, o .short, l .room, marked-length s) in
+          let w : m .size ≤ mostBytes → take (m .size) item′ ≡ encode (o .item) = λ n. stands (o .size) (o .wrote) (f n) in
+          newly s levels item′ (ReadMade m) _ (passed ∙ o .is) (m, refl, record { sized = o .size; held = w }, λ n. omega (arith, f n, o .wrote .same))
       go (ReadRefused e) x = newly s levels item′ (ReadRefused e) _ (passed ∙ one-denied levels (ReadRefused e) x refl) (e, refl, refl, refl)
 
 pub ruleset new-ways = (new-refused, new-read)
@@ -116,7 +118,7 @@ replace-new p used room levels s item d {m = m} (accepted y) e (m′, i, w, l) j
             order = k .order;
             inside = k .inside;
             within = omega arith;
-            held = omega (arith, l);
+            held = (rw same at l) (omega arith);
             sized = refl;
             room = omega arith;
             short = omega arith;

@@ -33,7 +33,7 @@ pub record Spots (s path : List ℕ) (r : Located) : Type 0 where
 
 -- the new item's bytes, or why its text is refused
 unfoldable pub NewRead : List ℕ → ReadAnswer → Verdict Item → Type 0
-NewRead item a (accepted y) = (m : MadeS) × (a ≡ ReadMade m) × (Holds item (m .size) (encode y)) × (length item ≡ mostBytes)
+NewRead item a (accepted y) = (m : MadeS) × (a ≡ ReadMade m) × (Holds item (m .size) (encode y)) × (m .size ≤ mostBytes → m .size ≤ length item)
 NewRead item a (refused n q) = (e : Refusal) × (a ≡ ReadRefused e) × (kindNumber (e .kind) ≡ n) × (e .place ≡ q)
 
 pub record Newly (s : List ℕ) (levels : ℕ) (item : List ℕ) (a : ReadAnswer) : Type 0 where

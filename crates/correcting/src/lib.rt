@@ -6,6 +6,7 @@ use looking::locate;
 use one_item::read_one;
 use outcome::Answer;
 use outcome::fits;
+use outcome::turns_for;
 use planning::Decision;
 use planning::Plan;
 use planning::level;
@@ -18,9 +19,8 @@ use text_check::check_text;
 ghost use mathlib.Core.Path.{_≡_};
 ghost use Prim.Native.Nat.{_≤_};
 ghost use lib.ListN.{length, take};
-ghost use Rattle.cbor.specs.Decode.{mostBytes};
 ghost use Rattle.operations.specs.Operations.{level, correct};
-ghost use Rattle.outcome.specs.Outcomes.{outcomeOf};
+ghost use Rattle.outcome.specs.Outcomes.{outcomeOf, Roomy};
 ghost use Rattle.planning.specs.PlanAnswers.{Bounded};
 ghost use Rattle.correcting.specs.Corrections.{Spots, Newly, Replaces, Decides, Corrects};
 
@@ -32,7 +32,7 @@ fn spot(bytes: &[u8], path: &[u16]) -> Located
 
 // The new item's bytes, from its text.
 fn read_new(text: &[u8], levels: usize, item: &mut [u8]) -> ReadAnswer
-    requires { ⌜ length (now item) ≡ mostBytes ⌝ }
+    requires { ⌜ Roomy (now text) (now item) ⌝ }
     ensures { λ r. ⌜ Newly (now (text .entry)) levels (now (item .exit)) r ⌝ }
 {
     let t = check_text(text);
@@ -51,7 +51,7 @@ fn replace(
     item: &mut [u8],
 ) -> Decision
     requires { ⌜ Bounded p used ⌝ }
-    requires { ⌜ length (now item) ≡ mostBytes ⌝ }
+    requires { ⌜ Roomy (now text) (now item) ⌝ }
     ensures { λ r. ⌜ Replaces p used room levels (now (text .entry)) (now (item .exit)) r ⌝ }
 {
     let a = read_new(text, levels, item);
@@ -63,7 +63,7 @@ fn replace(
 
 // What a correction comes to: the used length, the bytes, the path, the text, then room. The new item's bytes are in `item`.
 fn decide(buffer: &[u8], used: usize, path: &[u16], text: &[u8], item: &mut [u8]) -> Decision
-    requires { ⌜ length (now item) ≡ mostBytes ⌝ }
+    requires { ⌜ Roomy (now text) (now item) ⌝ }
     ensures { λ r. ⌜ Decides (now (buffer .entry)) used (now (path .entry)) (now (text .entry)) (now (item .exit)) r ⌝ }
 {
     if fits(used, buffer.len()) {
@@ -77,7 +77,7 @@ fn decide(buffer: &[u8], used: usize, path: &[u16], text: &[u8], item: &mut [u8]
 }
 
 fn carry_out(buffer: &mut [u8], used: usize, path: &[u16], text: &[u8], item: &mut [u8]) -> Answer
-    requires { ⌜ length (now item) ≡ mostBytes ⌝ }
+    requires { ⌜ Roomy (now text) (now item) ⌝ }
     ensures { λ r. ⌜ Corrects (now (buffer .entry)) (now (buffer .exit)) used (now (path .entry)) (now (text .entry)) r ⌝ }
 {
     let d = decide(buffer, used, path, text, item);
@@ -91,9 +91,46 @@ fn carry_out(buffer: &mut [u8], used: usize, path: &[u16], text: &[u8], item: &m
     }
 }
 
+// Buffers for texts of three sizes: nine bytes for each byte of the text and for its end. What is small is soon cleared.
+const TINY: usize = 55;
+
+const SMALL: usize = 511;
+
+fn with_tiny(buffer: &mut [u8], used: usize, path: &[u16], text: &[u8]) -> Answer
+    requires { ⌜ length (now text) ≤ 55 ⌝ }
+    ensures { λ r. ⌜ Corrects (now (buffer .entry)) (now (buffer .exit)) used (now (path .entry)) (now (text .entry)) r ⌝ }
+{
+    let mut item = [0; 504];
+    carry_out(buffer, used, path, text, &mut item)
+}
+
+fn with_small(buffer: &mut [u8], used: usize, path: &[u16], text: &[u8]) -> Answer
+    requires { ⌜ length (now text) ≤ 511 ⌝ }
+    ensures { λ r. ⌜ Corrects (now (buffer .entry)) (now (buffer .exit)) used (now (path .entry)) (now (text .entry)) r ⌝ }
+{
+    let mut item = [0; 4608];
+    carry_out(buffer, used, path, text, &mut item)
+}
+
+// The large buffer stands in no caller's frame (`turns_for`).
+fn with_large(buffer: &mut [u8], used: usize, path: &[u16], text: &[u8], turns: u8) -> Answer
+    ensures { λ r. ⌜ Corrects (now (buffer .entry)) (now (buffer .exit)) used (now (path .entry)) (now (text .entry)) r ⌝ }
+{
+    if 0 < turns {
+        return with_large(buffer, used, path, text, turns - 1);
+    }
+    let mut item = [0; 65535];
+    carry_out(buffer, used, path, text, &mut item)
+}
+
 pub fn correct(buffer: &mut [u8], used: usize, path: &[u16], text: &[u8]) -> Answer
     ensures { λ r. ⌜ outcomeOf r (now (buffer .exit)) ≡ correct (now (buffer .entry)) used (now (path .entry)) (now (text .entry)) ⌝ }
 {
-    let mut item = [0; 65535];
-    carry_out(buffer, used, path, text, &mut item)
+    if text.len() <= TINY {
+        return with_tiny(buffer, used, path, text);
+    }
+    if text.len() <= SMALL {
+        return with_small(buffer, used, path, text);
+    }
+    with_large(buffer, used, path, text, turns_for(text.len()))
 }

@@ -131,7 +131,7 @@ module _ {c k n major info : ℕ} (a : MajorBy c major) (b : Informed k n info) 
   pub initial-add : Fits bits8 (major * 32 + info)
   initial-add = record { fits = omega (arith, a .most, b .most) }
 
-pub initial-is : {major info : ℕ} (t : Cut) → MajorBy (t .code) major → Informed (t .indicator) (t .number) info → major * 32 + info ≡ initialBy t
+pub initial-is : {major info : ℕ} (t : Cut) → MajorBy (t .kind) major → Informed (t .indicator) (t .argument) info → major * 32 + info ≡ initialBy t
 unfolding initialBy
 initial-is t a b = rw (a .is, b .is)
 
@@ -139,51 +139,51 @@ initial-is t a b = rw (a .is, b .is)
 pub denies-is : {k : RefusalKind} {at : ℕ} → Denies (kindNumber k) at (Refused (record { kind = k; place = at }))
 denies-is {k} {at} = record { refusal = record { kind = k; place = at }; is = refl; number = refl; place = refl }
 
-pub strayed-is : {d k : ℕ} {t : Cut} {kind : RefusalKind} → k ≡ strayBy d (t .code) (t .indicator) → Kinded k kind → Strayed d t (Refused (record { kind = kind; place = t .place }))
+pub strayed-is : {d k : ℕ} {t : Cut} {kind : RefusalKind} → k ≡ strayBy d (t .kind) (t .refusal) (t .indicator) → Kinded k kind → Strayed d t (Refused (record { kind = kind; place = t .place }))
 strayed-is {d} {k} {t} {kind} e h =
     record { refusal = record { kind = kind; place = t .place }; is = refl; number = λ l m. h .is (rw e l) (rw e m) ∙ e; place = refl }
 
-module _ (d code mark : ℕ) where
-  pub stray-none : code ≡ 0 → mark ≡ strayBy d code mark
+module _ (d code refusal mark : ℕ) where
+  pub stray-none : code ≡ 0 → refusal ≡ strayBy d code refusal mark
   unfolding strayBy
   stray-none e = rw e
 
   module _ (n0 : code ≡ 0 → ⊥) where
-    pub stray-angle-1 : code ≡ 20 → mark ≡ 1 → 9 ≡ strayBy d code mark
+    pub stray-angle-1 : code ≡ 20 → mark ≡ 1 → 9 ≡ strayBy d code refusal mark
     unfolding strayBy
     stray-angle-1 e f = rw (e, f)
 
-    pub stray-angle-2 : code ≡ 20 → mark ≡ 2 → 9 ≡ strayBy d code mark
+    pub stray-angle-2 : code ≡ 20 → mark ≡ 2 → 9 ≡ strayBy d code refusal mark
     unfolding strayBy
     stray-angle-2 e f = rw (e, f)
 
-    pub stray-angle : code ≡ 20 → (mark ≡ 1 → ⊥) → (mark ≡ 2 → ⊥) → 11 ≡ strayBy d code mark
+    pub stray-angle : code ≡ 20 → (mark ≡ 1 → ⊥) → (mark ≡ 2 → ⊥) → 11 ≡ strayBy d code refusal mark
     unfolding strayBy
     stray-angle e n1 n2 = simp (strayBy, ne-eqb code 0 n0, eq-eqb code 20 e, ne-eqb mark 1 n1, ne-eqb mark 2 n2)
 
     module _ (n20 : code ≡ 20 → ⊥) where
-      pub stray-plain : (d ≡ 0 → ⊥) → 11 ≡ strayBy d code mark
+      pub stray-plain : (d ≡ 0 → ⊥) → 11 ≡ strayBy d code refusal mark
       unfolding strayBy
       stray-plain nd = simp (strayBy, ne-eqb code 0 n0, ne-eqb code 20 n20, ne-eqb d 0 nd)
 
       module _ (z : d ≡ 0) where
-        pub stray-6 : code ≡ 6 → 10 ≡ strayBy d code mark
+        pub stray-6 : code ≡ 6 → 10 ≡ strayBy d code refusal mark
         unfolding strayBy
         stray-6 e = rw (e, z)
 
-        pub stray-15 : code ≡ 15 → 10 ≡ strayBy d code mark
+        pub stray-15 : code ≡ 15 → 10 ≡ strayBy d code refusal mark
         unfolding strayBy
         stray-15 e = rw (e, z)
 
-        pub stray-17 : code ≡ 17 → 10 ≡ strayBy d code mark
+        pub stray-17 : code ≡ 17 → 10 ≡ strayBy d code refusal mark
         unfolding strayBy
         stray-17 e = rw (e, z)
 
-        pub stray-19 : code ≡ 19 → 10 ≡ strayBy d code mark
+        pub stray-19 : code ≡ 19 → 10 ≡ strayBy d code refusal mark
         unfolding strayBy
         stray-19 e = rw (e, z)
 
-        pub stray-rest : (code ≡ 6 → ⊥) → (code ≡ 15 → ⊥) → (code ≡ 17 → ⊥) → (code ≡ 19 → ⊥) → 11 ≡ strayBy d code mark
+        pub stray-rest : (code ≡ 6 → ⊥) → (code ≡ 15 → ⊥) → (code ≡ 17 → ⊥) → (code ≡ 19 → ⊥) → 11 ≡ strayBy d code refusal mark
         unfolding strayBy
         stray-rest n6 n15 n17 n19 = simp (strayBy, ne-eqb code 0 n0, ne-eqb code 20 n20, eq-eqb d 0 z, ne-eqb code 6 n6, ne-eqb code 15 n15, ne-eqb code 17 n17, ne-eqb code 19 n19)
 

@@ -54,10 +54,10 @@ module _ {b b′ : List ℕ} {pos first size : ℕ} (n : ℕ) (h : HeadSize firs
 pub ruleset written-ways = (written-short, written-long)
 
 -- A LEAF
-pub leafed-is : {b b′ : List ℕ} {pos first size : ℕ} {a : ReadAnswer} (t : Cut) → first ≡ initialBy t → HeadWritten b b′ pos first (t .number) size
+pub leafed-is : {b b′ : List ℕ} {pos first size : ℕ} {a : ReadAnswer} (t : Cut) → first ≡ initialBy t → HeadWritten b b′ pos first (t .argument) size
     → a ≡ Made (record { next = t .next; size = size; count = 1; indicator = 0; binary = false; length = 0 }) → Leafed t b b′ pos a
 leafed-is {first = first} {size = size} t e h f =
-    let q : size ≡ length (headBytes (initialBy t) (t .number)) = h .size .is (t .number) ∙ ap (λ (x : ℕ). length (headBytes x (t .number))) e in
+    let q : size ≡ length (headBytes (initialBy t) (t .argument)) = h .size .is (t .argument) ∙ ap (λ (x : ℕ). length (headBytes x (t .argument))) e in
     record {
       is = f ∙ ap (λ (x : ℕ). Made (record { next = t .next; size = x; count = 1; indicator = 0; binary = false; length = 0 })) q;
       wrote = rw e at (h .wrote);
@@ -104,13 +104,13 @@ module _ (pos n : ℕ) (l : Light (pos + n)) where
   pub string-size : {i r : ℕ} → HeadSize i r → Fits bits64 (r + n)
   string-size h = record { fits = omega (arith, l .fits, h .most) }
 
-pub string-is : {s b b₁ b₂ : List ℕ} {pos first size : ℕ} (t : Cut) → first ≡ initialBy t → HeadSize first size → b₁ ≡ overIfFits b pos (headBytes first (t .number)) → Filled s t b₁ b₂ (pos + size)
-    → Stringed s t b b₂ pos (size + t .number)
+pub string-is : {s b b₁ b₂ : List ℕ} {pos first size : ℕ} (t : Cut) → first ≡ initialBy t → HeadSize first size → b₁ ≡ overIfFits b pos (headBytes first (t .argument)) → Filled s t b₁ b₂ (pos + size)
+    → Stringed s t b b₂ pos (size + t .argument)
 string-is {s} {b} {b₁} {b₂} {pos} {first} {size} t e h w f =
-    let q : size ≡ length (headBytes (initialBy t) (t .number)) = h .is (t .number) ∙ ap (λ (x : ℕ). length (headBytes x (t .number))) e in
-    let wr : Wrote b b₁ pos (headBytes (initialBy t) (t .number)) = wrote-written (w ∙ ap (λ (x : ℕ). overIfFits b pos (headBytes x (t .number))) e) in
+    let q : size ≡ length (headBytes (initialBy t) (t .argument)) = h .is (t .argument) ∙ ap (λ (x : ℕ). length (headBytes x (t .argument))) e in
+    let wr : Wrote b b₁ pos (headBytes (initialBy t) (t .argument)) = wrote-written (w ∙ ap (λ (x : ℕ). overIfFits b pos (headBytes x (t .argument))) e) in
     record {
-      size-is = ap (λ (x : ℕ). x + t .number) q;
+      size-is = ap (λ (x : ℕ). x + t .argument) q;
       wrote = λ c n sp. wrote-more wr (f .is c sp) (ap (λ (x : ℕ). pos + x) q);
       same = f .same ∙ wr .same;
     }
@@ -150,7 +150,7 @@ width-some w4 = omega arith
 width-some w8 = omega arith
 
 -- the head of a string of a definite length
-pub string-head : {s : List ℕ} {t : Cut} {k : Kind} {w : Width} {c : List ℕ} → LiteralIs s t k (definite w) c → headBytes (initialBy t) (t .number) ≡ head (strings k) w (length c)
+pub string-head : {s : List ℕ} {t : Cut} {k : Kind} {w : Width} {c : List ℕ} → LiteralIs s t k (definite w) c → headBytes (initialBy t) (t .argument) ≡ head (strings k) w (length c)
 unfolding initialBy initial sizeNumber
 string-head {t = t} {k = k} {w = w} {c = c} l =
     let n : length c ≤ limit w = l .fit w refl in
@@ -158,7 +158,7 @@ string-head {t = t} {k = k} {w = w} {c = c} l =
     rw (e, l .number) (sym (head-bytes (strings k) w (length c) n))
 
 module _ (s : List ℕ) (t : Cut) {b b′ : List ℕ} {pos : ℕ} {a : ReadAnswer} where
-  literal-open-by : {binary : Bool} {first : ℕ} → first ≡ initialBy t → t .indicator ≡ 1 → binary ≡ isBytesBy (t .code) → Ended b b′ pos first (t .next) 0 binary 0 a
+  literal-open-by : {binary : Bool} {first : ℕ} → first ≡ initialBy t → t .indicator ≡ 1 → binary ≡ isBytesBy (t .kind) → Ended b b′ pos first (t .next) 0 binary 0 a
       → (k : Kind) (z : Size) (c : List ℕ) → LiteralIs s t k z c → Gave b b′ pos (t .next) a (ofItem (literalItem k z c))
   unfolding ofItem literalItem encode enclosed openingHead closingBreak encodeChunks initialBy initial sizeNumber infoBy
   literal-open-by fe e te en k (definite w) c l = absurd (omega (arith, l .size, width-some w))
@@ -176,16 +176,16 @@ module _ (s : List ℕ) (t : Cut) {b b′ : List ℕ} {pos : ℕ} {a : ReadAnswe
         wrote = rw (← q) (wrote-more (wrote-written (en .front)) (en .back) p);
       }
 
-  pub literal-open : {binary : Bool} {first : ℕ} → first ≡ initialBy t → t .indicator ≡ 1 → binary ≡ isBytesBy (t .code) → Ended b b′ pos first (t .next) 0 binary 0 a → LiteralTold s t b b′ pos a
+  pub literal-open : {binary : Bool} {first : ℕ} → first ≡ initialBy t → t .indicator ≡ 1 → binary ≡ isBytesBy (t .kind) → Ended b b′ pos first (t .next) 0 binary 0 a → LiteralTold s t b b′ pos a
   literal-open fe e te en = record { is = literal-open-by fe e te en }
 
-  literal-by : {binary : Bool} {size : ℕ} → (t .indicator ≡ 1 → ⊥) → binary ≡ isBytesBy (t .code) → Stringed s t b b′ pos size
-      → a ≡ Made (record { next = t .next; size = size; count = 1; indicator = 0; binary = binary; length = t .number })
+  literal-by : {binary : Bool} {size : ℕ} → (t .indicator ≡ 1 → ⊥) → binary ≡ isBytesBy (t .kind) → Stringed s t b b′ pos size
+      → a ≡ Made (record { next = t .next; size = size; count = 1; indicator = 0; binary = binary; length = t .argument })
       → (k : Kind) (z : Size) (c : List ℕ) → LiteralIs s t k z c → Gave b b′ pos (t .next) a (ofItem (literalItem k z c))
   unfolding ofItem literalItem encode encodeString sizeNumber
   literal-by n1 te st f k indefinite c l = absurd (n1 (l .size))
   literal-by {binary} {size} n1 te st f k (definite w) c l =
-      let hs : headBytes (initialBy t) (t .number) ≡ head (strings k) w (length c) = string-head l in
+      let hs : headBytes (initialBy t) (t .argument) ≡ head (strings k) w (length c) = string-head l in
       let q : size ≡ length (head (strings k) w (length c) ++ c) = st .size-is ∙ (rw (hs, l .number)) ∙ sym (length-append (head (strings k) w (length c)) c) in
       record {
         made = _;
@@ -198,8 +198,8 @@ module _ (s : List ℕ) (t : Cut) {b b′ : List ℕ} {pos : ℕ} {a : ReadAnswe
         wrote = rw hs at (st .wrote c (l .number) (l .spelled));
       }
 
-  pub literal-done : {binary : Bool} {size : ℕ} → (t .indicator ≡ 1 → ⊥) → binary ≡ isBytesBy (t .code) → Stringed s t b b′ pos size
-      → a ≡ Made (record { next = t .next; size = size; count = 1; indicator = 0; binary = binary; length = t .number }) → LiteralTold s t b b′ pos a
+  pub literal-done : {binary : Bool} {size : ℕ} → (t .indicator ≡ 1 → ⊥) → binary ≡ isBytesBy (t .kind) → Stringed s t b b′ pos size
+      → a ≡ Made (record { next = t .next; size = size; count = 1; indicator = 0; binary = binary; length = t .argument }) → LiteralTold s t b b′ pos a
   literal-done n1 te st f = record { is = literal-by n1 te st f }
 
 pub ruleset literal-ways = (literal-open, literal-done)

@@ -140,7 +140,7 @@ pub record Token-at (s : List ℕ) (at : ℕ) (t : Cut) : Type 0 where
   pub fine : Fine (place (drop at (marked s)) - 1) tok (length rest)
   pub ahead : t .place < t .next
 
-pub token : {s : List ℕ} {at : ℕ} {t : Cut} → Took s at t → (t .code ≡ 0 → ⊥) → Token-at s at t
+pub token : {s : List ℕ} {at : ℕ} {t : Cut} → Took s at t → (t .kind ≡ 0 → ⊥) → Token-at s at t
 unfolding Shown
 token {s} {at} {t} tk n = go (next (drop at (marked s))) refl (tk .shown) (next-fine (drop at (marked s)))
   where
@@ -171,60 +171,60 @@ leaf-flat d (array z xs) f = absurd f
 leaf-flat d (map z ps) f = absurd f
 leaf-flat d (tag w n x) f = absurd f
 
-leaf-stray : (d : ℕ) (x : Item) → LeafFine x → strayBy d (itemCode x) (itemMark x) ≡ notAllowed
+leaf-stray : (d n : ℕ) (x : Item) → LeafFine x → strayBy d (itemCode x) n (itemMark x) ≡ notAllowed
 unfolding strayBy itemCode
-leaf-stray d (int unsigned w n) f = either-way (eqb d 0)
-leaf-stray d (int negative w n) f = either-way (eqb d 0)
-leaf-stray d (simple n) f = either-way (eqb d 0)
-leaf-stray d (string k w b) f = absurd f
-leaf-stray d (chunked k cs) f = absurd f
-leaf-stray d (array z xs) f = absurd f
-leaf-stray d (map z ps) f = absurd f
-leaf-stray d (tag w n x) f = absurd f
+leaf-stray d n′ (int unsigned w n) f = either-way (eqb d 0)
+leaf-stray d n′ (int negative w n) f = either-way (eqb d 0)
+leaf-stray d n′ (simple n) f = either-way (eqb d 0)
+leaf-stray d n′ (string k w b) f = absurd f
+leaf-stray d n′ (chunked k cs) f = absurd f
+leaf-stray d n′ (array z xs) f = absurd f
+leaf-stray d n′ (map z ps) f = absurd f
+leaf-stray d n′ (tag w n x) f = absurd f
 
 some-level : (d : ℕ) → eqb (suc d) 0 ≡ false
 some-level d = ne-eqb (suc d) 0 (λ z. absurd (omega arith))
 
-open-stray : (d : ℕ) (o : Opener) → strayBy d (openCode o) (openMark o) ≡ stray d (begins (opens o))
+open-stray : (d n : ℕ) (o : Opener) → strayBy d (openCode o) n (openMark o) ≡ stray d (begins (opens o))
 unfolding strayBy openCode stray
-open-stray zero (bracket i) = refl
-open-stray zero (brace i) = refl
-open-stray zero (tagging w n) = refl
-open-stray zero embedding = refl
-open-stray (suc d) (bracket i) = rw (some-level d, strayBy)
-open-stray (suc d) (brace i) = rw (some-level d, strayBy)
-open-stray (suc d) (tagging w n) = rw (some-level d, strayBy)
-open-stray (suc d) embedding = rw (some-level d, strayBy)
+open-stray zero n′ (bracket i) = refl
+open-stray zero n′ (brace i) = refl
+open-stray zero n′ (tagging w n) = refl
+open-stray zero n′ embedding = refl
+open-stray (suc d) n′ (bracket i) = rw (some-level d, strayBy)
+open-stray (suc d) n′ (brace i) = rw (some-level d, strayBy)
+open-stray (suc d) n′ (tagging w n) = rw (some-level d, strayBy)
+open-stray (suc d) n′ embedding = rw (some-level d, strayBy)
 
-angle-stray : (d : ℕ) (i : Indicator) → strayBy d 20 (indicatorNumber i) ≡ strayIndicator i
+angle-stray : (d n : ℕ) (i : Indicator) → strayBy d 20 n (indicatorNumber i) ≡ strayIndicator i
 unfolding strayBy indicatorNumber widthNumber strayIndicator
-angle-stray d absent = refl
-angle-stray d indefinitely = refl
-angle-stray d unknown = refl
-angle-stray d (wide w0) = refl
-angle-stray d (wide w1) = refl
-angle-stray d (wide w2) = refl
-angle-stray d (wide w4) = refl
-angle-stray d (wide w8) = refl
+angle-stray d n absent = refl
+angle-stray d n indefinitely = refl
+angle-stray d n unknown = refl
+angle-stray d n (wide w0) = refl
+angle-stray d n (wide w1) = refl
+angle-stray d n (wide w2) = refl
+angle-stray d n (wide w4) = refl
+angle-stray d n (wide w8) = refl
 
-close-stray : (d : ℕ) (h : Shape) (i : Indicator) → strayBy d (shapeCode h) (indicatorNumber i) ≡ strayClosing h i
+close-stray : (d n : ℕ) (h : Shape) (i : Indicator) → strayBy d (shapeCode h) n (indicatorNumber i) ≡ strayClosing h i
 unfolding strayBy shapeCode strayClosing
-close-stray d square i = either-way (eqb d 0)
-close-stray d curly i = either-way (eqb d 0)
-close-stray d round i = either-way (eqb d 0)
-close-stray d angle i = angle-stray d i
-close-stray d whole i = either-way (eqb d 0)
+close-stray d n square i = either-way (eqb d 0)
+close-stray d n curly i = either-way (eqb d 0)
+close-stray d n round i = either-way (eqb d 0)
+close-stray d n angle i = angle-stray d n i
+close-stray d n whole i = either-way (eqb d 0)
 
-stray-is : (n d : ℕ) (tok : Token) (k : ℕ) → Fine n tok k → strayBy d (codeOf tok) (markOf tok) ≡ stray d tok
+stray-is : (n d m : ℕ) (tok : Token) (k : ℕ) → Fine n tok k → strayBy d (codeOf tok) m (markOf tok) ≡ stray d tok
 unfolding codeOf markOf beginCode beginMark kindCode strayBy stray
-stray-is n d (begins (leaf x)) k f = leaf-stray d x f ∙ sym (leaf-flat d x f)
-stray-is n d (begins (literal byteString z b)) k f = either-way (eqb d 0)
-stray-is n d (begins (literal textString z b)) k f = either-way (eqb d 0)
-stray-is n d (begins chunking) k f = either-way (eqb d 0)
-stray-is n d (begins (opens o)) k f = open-stray d o
-stray-is n d (closes h i) k f = close-stray d h i
-stray-is n d aComma k f = either-way (eqb d 0)
-stray-is n d aColon k f = either-way (eqb d 0)
+stray-is n d m (begins (leaf x)) k f = leaf-stray d m x f ∙ sym (leaf-flat d x f)
+stray-is n d m (begins (literal byteString z b)) k f = either-way (eqb d 0)
+stray-is n d m (begins (literal textString z b)) k f = either-way (eqb d 0)
+stray-is n d m (begins chunking) k f = either-way (eqb d 0)
+stray-is n d m (begins (opens o)) k f = open-stray d m o
+stray-is n d m (closes h i) k f = close-stray d m h i
+stray-is n d m aComma k f = either-way (eqb d 0)
+stray-is n d m aColon k f = either-way (eqb d 0)
 
 indicator-known : (i : Indicator) → Known (strayIndicator i)
 unfolding strayIndicator
@@ -254,15 +254,15 @@ stray-known n d aColon k f = eleven
 -- a reader that comes to a token which its rule denies, or to none
 stop-of : {A : Type 0} (v : A → View) (s b b′ : List ℕ) (most pos d at : ℕ) (a : ReadAnswer) (t : Cut) (f : Token → List ℕ → Result A) (u : Result Token)
     → Shown s t u → Cuts (place (drop at (marked s))) u → t .place ≡ length (marked s) - place (drop at (marked s)) → Strayed d t a
-    → ((tok : Token) (r : List ℕ) → t .code ≡ codeOf tok → u ≡ ok tok r → f tok r ≡ refuse (stray d tok) (place (drop at (marked s)))) → ReadTold v s b b′ most pos a (bind u f)
+    → ((tok : Token) (r : List ℕ) → t .kind ≡ codeOf tok → u ≡ ok tok r → f tok r ≡ refuse (stray d tok) (place (drop at (marked s)))) → ReadTold v s b b′ most pos a (bind u f)
 unfolding Shown bind strayBy
 stop-of v s b b′ most pos d at a t f (ok tok r) h c p st g =
-    let e : strayBy d (t .code) (t .indicator) ≡ stray d tok = rw (h .code, h .indicator) (stray-is (place (drop at (marked s)) - 1) d tok (length r) (c .0)) in
-    let k : Known (strayBy d (t .code) (t .indicator)) = rw e (stray-known (place (drop at (marked s)) - 1) d tok (length r) (c .0)) in
+    let e : strayBy d (t .kind) (t .refusal) (t .indicator) ≡ stray d tok = rw (h .code, h .indicator) (stray-is (place (drop at (marked s)) - 1) d (t .refusal) tok (length r) (c .0)) in
+    let k : Known (strayBy d (t .kind) (t .refusal) (t .indicator)) = rw e (stray-known (place (drop at (marked s)) - 1) d tok (length r) (c .0)) in
     told-no (stray d tok) (place (drop at (marked s))) _ (g tok r (h .code) refl)
     (record { refusal = st .refusal; is = st .is; number = st .number (k .low) (k .high) ∙ e; place = st .place ∙ p })
 stop-of v s b b′ most pos d at a t f (refuse k q) h c p st g =
-    let e : strayBy d (t .code) (t .indicator) ≡ k = rw (h .code) (h .kind) in
+    let e : strayBy d (t .kind) (t .refusal) (t .indicator) ≡ k = rw (h .code) (h .refusal) in
     told-no k q _ refl
     (record {
       refusal = st .refusal;
@@ -273,6 +273,6 @@ stop-of v s b b′ most pos d at a t f (refuse k q) h c p st g =
 
 pub told-stop : {A : Type 0} {v : A → View} {s b b′ : List ℕ} {most pos at : ℕ} {a : ReadAnswer} {t : Cut} (d : ℕ) (f : Token → List ℕ → Result A) (res : Result A)
     → Took s at t → Strayed d t a → res ≡ bind (next (drop at (marked s))) f
-    → ((tok : Token) (r : List ℕ) → t .code ≡ codeOf tok → next (drop at (marked s)) ≡ ok tok r → f tok r ≡ refuse (stray d tok) (place (drop at (marked s)))) → ReadTold v s b b′ most pos a res
+    → ((tok : Token) (r : List ℕ) → t .kind ≡ codeOf tok → next (drop at (marked s)) ≡ ok tok r → f tok r ≡ refuse (stray d tok) (place (drop at (marked s)))) → ReadTold v s b b′ most pos a res
 told-stop {A} {v} {s} {b} {b′} {most} {pos} {at} {a} {t} d f res tk st q g =
     rw q (stop-of v s b b′ most pos d at a t f _ (tk .shown) (next-fine (drop at (marked s))) (place-at tk) st g)

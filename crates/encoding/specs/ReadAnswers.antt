@@ -165,7 +165,7 @@ unfoldable pub majorBy : ℕ → ℕ
 majorBy c = elim (eqb c 1) [ true ↦ 0 | false ↦ elim (eqb c 2) [ true ↦ 1 | false ↦ elim (eqb c 3) [ true ↦ 7 | false ↦ elim (eqb c 4) [ true ↦ 3 | false ↦ elim (eqb c 5) [ true ↦ 2 | false ↦ 6 ] ] ] ] ]
 
 unfoldable pub initialBy : Cut → ℕ
-initialBy t = majorBy (t .code) * 32 + infoBy (t .indicator) (t .number)
+initialBy t = majorBy (t .kind) * 32 + infoBy (t .indicator) (t .argument)
 
 pub record MajorBy (c r : ℕ) : Type 0 where
   pub is : r ≡ majorBy c
@@ -177,10 +177,10 @@ pub record HeadSize (i r : ℕ) : Type 0 where
   pub most : r ≤ 9
 
 -- the number of a token that may not stand where it does; of what is no token its own
-unfoldable pub strayBy : ℕ → ℕ → ℕ → ℕ
-strayBy d code mark =
+unfoldable pub strayBy : ℕ → ℕ → ℕ → ℕ → ℕ
+strayBy d code refusal mark =
     elim (eqb code 0) [
-      | true ↦ mark
+      | true ↦ refusal
       | false ↦ elim (eqb code 20) [
         | true ↦ elim (eqb mark 1) [ true ↦ badIndicator | false ↦ elim (eqb mark 2) [ true ↦ badIndicator | false ↦ notAllowed ] ]
         | false ↦ elim (eqb d 0) [
@@ -279,7 +279,7 @@ pub record ChunksTold (kind : ℕ) (s b b′ : List ℕ) (most pos : ℕ) (a : R
 pub record Strayed (d : ℕ) (t : Cut) (a : ReadAnswer) : Type 0 where
   pub refusal : Refusal
   pub is : a ≡ Refused refusal
-  pub number : 1 ≤ strayBy d (t .code) (t .indicator) → strayBy d (t .code) (t .indicator) ≤ 17 → kindNumber (refusal .kind) ≡ strayBy d (t .code) (t .indicator)
+  pub number : 1 ≤ strayBy d (t .kind) (t .refusal) (t .indicator) → strayBy d (t .kind) (t .refusal) (t .indicator) ≤ 17 → kindNumber (refusal .kind) ≡ strayBy d (t .kind) (t .refusal) (t .indicator)
   pub place : refusal .place ≡ t .place
 
 -- a refusal by a number
@@ -307,20 +307,20 @@ pub record HeadWritten (b b′ : List ℕ) (pos first n r : ℕ) : Type 0 where
 
 -- a leaf: its head
 pub record Leafed (t : Cut) (b b′ : List ℕ) (pos : ℕ) (a : ReadAnswer) : Type 0 where
-  pub is : a ≡ Made (record { next = t .next; size = length (headBytes (initialBy t) (t .number)); count = 1; indicator = 0; binary = false; length = 0 })
-  pub wrote : Wrote b b′ pos (headBytes (initialBy t) (t .number))
+  pub is : a ≡ Made (record { next = t .next; size = length (headBytes (initialBy t) (t .argument)); count = 1; indicator = 0; binary = false; length = 0 })
+  pub wrote : Wrote b b′ pos (headBytes (initialBy t) (t .argument))
 
 -- a string's head and content
 pub record Stringed (s : List ℕ) (t : Cut) (b b′ : List ℕ) (pos size : ℕ) : Type 0 where
-  pub size-is : size ≡ length (headBytes (initialBy t) (t .number)) + t .number
-  pub wrote : (c : List ℕ) → t .number ≡ length c → Spelled s (t .form) (t .start) (t .stop) c → Wrote b b′ pos (headBytes (initialBy t) (t .number) ++ c)
+  pub size-is : size ≡ length (headBytes (initialBy t) (t .argument)) + t .argument
+  pub wrote : (c : List ℕ) → t .argument ≡ length c → Spelled s (t .form) (t .start) (t .stop) c → Wrote b b′ pos (headBytes (initialBy t) (t .argument) ++ c)
   pub same : length b′ ≡ length b
 
 -- a literal: t is one of the kind k, of a size z, which holds c
 pub record LiteralIs (s : List ℕ) (t : Cut) (k : Kind) (z : Size) (c : List ℕ) : Type 0 where
-  pub code : t .code ≡ kindCode k
+  pub code : t .kind ≡ kindCode k
   pub size : t .indicator ≡ sizeNumber z
-  pub number : t .number ≡ length c
+  pub number : t .argument ≡ length c
   pub spelled : Spelled s (t .form) (t .start) (t .stop) c
   pub fit : (w : Width) → z ≡ definite w → length c ≤ limit w
 

@@ -71,11 +71,11 @@ pub fn listed(next: usize, size: usize, count: usize, indicator: u8) -> ReadAnsw
 }
 
 // The number of the refusal of a token that may not stand where it does, or of what is no token.
-pub(crate) fn stray_number(levels: usize, kind: u8, indicator: u8) -> u8
-    ensures { λ r. ⌜ r ≡ strayBy levels kind indicator ⌝ }
+pub(crate) fn stray_number(levels: usize, kind: u8, refusal: u8, indicator: u8) -> u8
+    ensures { λ r. ⌜ r ≡ strayBy levels kind refusal indicator ⌝ }
 {
     if kind == NO_TOKEN {
-        return indicator;
+        return refusal;
     }
     if kind == GREATER {
         return match indicator {
@@ -99,7 +99,7 @@ pub(crate) fn stray_number(levels: usize, kind: u8, indicator: u8) -> u8
 pub fn strayed(levels: usize, t: Token) -> ReadAnswer
     ensures { λ r. ⌜ Strayed levels t r ⌝ }
 {
-    let kind = kind_of(stray_number(levels, t.code, t.indicator));
+    let kind = kind_of(stray_number(levels, t.kind, t.refusal, t.indicator));
     ReadAnswer::Refused(Refusal {
         kind,
         place: t.place,

@@ -24,7 +24,7 @@ ghost use mathlib.Core.Path.{_≡_};
 ghost use Rattle.encoding.specs.ReadAnswers.{Informed, initialBy, MajorBy, HeadSize, HeadWritten, Leafed};
 
 // The additional information of a head, by the width of its argument; NONE: the shortest.
-pub(crate) fn info_by(width: u8, n: u64) -> u8
+pub fn info_by(width: u8, n: u64) -> u8
     ensures { λ r. ⌜ Informed width n r ⌝ }
 {
     match width {
@@ -56,8 +56,8 @@ pub fn major_by(kind: u8) -> u8
 pub fn initial(t: Token) -> u8
     ensures { λ r. ⌜ r ≡ initialBy t ⌝ }
 {
-    let major = major_by(t.code);
-    let info = info_by(t.indicator, t.number);
+    let major = major_by(t.kind);
+    let info = info_by(t.indicator, t.argument);
     major * 32 + info
 }
 
@@ -85,6 +85,6 @@ pub fn put_head(buf: &mut [u8], pos: usize, first: u8, n: u64) -> usize
 pub fn leaf(t: Token, buf: &mut [u8], pos: usize) -> ReadAnswer
     ensures { λ r. ⌜ Leafed t (now (buf .entry)) (now (buf .exit)) pos r ⌝ }
 {
-    let size = put_head(buf, pos, initial(t), t.number);
+    let size = put_head(buf, pos, initial(t), t.argument);
     done(t.next, size, false, 0)
 }

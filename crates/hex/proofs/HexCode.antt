@@ -6,7 +6,7 @@ use mathlib.Core.Bool.{Bool, true, false}
 use Prim.Native.Nat.{ℕ, zero, suc, _+_, _-_, _*_, _/_, _≤_, _<_, min}
 use native.Mathlib.Numerals.{add-one}
 use native.Mathlib.Omega.{arith}
-use lib.Dec.{T, leb, eqb}
+use lib.Dec.{T, leb, eqb, leb→le}
 use lib.ListN.{length, take, drop, getD}
 use mir.Syntax.{w32 as bits32, w64 as bits64}
 use mir.Val.{Fits}
@@ -17,12 +17,12 @@ use Rattle.scanning.specs.Stands.{span}
 use Rattle.literal_body.specs.LiteralAnswers.{digitNumber, Put}
 use Rattle.literal_body.specs.LiteralReading.{Before, Within, Yields, Progressed, DecodesInto}
 use Rattle.literal_body.specs.declared.Progress.{Progress}
-use Rattle.hex.specs.HexAnswers.{Blank, Gaps, ByteRead, pairWeight, Weighs, HexDigits, PairsPut}
+use Rattle.hex.specs.HexAnswers.{Blank, Gap, Gaps, ByteRead, pairWeight, Weighs, PairThere, HexDigits, PairsPut}
 use Rattle.hex.specs.declared.HexByte.{HexByte}
-use Rattle.literal_body.proofs.LiteralCode.{true-false, digit-yes, digit-no, digit-number}
+use Rattle.literal_body.proofs.LiteralCode.{put-none, true-false, digit-yes, digit-no, digit-number}
 use Rattle.literal_body.proofs.MatchCode.{arm}
-use Rattle.literal_body.proofs.ReadingCode.{span-step, span-over, progress-start, progress-more, progress-append, decodes-good, decodes-bad}
-use Rattle.hex.proofs.DigitCode.{digit-small, digit-front, two-digits, pair-yields}
+use Rattle.literal_body.proofs.ReadingCode.{span-step, span-over, yields-none, progress-start, progress-more, progress-append, decodes-good, decodes-bad}
+use Rattle.hex.proofs.DigitCode.{digit-front, two-digits, pair-yields}
 use Rattle.hex.proofs.PairsCode.{run-within}
 
 -- PAIRS
@@ -30,20 +30,17 @@ use Rattle.hex.proofs.PairsCode.{run-within}
 unfoldable pub weighs : ℕ → ℕ → Bool
 weighs k x = eqb x (pairWeight k)
 
-pub weight-key : {b r k : ℕ} → b ≡ k → T (weighs k r) → Weighs b r
+pub weight-key : {b r k : ℕ} → b ≡ k → T (weighs k r) → T (leb r 15) → Weighs b r
 unfolding weighs
-weight-key e t = record { is = arm pairWeight e t }
+weight-key {r = r} e t l = let m = leb→le r 15 l in record { is = λ h. arm pairWeight e t; most = omega arith }
 
-abbrev pub weightKeys : List ℕ
-weightKeys = 0x30 ∷ 0x31 ∷ 0x32 ∷ 0x33 ∷ 0x34 ∷ 0x35 ∷ 0x36 ∷ 0x37 ∷ 0x38 ∷ 0x39 ∷ 0x41 ∷ 0x42 ∷ 0x43 ∷ 0x44 ∷ 0x45 ∷ 0x46 ∷ 0x61 ∷ 0x62 ∷ 0x63 ∷ 0x64 ∷ 0x65 ∷ 0x66 ∷ []
+pub weight-none : {b : ℕ} → Weighs b 512
+weight-none = record { is = λ h. absurd (omega arith); most = omega arith }
 
-weight-most : (b : ℕ) → pairWeight b ≤ 256
-unfolding pairWeight
-weight-most b = go (isDigit 16 b) refl
-  where
-    go : (t : Bool) → isDigit 16 b ≡ t → elim t [ true ↦ digitValue b | false ↦ 256 ] ≤ 256
-    go true e = omega (arith, digit-small b e)
-    go false e = omega arith
+pub weight-rest : {b : ℕ} → Weighs b 256
+weight-rest = record { is = λ h. absurd (omega arith); most = omega arith }
+
+pub ruleset weight-ways = (weight-key, weight-none, weight-rest)
 
 weight-digit : (b : ℕ) → pairWeight b < 256 → (isDigit 16 b ≡ true) × (pairWeight b ≡ digitValue b)
 unfolding pairWeight
@@ -58,41 +55,44 @@ weighed s at zero = 0
 weighed s at (suc k) = weighed s at k * 16 + pairWeight (getD s (at + k) 0)
 
 pub record Weighed (s : List ℕ) (at k w : ℕ) : Type 0 where
-  pub is : w ≡ weighed s at k
+  pub is : w < 256 → w ≡ weighed s at k
   pub most : k ≤ 2
-  pub small : k < 2 → w ≤ 256
+  pub small : k < 2 → w ≤ 512 * k
 
 pub weighed-start : (s : List ℕ) (at : ℕ) → Weighed s at 0 0
 unfolding weighed
-weighed-start s at = record { is = refl; most = omega arith; small = λ h. omega arith }
+weighed-start s at = record { is = λ h. refl; most = omega arith; small = λ h. omega arith }
 
 module _ {s : List ℕ} {at k w : ℕ} (inv : Weighed s at k w) where
   module _ (h : k < 2) where
+    weighed-most : w ≤ 512
+    weighed-most = omega (arith, inv .small h)
+
     pub weighed-high : Fits bits32 (w * 16)
-    weighed-high = record { fits = omega (arith, inv .small h) }
+    weighed-high = record { fits = omega (arith, weighed-most) }
 
     module _ {v : ℕ} (x : Weighs (getD s (at + k) 0) v) where
-      e : v ≡ pairWeight (getD s (at + k) 0)
-      e = x .is
-
       pub weighed-sum : Fits bits32 (w * 16 + v)
-      weighed-sum = record { fits = omega (arith, inv .small h, weight-most (getD s (at + k) 0)) }
+      weighed-sum = record { fits = omega (arith, weighed-most, x .most) }
+
+      next-is : w * 16 + v < 256 → w * 16 + v ≡ weighed s at (suc k)
+      unfolding weighed
+      next-is l = let a = inv .is (omega arith) in let b = x .is (omega arith) in λ i. a i * 16 + b i
 
       pub weighed-on : Weighed s at (k + 1) (w * 16 + v)
-      unfolding weighed
-      weighed-on = record { is = rw (add-one k) (λ i. inv .is i * 16 + e i); most = omega arith; small = λ g. first (omega arith) }
+      weighed-on = record { is = rw (add-one k) next-is; most = omega arith; small = grows }
         where
-          first : k ≡ 0 → w * 16 + v ≤ 256
-          first z = let y : w ≡ 0 = inv .is ∙ ap (weighed s at) z in omega (arith, weight-most (getD s (at + k) 0))
+          grows : k + 1 < 2 → w * 16 + v ≤ 512 * (k + 1)
+          grows l = omega (arith, inv .small h, x .most)
 
-  pub weighed-end : 2 ≤ k → w ≡ pairWeight (getD s at 0) * 16 + pairWeight (getD s (at + 1) 0)
+  pub weighed-end : 2 ≤ k → PairThere s at w
   unfolding weighed
   weighed-end l =
       let e : k ≡ 2 = omega (arith, inv .most) in
       let z : at + 0 ≡ at = omega arith in
       let f : weighed s at k ≡ (0 * 16 + pairWeight (getD s (at + 0) 0)) * 16 + pairWeight (getD s (at + 1) 0) = ap (weighed s at) e in
       let g : pairWeight (getD s (at + 0) 0) ≡ pairWeight (getD s at 0) = ap (λ (i : ℕ). pairWeight (getD s i 0)) z in
-      omega (arith, inv .is)
+      record { is = λ u. omega (arith, inv .is u) }
 
 word-yields : (s : List ℕ) (at stop w : ℕ) → at + 2 ≤ stop → stop ≤ length s → w ≡ pairWeight (getD s at 0) * 16 + pairWeight (getD s (at + 1) 0) → w < 256 → Yields hexContent s stop at (at + 2) (w ∷ [])
 word-yields s at stop w h l e g =
@@ -109,9 +109,17 @@ yields-blank {ws = ws} x y =
 
 -- the loop over pairs
 module _ {s : List ℕ} {stop from : ℕ} {b b₁ : List ℕ} {pos at p size : ℕ} (i : Within s from stop) (inv : Progressed hexContent s stop from b b₁ pos (record { next = at; pos = p; size = size })) where
-  pub close-on : {b₂ : List ℕ} {w p′ r : ℕ} → 2 ≤ stop - at → w ≡ pairWeight (getD s at 0) * 16 + pairWeight (getD s (at + 1) 0) → w < 256 → Put b₁ b₂ p p′ (w ∷ []) → Blank s stop (at + 2) r
+  pub close-on : {b₂ : List ℕ} {w p′ r : ℕ} → 2 ≤ stop - at → PairThere s at w → w < 256 → Put b₁ b₂ p p′ (w ∷ []) → Blank s stop (at + 2) r
       → Progressed hexContent s stop from b b₂ pos (record { next = r; pos = p′; size = size + 1 })
-  close-on {b₂} {w} {p′} {r} h e g x y = progress-more inv (yields-blank (word-yields s at stop w (omega arith) (i .inside) e g) y) x refl
+  close-on {b₂} {w} {p′} {r} h e g x y = progress-more inv (yields-blank (word-yields s at stop w (omega arith) (i .inside) (e .is g) g) y) x refl
+
+-- a blank or a comment between them
+module _ {s : List ℕ} {stop from : ℕ} {b b₁ : List ℕ} {pos at p size r : ℕ} (y : Gap s stop at r) where
+  pub close-gap : Progressed hexContent s stop from b b₁ pos (record { next = at; pos = p; size = size }) → Progressed hexContent s stop from b b₁ pos (record { next = r; pos = p; size = size })
+  close-gap inv = let k : size + 0 ≡ size = omega arith in rw k at (progress-more {n = 0} inv (yields-blank yields-none (y .blank)) (put-none b₁ p) refl)
+
+pub close-less : {s : List ℕ} {stop at r : ℕ} → Gap s stop at r → 2 ≤ stop - at → (r ≡ at → ⊥) → stop - r < stop - at
+close-less y l n = omega (arith, y .blank .ahead)
 
 -- A BYTE
 

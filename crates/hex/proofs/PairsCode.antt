@@ -20,7 +20,7 @@ use Rattle.notation.specs.Literals.{standsFor, after, hexContent, hexFrom, half
 use Rattle.scanning.specs.Stands.{span}
 use Rattle.literal_body.specs.LiteralAnswers.{digitNumber, Put}
 use Rattle.literal_body.specs.LiteralReading.{Yields}
-use Rattle.hex.specs.HexAnswers.{DigitStop, DigitBlock, HexDigits, Sixteen, pairBytes, PairsPut}
+use Rattle.hex.specs.HexAnswers.{DigitStop, DigitBlock, HexDigits, BlockValues, pairBytes, PairsPut}
 use Rattle.literal_body.proofs.LiteralCode.{digit-decimal, digit-upper, digit-lower, digit-yes, put-none, put-one, put-more}
 use Rattle.literal_body.proofs.ReadingCode.{span-over, yields-none, yields-more}
 use Rattle.hex.proofs.DigitCode.{digit-small, pair-yields}
@@ -124,14 +124,14 @@ run-within a c x h l k = record { is = λ j g u. x .is j (omega arith) (omega ar
 
 pub record Values (s : List ℕ) (from i : ℕ) (t : List ℕ) : Type 0 where
   pub is : (j : ℕ) → j < i → getD t j 0 ≡ digitValue (getD s (from + j) 0)
-  pub size : length t ≡ 16
+  pub size : length t ≡ 32
   pub small : (j : ℕ) → j < i → getD t j 0 < 16
 
-pub values-start : {s : List ℕ} {from : ℕ} (t : List ℕ) → length t ≡ 16 → Values s from 0 t
+pub values-start : {s : List ℕ} {from : ℕ} (t : List ℕ) → length t ≡ 32 → Values s from 0 t
 values-start t e = record { is = λ j h. absurd (omega arith); size = e; small = λ j h. absurd (omega arith) }
 
 module _ {s : List ℕ} {from i : ℕ} {t : List ℕ} (inv : Values s from i t) where
-  pub values-on : {v : ℕ} → HexDigits s from (from + 16) → i < 16 → v ≡ digitValue (getD s (from + i) 0) → Values s from (i + 1) (set t i v)
+  pub values-on : {v : ℕ} → HexDigits s from (from + 32) → i < 32 → v ≡ digitValue (getD s (from + i) 0) → Values s from (i + 1) (set t i v)
   values-on {v} x h e =
       let l : i < length t = omega (arith, inv .size) in
       let d : v < 16 = rw e (digit-small (getD s (from + i) 0) (x .is (from + i) (omega arith) (omega arith))) in
@@ -144,10 +144,10 @@ module _ {s : List ℕ} {from i : ℕ} {t : List ℕ} (inv : Values s from i t) 
         small = below-more (λ j. getD (set t i v) j 0 < 16) i (λ j g. rw (getD-set-other t i j v 0 (λ z. omega arith)) (inv .small j g)) (rw same d);
       }
 
-  pub values-digit : HexDigits s from (from + 16) → i < 16 → isDigit 16 (getD s (from + i) 0) ≡ true
+  pub values-digit : HexDigits s from (from + 32) → i < 32 → isDigit 16 (getD s (from + i) 0) ≡ true
   values-digit x h = x .is (from + i) (omega arith) (omega arith)
 
-  pub values-end : 16 ≤ i → Sixteen s from t
+  pub values-end : 32 ≤ i → BlockValues s from t
   values-end h = record { is = λ j g. inv .is j (omega arith); small = λ j g. inv .small j (omega arith) }
 
 -- BYTES OF PAIRS
@@ -198,25 +198,25 @@ module _ {s : List ℕ} {at : ℕ} (x : HexDigits s at (at + 2)) where
     pair-byte f = record { fits = omega (arith, small, digit-small (getD s (at + 1) 0) pair-second) }
 
 -- eight of them
-pub record Eight (s : List ℕ) (from : ℕ) (b : List ℕ) (p j : ℕ) (b′ : List ℕ) : Type 0 where
+pub record BlockPut (s : List ℕ) (from : ℕ) (b : List ℕ) (p j : ℕ) (b′ : List ℕ) : Type 0 where
   pub put : Put b b′ p (p + j) (pairBytes s from j)
-  pub most : j ≤ 8
-  pub fits : p + 8 ≤ length b
+  pub most : j ≤ 16
+  pub fits : p + 16 ≤ length b
   pub same : length b′ ≡ length b
 
-pub eight-start : (s : List ℕ) (from : ℕ) (b : List ℕ) (p : ℕ) → p ≤ length b → 8 ≤ length b - p → Eight s from b p 0 b
+pub block-start : (s : List ℕ) (from : ℕ) (b : List ℕ) (p : ℕ) → p ≤ length b → 16 ≤ length b - p → BlockPut s from b p 0 b
 unfolding pairBytes
-eight-start s from b p g h = let z : p + 0 ≡ p = omega arith in record { put = rw z (put-none b p); most = omega arith; fits = omega arith; same = refl }
+block-start s from b p g h = let z : p + 0 ≡ p = omega arith in record { put = rw z (put-none b p); most = omega arith; fits = omega arith; same = refl }
 
-module _ {s : List ℕ} {from : ℕ} {t : List ℕ} (x : Sixteen s from t) {j : ℕ} (h : j < 8) where
-  pub eight-high : Fits bits8 (getD t (2 * j) 0 * 16)
-  eight-high = record { fits = omega (arith, x .small (2 * j) (omega arith)) }
+module _ {s : List ℕ} {from : ℕ} {t : List ℕ} (x : BlockValues s from t) {j : ℕ} (h : j < 16) where
+  pub block-high : Fits bits8 (getD t (2 * j) 0 * 16)
+  block-high = record { fits = omega (arith, x .small (2 * j) (omega arith)) }
 
-  pub eight-byte : Fits bits8 (getD t (2 * j) 0 * 16 + getD t (2 * j + 1) 0)
-  eight-byte = record { fits = omega (arith, x .small (2 * j) (omega arith), x .small (2 * j + 1) (omega arith)) }
+  pub block-byte : Fits bits8 (getD t (2 * j) 0 * 16 + getD t (2 * j + 1) 0)
+  block-byte = record { fits = omega (arith, x .small (2 * j) (omega arith), x .small (2 * j + 1) (omega arith)) }
 
-  pub eight-on : {b b′ : List ℕ} {p : ℕ} → Eight s from b p j b′ → Eight s from b p (j + 1) (set b′ (p + j) (getD t (2 * j) 0 * 16 + getD t (2 * j + 1) 0))
-  eight-on {b} {b′} {p} y =
+  pub block-on : {b b′ : List ℕ} {p : ℕ} → BlockPut s from b p j b′ → BlockPut s from b p (j + 1) (set b′ (p + j) (getD t (2 * j) 0 * 16 + getD t (2 * j + 1) 0))
+  block-on {b} {b′} {p} y =
       let v = getD t (2 * j) 0 * 16 + getD t (2 * j + 1) 0 in
       let e : getD t (2 * j) 0 ≡ digitValue (getD s (from + 2 * j) 0) = x .is (2 * j) (omega arith) in
       let a : from + (2 * j + 1) ≡ from + 2 * j + 1 = omega arith in
@@ -229,46 +229,46 @@ module _ {s : List ℕ} {from : ℕ} {t : List ℕ} (x : Sixteen s from t) {j : 
       record { put = k; most = omega arith; fits = y .fits; same = k .same }
 
 module _ (s : List ℕ) (from : ℕ) {b : List ℕ} {p : ℕ} where
-  pub eight-past : length b < p → Put b b p p (pairBytes s from 8)
-  eight-past h = let e = length-pairs s from 8 in record { same = refl; is = λ l. absurd (omega arith); next = λ l. absurd (omega arith) }
+  pub block-past : length b < p → Put b b p p (pairBytes s from 16)
+  block-past h = let e = length-pairs s from 16 in record { same = refl; is = λ l. absurd (omega arith); next = λ l. absurd (omega arith) }
 
-  pub eight-short : length b - p < 8 → p ≤ length b → Put b b p p (pairBytes s from 8)
-  eight-short h g = let e = length-pairs s from 8 in record { same = refl; is = λ l. absurd (omega arith); next = λ l. absurd (omega arith) }
+  pub block-short : length b - p < 16 → p ≤ length b → Put b b p p (pairBytes s from 16)
+  block-short h g = let e = length-pairs s from 16 in record { same = refl; is = λ l. absurd (omega arith); next = λ l. absurd (omega arith) }
 
-pub eight-end : {s : List ℕ} {from : ℕ} {b b′ : List ℕ} {p j : ℕ} → Eight s from b p j b′ → 8 ≤ j → Put b b′ p (p + 8) (pairBytes s from 8)
-eight-end {j = j} y l = let e : j ≡ 8 = omega (arith, y .most) in rw e at (y .put)
+pub block-end : {s : List ℕ} {from : ℕ} {b b′ : List ℕ} {p j : ℕ} → BlockPut s from b p j b′ → 16 ≤ j → Put b b′ p (p + 16) (pairBytes s from 16)
+block-end {j = j} y l = let e : j ≡ 16 = omega (arith, y .most) in rw e at (y .put)
 
-pub ruleset eight-ways = (eight-past, eight-short, eight-end)
+pub ruleset block-ways = (block-past, block-short, block-end)
 
 -- ALL OF THEM: i eights, or i pairs, are written
 
-pub eights-end : (s : List ℕ) (from : ℕ) {i k : ℕ} {b b′ : List ℕ} {p q : ℕ} → i ≤ k → k ≤ i → Put b b′ p q (pairBytes s from (8 * i)) → Put b b′ p q (pairBytes s from (8 * k))
-eights-end s from {i} {k} h g x = let e : i ≡ k = omega arith in rw e at x
+pub blocks-end : (s : List ℕ) (from : ℕ) {i k : ℕ} {b b′ : List ℕ} {p q : ℕ} → i ≤ k → k ≤ i → Put b b′ p q (pairBytes s from (16 * i)) → Put b b′ p q (pairBytes s from (16 * k))
+blocks-end s from {i} {k} h g x = let e : i ≡ k = omega arith in rw e at x
 
-pub eights-start : (s : List ℕ) (from : ℕ) (b : List ℕ) (p : ℕ) → Put b b p p (pairBytes s from (8 * 0))
+pub blocks-start : (s : List ℕ) (from : ℕ) (b : List ℕ) (p : ℕ) → Put b b p p (pairBytes s from (16 * 0))
 unfolding pairBytes
-eights-start s from b p = put-none b p
+blocks-start s from b p = put-none b p
 
-pub eights-on : (s : List ℕ) (from i : ℕ) {b b₁ b₂ : List ℕ} {p q r : ℕ} → Put b b₁ p q (pairBytes s from (8 * i)) → Put b₁ b₂ q r (pairBytes s (from + 16 * i) 8)
-    → Put b b₂ p r (pairBytes s from (8 * (i + 1)))
-eights-on s from i x y =
-    let z : 8 * (i + 1) ≡ 8 * i + 8 = omega arith in
-    let w : from + 16 * i ≡ from + 2 * (8 * i) = omega arith in
-    rw (z, pairs-append s from (8 * i) 8, ← w) (put-more x y)
+pub blocks-on : (s : List ℕ) (from i : ℕ) {b b₁ b₂ : List ℕ} {p q r : ℕ} → Put b b₁ p q (pairBytes s from (16 * i)) → Put b₁ b₂ q r (pairBytes s (from + 32 * i) 16)
+    → Put b b₂ p r (pairBytes s from (16 * (i + 1)))
+blocks-on s from i x y =
+    let z : 16 * (i + 1) ≡ 16 * i + 16 = omega arith in
+    let w : from + 32 * i ≡ from + 2 * (16 * i) = omega arith in
+    rw (z, pairs-append s from (16 * i) 16, ← w) (put-more x y)
 
 pub pairs-on : (s : List ℕ) (from i : ℕ) {b b₁ b₂ : List ℕ} {p q r : ℕ} → Put b b₁ p q (pairBytes s from i) → Put b₁ b₂ q r (pairBytes s (from + 2 * i) 1)
     → Put b b₂ p r (pairBytes s from (i + 1))
 pairs-on s from i x y = rw (pairs-append s from i 1) (put-more x y)
 
 module _ {s : List ℕ} {from : ℕ} where
-  pub eight-digits : {k i : ℕ} → HexDigits s from (from + 16 * k) → i < k → HexDigits s (from + 16 * i) (from + 16 * i + 16)
-  eight-digits {k} {i} x h = run-within (from + 16 * i) (from + 16 * i + 16) x (omega arith) (omega arith) (omega arith)
+  pub block-digits : {k i : ℕ} → HexDigits s from (from + 32 * k) → i < k → HexDigits s (from + 32 * i) (from + 32 * i + 32)
+  block-digits {k} {i} x h = run-within (from + 32 * i) (from + 32 * i + 32) x (omega arith) (omega arith) (omega arith)
 
   pub pair-digits : {n i : ℕ} → HexDigits s from (from + 2 * n) → i < n → HexDigits s (from + 2 * i) (from + 2 * i + 2)
   pair-digits {n} {i} x h = run-within (from + 2 * i) (from + 2 * i + 2) x (omega arith) (omega arith) (omega arith)
 
-  pub eights-digits : (n : ℕ) → HexDigits s from (from + 2 * n) → HexDigits s from (from + 16 * (n / 8))
-  eights-digits n x = run-within from (from + 16 * (n / 8)) x (omega arith) (omega arith) (omega arith)
+  pub blocks-digits : (n : ℕ) → HexDigits s from (from + 2 * n) → HexDigits s from (from + 32 * (n / 16))
+  blocks-digits n x = run-within from (from + 32 * (n / 16)) x (omega arith) (omega arith) (omega arith)
 
 -- what they stand for
 pairs-yields : (s : List ℕ) (from n stop : ℕ) → HexDigits s from (from + 2 * n) → from + 2 * n ≤ stop → stop ≤ length s → Yields hexContent s stop from (from + 2 * n) (pairBytes s from n)
@@ -288,20 +288,20 @@ singly-start s from b p = put-none b p
 pub singly-end : (s : List ℕ) (from : ℕ) {i n : ℕ} {b b′ : List ℕ} {p q : ℕ} → i ≤ n → n ≤ i → Put b b′ p q (pairBytes s from i) → Put b b′ p q (pairBytes s from n)
 singly-end s from {i} {n} h g x = let e : i ≡ n = omega arith in rw e at x
 
-pub rest-digits : {s : List ℕ} {from : ℕ} (n : ℕ) → HexDigits s from (from + 2 * n) → HexDigits s (from + 16 * (n / 8)) (from + 16 * (n / 8) + 2 * (n % 8))
-rest-digits {s} {from} n x = run-within (from + 16 * (n / 8)) (from + 16 * (n / 8) + 2 * (n % 8)) x (omega arith) (omega arith) (omega arith)
+pub rest-digits : {s : List ℕ} {from : ℕ} (n : ℕ) → HexDigits s from (from + 2 * n) → HexDigits s (from + 32 * (n / 16)) (from + 32 * (n / 16) + 2 * (n % 16))
+rest-digits {s} {from} n x = run-within (from + 32 * (n / 16)) (from + 32 * (n / 16) + 2 * (n % 16)) x (omega arith) (omega arith) (omega arith)
 
-pub pairs-put : {s : List ℕ} {from : ℕ} {b b₁ b₂ : List ℕ} {p q r : ℕ} (n : ℕ) → HexDigits s from (from + 2 * n) → Put b b₁ p q (pairBytes s from (8 * (n / 8)))
-    → Put b₁ b₂ q r (pairBytes s (from + 16 * (n / 8)) (n % 8)) → PairsPut s from n b b₂ p r
+pub pairs-put : {s : List ℕ} {from : ℕ} {b b₁ b₂ : List ℕ} {p q r : ℕ} (n : ℕ) → HexDigits s from (from + 2 * n) → Put b b₁ p q (pairBytes s from (16 * (n / 16)))
+    → Put b₁ b₂ q r (pairBytes s (from + 32 * (n / 16)) (n % 16)) → PairsPut s from n b b₂ p r
 unfolding after span hexContent hexFrom halfEnd
 pairs-put {s} {from} {b} {b₁} {b₂} {p} {q} {r} n x y z =
     let k : from + 2 * n - from ≡ 2 * n = omega arith in
     let d = pairs-yields s from n (from + 2 * n) x (omega arith) (x .inside) .is in
     let o : hexContent (span (from + 2 * n) (from + 2 * n) s) ≡ standsFor [] = ap hexContent (span-over s (from + 2 * n) (from + 2 * n) (omega arith)) in
-    let e : n ≡ 8 * (n / 8) + n % 8 = omega arith in
-    let f : from + 16 * (n / 8) ≡ from + 2 * (8 * (n / 8)) = omega arith in
-    let g : pairBytes s from n ≡ pairBytes s from (8 * (n / 8)) ++ pairBytes s (from + 16 * (n / 8)) (n % 8) =
-    ap (pairBytes s from) e ∙ pairs-append s from (8 * (n / 8)) (n % 8) ∙ ap (λ (i : ℕ). pairBytes s from (8 * (n / 8)) ++ pairBytes s i (n % 8)) (sym f) in
+    let e : n ≡ 16 * (n / 16) + n % 16 = omega arith in
+    let f : from + 32 * (n / 16) ≡ from + 2 * (16 * (n / 16)) = omega arith in
+    let g : pairBytes s from n ≡ pairBytes s from (16 * (n / 16)) ++ pairBytes s (from + 32 * (n / 16)) (n % 16) =
+    ap (pairBytes s from) e ∙ pairs-append s from (16 * (n / 16)) (n % 16) ∙ ap (λ (i : ℕ). pairBytes s from (16 * (n / 16)) ++ pairBytes s i (n % 16)) (sym f) in
     record {
       bytes = pairBytes s from n;
       stand = (rw k at d) ∙ ap (after (pairBytes s from n)) o ∙ ap standsFor (append-nil (pairBytes s from n));

@@ -54,7 +54,12 @@ unfoldable pub pairWeight : ℕ → ℕ
 pairWeight b = elim (isDigit 16 b) [ true ↦ digitValue b | false ↦ 256 ]
 
 pub record Weighs (b r : ℕ) : Type 0 where
-  pub is : r ≡ pairWeight b
+  pub is : r < 256 → r ≡ pairWeight b
+  pub most : r ≤ 512
+
+-- r is the byte that two digits make, unless it is too large for one
+pub record PairThere (s : List ℕ) (at r : ℕ) : Type 0 where
+  pub is : r < 256 → r ≡ pairWeight (getD s at 0) * 16 + pairWeight (getD s (at + 1) 0)
 
 -- RUNS: r is beyond i only where the byte b is a digit
 pub record DigitStop (b i r : ℕ) : Type 0 where
@@ -72,9 +77,9 @@ pub record HexDigits (s : List ℕ) (from to : ℕ) : Type 0 where
   pub inside : to ≤ length s
 
 -- their values
-pub record Sixteen (s : List ℕ) (from : ℕ) (t : List ℕ) : Type 0 where
-  pub is : (j : ℕ) → j < 16 → getD t j 0 ≡ digitValue (getD s (from + j) 0)
-  pub small : (j : ℕ) → j < 16 → getD t j 0 < 16
+pub record BlockValues (s : List ℕ) (from : ℕ) (t : List ℕ) : Type 0 where
+  pub is : (j : ℕ) → j < 32 → getD t j 0 ≡ digitValue (getD s (from + j) 0)
+  pub small : (j : ℕ) → j < 32 → getD t j 0 < 16
 
 -- the n bytes that digits from a place on make
 unfoldable pub pairBytes : List ℕ → ℕ → ℕ → List ℕ

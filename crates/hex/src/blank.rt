@@ -28,7 +28,7 @@ fn past_comment(text: &[u8], at: usize, stop: usize, last: u8) -> usize
 }
 
 // Behind a blank or a comment; the place itself where neither stands whole.
-fn past_gap(text: &[u8], at: usize, stop: usize) -> usize
+pub(crate) fn past_gap(text: &[u8], at: usize, stop: usize) -> usize
     requires { ⌜ Before (now text) at stop ⌝ }
     ensures { λ r. ⌜ Gap (now (text .entry)) stop at r ⌝ }
 {

@@ -3,6 +3,7 @@ pub mod blank;
 pub mod pairs;
 
 use crate::blank::after_blank;
+use crate::blank::past_gap;
 use crate::blank::past_gaps;
 use crate::pairs::hex_run;
 use crate::pairs::put_pairs;
@@ -13,15 +14,18 @@ use literal_body::least;
 use literal_body::put;
 ghost use mathlib.Core.Path.{_≡_};
 ghost use mathlib.Core.Bool.{true, false};
-ghost use Prim.Native.Nat.{_+_, _-_, _*_, _≤_, _<_};
-ghost use lib.ListN.{length, take, drop, getD};
+ghost use Prim.Native.Nat.{_+_, _-_, _≤_, _<_};
+ghost use lib.ListN.{length, take, drop};
 ghost use Rattle.notation.specs.Literals.{hexContent};
 ghost use Rattle.literal_body.specs.LiteralAnswers.{Decodes};
 ghost use Rattle.literal_body.specs.LiteralReading.{Before, Within, Progressed, DecodesInto};
-ghost use Rattle.hex.specs.HexAnswers.{pairWeight, Weighs, ByteRead};
+ghost use Rattle.hex.specs.HexAnswers.{Weighs, PairThere, ByteRead};
 
 // What a pair weighs at least in which not both bytes are digits.
 const NO_PAIR: u32 = 256;
+
+// What some bytes weigh that are no digits. With so many arms the table has a row for every byte, and none is tested before it is looked up.
+const NO_DIGIT: u32 = 512;
 
 // What a byte adds to a pair. It is called in one place, so that it is inlined there and becomes a table.
 fn weight(b: u8) -> u32
@@ -50,6 +54,89 @@ fn weight(b: u8) -> u32
         0x64 => 13,
         0x65 => 14,
         0x66 => 15,
+        0x00 => NO_DIGIT,
+        0x01 => NO_DIGIT,
+        0x02 => NO_DIGIT,
+        0x03 => NO_DIGIT,
+        0x04 => NO_DIGIT,
+        0x05 => NO_DIGIT,
+        0x06 => NO_DIGIT,
+        0x07 => NO_DIGIT,
+        0x08 => NO_DIGIT,
+        0x09 => NO_DIGIT,
+        0x0a => NO_DIGIT,
+        0x0b => NO_DIGIT,
+        0x0c => NO_DIGIT,
+        0x0d => NO_DIGIT,
+        0x0e => NO_DIGIT,
+        0x0f => NO_DIGIT,
+        0x10 => NO_DIGIT,
+        0x11 => NO_DIGIT,
+        0x12 => NO_DIGIT,
+        0x13 => NO_DIGIT,
+        0x14 => NO_DIGIT,
+        0x15 => NO_DIGIT,
+        0x16 => NO_DIGIT,
+        0x17 => NO_DIGIT,
+        0x18 => NO_DIGIT,
+        0x19 => NO_DIGIT,
+        0x1a => NO_DIGIT,
+        0x1b => NO_DIGIT,
+        0x1c => NO_DIGIT,
+        0x1d => NO_DIGIT,
+        0x1e => NO_DIGIT,
+        0x1f => NO_DIGIT,
+        0x20 => NO_DIGIT,
+        0x21 => NO_DIGIT,
+        0x22 => NO_DIGIT,
+        0x23 => NO_DIGIT,
+        0x24 => NO_DIGIT,
+        0x25 => NO_DIGIT,
+        0x26 => NO_DIGIT,
+        0x27 => NO_DIGIT,
+        0x28 => NO_DIGIT,
+        0x29 => NO_DIGIT,
+        0x2a => NO_DIGIT,
+        0x2b => NO_DIGIT,
+        0x2c => NO_DIGIT,
+        0x2d => NO_DIGIT,
+        0x2e => NO_DIGIT,
+        0x2f => NO_DIGIT,
+        0x3a => NO_DIGIT,
+        0x3b => NO_DIGIT,
+        0x3c => NO_DIGIT,
+        0x3d => NO_DIGIT,
+        0x3e => NO_DIGIT,
+        0x3f => NO_DIGIT,
+        0x40 => NO_DIGIT,
+        0x47 => NO_DIGIT,
+        0x48 => NO_DIGIT,
+        0x49 => NO_DIGIT,
+        0x4a => NO_DIGIT,
+        0x4b => NO_DIGIT,
+        0x4c => NO_DIGIT,
+        0x4d => NO_DIGIT,
+        0x4e => NO_DIGIT,
+        0x4f => NO_DIGIT,
+        0x50 => NO_DIGIT,
+        0x51 => NO_DIGIT,
+        0x52 => NO_DIGIT,
+        0x53 => NO_DIGIT,
+        0x54 => NO_DIGIT,
+        0x55 => NO_DIGIT,
+        0x56 => NO_DIGIT,
+        0x57 => NO_DIGIT,
+        0x58 => NO_DIGIT,
+        0x59 => NO_DIGIT,
+        0x5a => NO_DIGIT,
+        0x5b => NO_DIGIT,
+        0x5c => NO_DIGIT,
+        0x5d => NO_DIGIT,
+        0x5e => NO_DIGIT,
+        0x5f => NO_DIGIT,
+        0x60 => NO_DIGIT,
+        0x7f => NO_DIGIT,
+        0x80 => NO_DIGIT,
         _ => NO_PAIR,
     }
 }
@@ -57,7 +144,7 @@ fn weight(b: u8) -> u32
 // The byte that two digits side by side make.
 fn pair(text: &[u8], at: usize) -> u32
     requires { ⌜ at + 2 ≤ length (now text) ⌝ }
-    ensures { λ r. ⌜ r ≡ pairWeight (getD (now (text .entry)) at 0) * 16 + pairWeight (getD (now (text .entry)) (at + 1) 0) ⌝ }
+    ensures { λ r. ⌜ PairThere (now (text .entry)) at r ⌝ }
 {
     let mut w: u32 = 0;
     let mut k: usize = 0;
@@ -68,7 +155,7 @@ fn pair(text: &[u8], at: usize) -> u32
     w
 }
 
-// Writes pairs that stand side by side or with one blank between.
+// Writes pairs that stand side by side or with blanks and comments between.
 fn put_close(text: &[u8], from: usize, stop: usize, out: &mut [u8], pos: usize) -> Progress
     requires { ⌜ Within (now text) from stop ⌝ }
     ensures { λ r. ⌜ Progressed hexContent (now (text .entry)) stop from (now (out .entry)) (now (out .exit)) pos r ⌝ }
@@ -78,16 +165,21 @@ fn put_close(text: &[u8], from: usize, stop: usize, out: &mut [u8], pos: usize) 
     let mut size: usize = 0;
     while 2 <= stop - at {
         let w = pair(text, at);
-        if NO_PAIR <= w {
-            return Progress {
-                next: at,
-                pos: p,
-                size,
-            };
+        if w < NO_PAIR {
+            p = put(out, p, w as u8);
+            size += 1;
+            at = after_blank(text, at + 2, stop);
+        } else {
+            let next = past_gap(text, at, stop);
+            if next == at {
+                return Progress {
+                    next: at,
+                    pos: p,
+                    size,
+                };
+            }
+            at = next;
         }
-        p = put(out, p, w as u8);
-        size += 1;
-        at = after_blank(text, at + 2, stop);
     }
     Progress {
         next: at,

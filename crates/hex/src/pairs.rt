@@ -9,7 +9,7 @@ ghost use lib.ListN.{length};
 ghost use Rattle.cbor.specs.Utf8.{_to_, isIn};
 ghost use Rattle.notation.specs.Numbers.{isDigit, digitValue};
 ghost use Rattle.literal_body.specs.LiteralAnswers.{Put};
-ghost use Rattle.hex.specs.HexAnswers.{DigitStop, DigitBlock, HexDigits, Sixteen, pairBytes, PairsPut};
+ghost use Rattle.hex.specs.HexAnswers.{DigitStop, DigitBlock, HexDigits, BlockValues, pairBytes, PairsPut};
 
 fn is_between(b: u8, low: u8, high: u8) -> bool
     ensures { λ r. ⌜ r ≡ isIn (low to high) b ⌝ }
@@ -97,47 +97,47 @@ fn digit(b: u8) -> u8
     b % 16 + b / 64 * 9
 }
 
-fn sixteen(text: &[u8], from: usize) -> [u8; 16]
-    requires { ⌜ HexDigits (now text) from (from + 16) ⌝ }
-    ensures { λ r. ⌜ Sixteen (now (text .entry)) from r ⌝ }
+fn values(text: &[u8], from: usize) -> [u8; 32]
+    requires { ⌜ HexDigits (now text) from (from + 32) ⌝ }
+    ensures { λ r. ⌜ BlockValues (now (text .entry)) from r ⌝ }
 {
-    let mut t = [0u8; 16];
+    let mut t = [0u8; 32];
     let mut i: usize = 0;
-    while i < 16 {
+    while i < 32 {
         t[i] = digit(text[from + i]);
         i += 1;
     }
     t
 }
 
-// Writes the eight bytes of sixteen digits, if they fit, and answers the place behind them.
-fn put_eight(text: &[u8], from: usize, out: &mut [u8], p: usize) -> usize
-    requires { ⌜ HexDigits (now text) from (from + 16) ⌝ }
-    ensures { λ r. ⌜ Put (now (out .entry)) (now (out .exit)) p r (pairBytes (now (text .entry)) from 8) ⌝ }
+// Writes the sixteen bytes of 32 digits, if they fit, and answers the place behind them.
+fn put_block(text: &[u8], from: usize, out: &mut [u8], p: usize) -> usize
+    requires { ⌜ HexDigits (now text) from (from + 32) ⌝ }
+    ensures { λ r. ⌜ Put (now (out .entry)) (now (out .exit)) p r (pairBytes (now (text .entry)) from 16) ⌝ }
 {
     if out.len() < p {
         return p;
     }
-    if out.len() - p < 8 {
+    if out.len() - p < 16 {
         return p;
     }
-    let t = sixteen(text, from);
+    let t = values(text, from);
     let mut j: usize = 0;
-    while j < 8 {
+    while j < 16 {
         out[p + j] = t[2 * j] * 16 + t[2 * j + 1];
         j += 1;
     }
-    p + 8
+    p + 16
 }
 
-fn put_eights(text: &[u8], from: usize, k: usize, out: &mut [u8], pos: usize) -> usize
-    requires { ⌜ HexDigits (now text) from (from + 16 * k) ⌝ }
-    ensures { λ r. ⌜ Put (now (out .entry)) (now (out .exit)) pos r (pairBytes (now (text .entry)) from (8 * k)) ⌝ }
+fn put_blocks(text: &[u8], from: usize, k: usize, out: &mut [u8], pos: usize) -> usize
+    requires { ⌜ HexDigits (now text) from (from + 32 * k) ⌝ }
+    ensures { λ r. ⌜ Put (now (out .entry)) (now (out .exit)) pos r (pairBytes (now (text .entry)) from (16 * k)) ⌝ }
 {
     let mut p = pos;
     let mut i: usize = 0;
     while i < k {
-        p = put_eight(text, from + 16 * i, out, p);
+        p = put_block(text, from + 32 * i, out, p);
         i += 1;
     }
     p
@@ -168,7 +168,7 @@ pub fn put_pairs(text: &[u8], from: usize, n: usize, out: &mut [u8], pos: usize)
     requires { ⌜ HexDigits (now text) from (from + 2 * n) ⌝ }
     ensures { λ r. ⌜ PairsPut (now (text .entry)) from n (now (out .entry)) (now (out .exit)) pos r ⌝ }
 {
-    let k = n / 8;
-    let p = put_eights(text, from, k, out, pos);
-    put_singly(text, from + 16 * k, n % 8, out, p)
+    let k = n / 16;
+    let p = put_blocks(text, from, k, out, pos);
+    put_singly(text, from + 32 * k, n % 16, out, p)
 }

@@ -1,1 +1,2 @@
 pub mod PrintHeads
+pub mod LeafSizes

@@ -98,7 +98,7 @@ pub ruleset name-ways = (name-one, name-two, name-four, name-eight, name-none)
 
 -- INDICATORS
 
-indicator-by : (w : Width) (n : ℕ) (t : Bool) → t ≡ eqb (argumentBytes w) (argumentBytes (shortest n)) → indicatorOf w n ≡ elim t [ true ↦ [] | false ↦ 0x5f ∷ widthName w ∷ [] ]
+pub indicator-by : (w : Width) (n : ℕ) (t : Bool) → t ≡ eqb (argumentBytes w) (argumentBytes (shortest n)) → indicatorOf w n ≡ elim t [ true ↦ [] | false ↦ 0x5f ∷ widthName w ∷ [] ]
 unfolding indicatorOf
 indicator-by w n t e = rw (sym e, indicatorOf)
 
@@ -111,11 +111,11 @@ module _ (i n : ℕ) {b : List ℕ} {pos : ℕ} {t : Bool} (e : t ≡ eqb (argum
     mark-some f g x y = prints-as (ap (λ (k : ℕ). 0x5f ∷ k ∷ []) g ∙ sym (indicator-by (widthBy i) n false (sym f ∙ e))) (prints-more x y)
 
 -- behind a bracket
-size-open : (i n : ℕ) → i ≡ 31 → sizeOf (sizeBy i) n ≡ ascii "_ "
+pub size-open : (i n : ℕ) → i ≡ 31 → sizeOf (sizeBy i) n ≡ ascii "_ "
 unfolding sizeOf sizeBy
 size-open i n e = rw e
 
-size-shut : (i n : ℕ) → (i ≡ 31 → ⊥) → sizeOf (sizeBy i) n ≡ blankBehind (indicatorOf (widthBy i) n)
+pub size-shut : (i n : ℕ) → (i ≡ 31 → ⊥) → sizeOf (sizeBy i) n ≡ blankBehind (indicatorOf (widthBy i) n)
 unfolding sizeOf sizeBy
 size-shut i n e = let z : sizeBy i ≡ definite (widthBy i) = rw (ne-eqb i 31 e, sizeBy) in ap (λ (x : Size). sizeOf x n) z
 
@@ -212,7 +212,7 @@ pub ruleset open-ways = (open-text, open-bytes)
 
 pub ruleset empty-ways = (empty-text, empty-bytes)
 
-string-is : (t : Bool) (w : Width) (s : List ℕ) → openQuote t ++ (contentOf t s ++ (quoteOf t ∷ indicatorOf w (length s))) ≡ printString (kindOf t) w s
+pub string-is : (t : Bool) (w : Width) (s : List ℕ) → openQuote t ++ (contentOf t s ++ (quoteOf t ∷ indicatorOf w (length s))) ≡ printString (kindOf t) w s
 unfolding openQuote contentOf quoteOf kindOf printString
 string-is true w s = refl
 string-is false w s = refl

@@ -1,11 +1,18 @@
 // What is printed of a head: numbers, indicators, quotes, simple values. `info` is the head's additional information.
+use saturating::sum;
 ghost use mathlib.Core.Path.{_≡_};
+ghost use Prim.Native.Nat.{suc, _+_};
+ghost use lib.ListN.{length};
+ghost use Rattle.memory.specs.Sums.{capped};
 ghost use mathlib.Core.List.{[]};
 ghost use lib.Dec.{eqb};
 ghost use Rattle.cbor.specs.Widths.{argumentBytes, shortest};
-ghost use Rattle.notation.specs.Printing.{widthName, indicatorOf, sizeOf, printSimple, printInt, printString, printChunked};
+ghost use Rattle.notation.specs.Printing.{decimalOf, widthName, indicatorOf, sizeOf, printSimple, printInt, printString, printChunked};
 ghost use Rattle.cbor.specs.Flags.{kindOf, signOf};
 ghost use Rattle.text_output.specs.PrintParts.{Prints, widthBy, sizeBy, quoteOf, openQuote, otherSimple};
+
+// Additional information: the length is indefinite.
+const OPEN: u8 = 31;
 
 // Whether the head with this argument is the shortest.
 fn is_shortest(info: u8, n: u64) -> bool
@@ -18,11 +25,11 @@ fn width_name(info: u8) -> u8
     ensures { λ r. ⌜ r ≡ widthName (widthBy info) ⌝ }
 {
     match info {
-        24 => 0x30,
-        25 => 0x31,
-        26 => 0x32,
-        27 => 0x33,
-        _ => 0x69,
+        24 => b'0',
+        25 => b'1',
+        26 => b'2',
+        27 => b'3',
+        _ => b'i',
     }
 }
 
@@ -33,7 +40,7 @@ fn indicator(info: u8, n: u64, out: &mut [u8], pos: usize) -> usize
     if is_shortest(info, n) {
         return pos;
     }
-    let p = text_output::put(out, pos, 0x5f);
+    let p = text_output::put(out, pos, b'_');
     text_output::put(out, p, width_name(info))
 }
 
@@ -41,21 +48,21 @@ fn indicator(info: u8, n: u64, out: &mut [u8], pos: usize) -> usize
 pub fn size_mark(info: u8, n: u64, out: &mut [u8], pos: usize) -> usize
     ensures { λ r. ⌜ Prints (now (out .entry)) (now (out .exit)) pos (sizeOf (sizeBy info) n) r ⌝ }
 {
-    if info == 31 {
+    if info == OPEN {
         return text_output::put_all(b"_ ", out, pos);
     }
     if is_shortest(info, n) {
         return pos;
     }
     let p = indicator(info, n, out, pos);
-    text_output::put(out, p, 0x20)
+    text_output::put(out, p, b' ')
 }
 
 pub fn integer(negative: bool, info: u8, n: u64, out: &mut [u8], pos: usize) -> usize
     ensures { λ r. ⌜ Prints (now (out .entry)) (now (out .exit)) pos (printInt (signOf negative) (widthBy info) n) r ⌝ }
 {
     if negative {
-        let p = text_output::put(out, pos, 0x2d);
+        let p = text_output::put(out, pos, b'-');
         let q = text_output::successor(n, out, p);
         return indicator(info, n, out, q);
     }
@@ -68,7 +75,7 @@ fn other_simple(n: u64, out: &mut [u8], pos: usize) -> usize
 {
     let p = text_output::put_all(b"simple(", out, pos);
     let q = text_output::decimal(n, out, p);
-    text_output::put(out, q, 0x29)
+    text_output::put(out, q, b')')
 }
 
 pub fn simple(n: u64, out: &mut [u8], pos: usize) -> usize
@@ -86,14 +93,14 @@ pub fn simple(n: u64, out: &mut [u8], pos: usize) -> usize
 fn quote(text: bool) -> u8
     ensures { λ r. ⌜ r ≡ quoteOf text ⌝ }
 {
-    if text { 0x22 } else { 0x27 }
+    if text { b'"' } else { b'\'' }
 }
 
 fn open_quote(text: bool, out: &mut [u8], pos: usize) -> usize
     ensures { λ r. ⌜ Prints (now (out .entry)) (now (out .exit)) pos (openQuote text) r ⌝ }
 {
     if text {
-        return text_output::put(out, pos, 0x22);
+        return text_output::put(out, pos, b'"');
     }
     text_output::put_all(b"h'", out, pos)
 }
@@ -116,4 +123,80 @@ pub fn no_chunks(text: bool, out: &mut [u8], pos: usize) -> usize
         return text_output::put_all(b"\"\"_", out, pos);
     }
     text_output::put_all(b"''_", out, pos)
+}
+
+// SIZES of what is not written
+
+fn indicator_size(info: u8, n: u64) -> usize
+    ensures { λ r. ⌜ r ≡ length (indicatorOf (widthBy info) n) ⌝ }
+{
+    if is_shortest(info, n) {
+        return 0;
+    }
+    2
+}
+
+pub fn mark_size(info: u8, n: u64) -> usize
+    ensures { λ r. ⌜ r ≡ length (sizeOf (sizeBy info) n) ⌝ }
+{
+    if info == OPEN {
+        return 2;
+    }
+    if is_shortest(info, n) {
+        return 0;
+    }
+    3
+}
+
+// The digits of the number after n.
+fn successor_size(n: u64) -> usize
+    ensures { λ r. ⌜ r ≡ length (decimalOf (suc n)) ⌝ }
+{
+    if n == 18446744073709551615 {
+        return 20;
+    }
+    text_output::digits(n + 1)
+}
+
+pub fn integer_size(negative: bool, info: u8, n: u64) -> usize
+    ensures { λ r. ⌜ r ≡ capped 0 (length (printInt (signOf negative) (widthBy info) n)) ⌝ }
+{
+    let mark = indicator_size(info, n);
+    if negative {
+        return sum(sum(1, successor_size(n)), mark);
+    }
+    sum(text_output::digits(n), mark)
+}
+
+pub fn simple_size(n: u64) -> usize
+    ensures { λ r. ⌜ r ≡ capped 0 (length (printSimple n)) ⌝ }
+{
+    match n {
+        20 => 5,
+        21 => 4,
+        22 => 4,
+        23 => 9,
+        _ => sum(8, text_output::digits(n)),
+    }
+}
+
+// The quotes of a string.
+fn quotes_size(text: bool) -> usize
+    ensures { λ r. ⌜ r ≡ length (openQuote text) + 1 ⌝ }
+{
+    if text { 2 } else { 3 }
+}
+
+pub fn string_size(bytes: &[u8], info: u8, text: bool) -> usize
+    ensures { λ r. ⌜ r ≡ capped 0 (length (printString (kindOf text) (widthBy info) (now (bytes .entry)))) ⌝ }
+{
+    let quoted = sum(text_output::content_size(bytes, text), quotes_size(text));
+    sum(quoted, indicator_size(info, bytes.len() as u64))
+}
+
+// The same of a text string of n bytes that stand for themselves.
+pub fn plain_size(n: usize, info: u8) -> usize
+    ensures { λ r. ⌜ r ≡ capped 0 (2 + n + length (indicatorOf (widthBy info) n)) ⌝ }
+{
+    sum(sum(2, n), indicator_size(info, n as u64))
 }

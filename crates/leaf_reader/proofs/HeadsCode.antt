@@ -36,7 +36,7 @@ small i n h =
     rw (ne-eqb (i % 32) 24 (λ q. omega arith), headBytes, argumentSize)
     (rw (ne-eqb (i % 32) 25 (λ q. omega arith)) (rw (ne-eqb (i % 32) 26 (λ q. omega arith)) (rw (ne-eqb (i % 32) 27 (λ q. omega arith)))))
 
-single : (major n : ℕ) → n ≤ 23 → shortHead major n ≡ (major * 32 + n) ∷ []
+pub single : (major n : ℕ) → n ≤ 23 → shortHead major n ≡ (major * 32 + n) ∷ []
 unfolding shortHead
 single major n h = ap (λ (x : ℕ). headBytes (major * 32 + x) n) (info-small n h) ∙ small (major * 32 + n) n (omega arith)
 

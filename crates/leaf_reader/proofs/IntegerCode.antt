@@ -36,7 +36,7 @@ use Rattle.leaf_reader.specs.LeafAnswers.{CutAt, LeafMade, LeafTold}
 use Rattle.leaf_reader.specs.LeafParts.{shortHead, HeadMade, Worth, Outside, GoesOn, Ends, EndsAt, Tally, IntegerMajor, argumentBy, Leads, Behind, DigitThere, NumberAt}
 use Rattle.leaf_reader.specs.declared.LeafRead.{LeafRead as LeafS}
 use Rattle.leaf_reader.specs.declared.Found.the-variants.{Leaf, Tag, Nothing}
-use Rattle.leaf_reader.proofs.LeafCode.{leaf-none, leaf-made, leaf-whole, tag-opened}
+use Rattle.leaf_reader.proofs.LeafCode.{leaf-odd, leaf-made, leaf-whole, tag-opened}
 use Rattle.leaf_reader.proofs.HeadsCode.{head-is, some-head}
 
 -- A DIGIT
@@ -277,7 +277,7 @@ module _ {s : List ℕ} {place at first end v : ℕ} {minus t : Bool} (x : Numbe
         ahead = omega (arith, x .before, y .ahead);
       })
 
-pub ruleset integer-ways = (integer-leaf, integer-tag, leaf-none)
+pub ruleset integer-ways = (integer-leaf, integer-tag, leaf-odd)
 
 -- SMALL FUNCTIONS
 
@@ -367,4 +367,4 @@ module _ {s : List ℕ} {at from : ℕ} {minus t : Bool} (e : minus ≡ eqb (get
           let u : drop at (marked s) ≡ getD s from 0 ∷ drop (from + 1) (marked s) = ap (λ (k : ℕ). drop k (marked s)) (sym n) ∙ a in
           record { there = h; is = rw q (rw u (cut-digit (getD s from 0) (drop (from + 1) (marked s)) c)); before = omega arith }
 
-pub ruleset signed-ways = (number-at, leaf-none)
+pub ruleset signed-ways = (number-at, leaf-odd)

@@ -15,10 +15,16 @@ use Rattle.notation.specs.Form.{beginning, oneRule, obey, reads}
 use Rattle.leaf_reader.specs.LeafAnswers.{CutAt, Whole, LeafMade, LeafTold}
 use Rattle.leaf_reader.specs.declared.LeafRead.{LeafRead as LeafS}
 use Rattle.leaf_reader.specs.declared.Found.{Found}
-use Rattle.leaf_reader.specs.declared.Found.the-variants.{Leaf, Tag, Nothing}
+use Rattle.leaf_reader.specs.declared.Found.the-variants.{Leaf, Tag, Odd, Nothing}
 
 never-leaf : {A : Type 0} (f : Found) → f ≡ Nothing → f ≡ Leaf → A
 never-leaf f e g = let z : _≡_ {A = ℕ} 0 1 = cc in absurd (omega arith)
+
+odd-leaf : {A : Type 0} (f : Found) → f ≡ Odd → f ≡ Leaf → A
+odd-leaf f e g = let z : _≡_ {A = ℕ} 0 1 = cc in absurd (omega arith)
+
+odd-tag : {A : Type 0} (f : Found) → f ≡ Odd → f ≡ Tag → A
+odd-tag f e g = let z : _≡_ {A = ℕ} 0 1 = cc in absurd (omega arith)
 
 never-tag : {A : Type 0} (f : Found) → f ≡ Nothing → f ≡ Tag → A
 never-tag f e g = let z : _≡_ {A = ℕ} 0 1 = cc in absurd (omega arith)
@@ -29,8 +35,15 @@ no-leaf g = let z : _≡_ {A = ℕ} 0 1 = cc in absurd (omega arith)
 no-tag : {A : Type 0} → Leaf ≡ Tag → A
 no-tag g = let z : _≡_ {A = ℕ} 0 1 = cc in absurd (omega arith)
 
+-- nothing was found, and what stands before pos is kept
+pub leaf-still : {s b b′ : List ℕ} {at pos : ℕ} {q : LeafS} → length b′ ≡ length b → take pos b′ ≡ take pos b → q .found ≡ Nothing → LeafTold s b b′ at pos q
+leaf-still {q = q} z k e = record { same = z; kept = k; leaf = λ f. never-leaf (q .found) e f; tag = λ f. never-tag (q .found) e f }
+
 pub leaf-none : {s b : List ℕ} {at pos : ℕ} {q : LeafS} → q .found ≡ Nothing → LeafTold s b b at pos q
-leaf-none {q = q} e = record { same = refl; kept = refl; leaf = λ f. never-leaf (q .found) e f; tag = λ f. never-tag (q .found) e f }
+leaf-none e = leaf-still refl refl e
+
+pub leaf-odd : {s b : List ℕ} {at pos : ℕ} {q : LeafS} → q .found ≡ Odd → LeafTold s b b at pos q
+leaf-odd {q = q} e = record { same = refl; kept = refl; leaf = λ f. odd-leaf (q .found) e f; tag = λ f. odd-tag (q .found) e f }
 
 pub leaf-made : {s b b′ : List ℕ} {at pos next size length′ : ℕ} {binary : Bool} {q : LeafS} → q ≡ record { found = Leaf; next = next; size = size; binary = binary; length = length′; number = 0 }
     → LeafMade s b b′ at pos (record { found = Leaf; next = next; size = size; binary = binary; length = length′; number = 0 }) → take pos b′ ≡ take pos b → LeafTold s b b′ at pos q

@@ -41,10 +41,13 @@ use Rattle.hex.specs.HexAnswers.{HexDigits, PairsPut}
 use Rattle.encoding.specs.ReadAnswers.{heldOf, Tells, Wrote}
 use Rattle.encoding.proofs.Wrote.{wrote-written, wrote-more}
 use Rattle.leaf_reader.specs.LeafAnswers.{CutAt, Whole, LeafMade, LeafTold}
-use Rattle.leaf_reader.specs.LeafParts.{shortHead, HeadMade, TextPart, WrittenBehind, StringMade, quotedKind, Quote, StartsQuoted, StringMajor, QuotedAt, HexPart, PairsBehind, HexMade, HexAt}
+use Rattle.leaf_reader.specs.LeafParts.{shortHead, HeadMade, TextPart, WrittenBehind, StringMade, quotedKind, Quote, StartsAs, StringMajor, QuotedAt, HexPart, PairsBehind, HexMade, HexAt}
+use Rattle.leaf_reader.specs.BlockParts.{Short, ShortPart, ShortPairs}
 use Rattle.leaf_reader.specs.declared.LeafRead.{LeafRead as LeafS}
 use Rattle.leaf_reader.specs.declared.Found.the-variants.{Leaf}
-use Rattle.leaf_reader.proofs.LeafCode.{leaf-none, leaf-made}
+use Rattle.leaf_reader.specs.declared.Start.{Start}
+use Rattle.leaf_reader.specs.declared.Start.the-variants.{Integer, Quoted, Hex, Word, Odd, Other}
+use Rattle.leaf_reader.proofs.LeafCode.{leaf-odd, leaf-made}
 use Rattle.leaf_reader.proofs.HeadsCode.{head-is, short-head, some-head}
 
 -- WRITING
@@ -72,7 +75,7 @@ module _ {s b : List ℕ} {from n pos head : ℕ} (h : TextPart s from n) where
 pub ruleset behind-ways = (behind-small, behind-past, behind-copied)
 
 -- the buffer when a part of it, lent from a place on, is given back
-abbrev back : List ℕ → ℕ → List ℕ → List ℕ
+abbrev pub back : List ℕ → ℕ → List ℕ → List ℕ
 back b start m′ = take start b ++ (m′ ++ drop (length b - start) (drop start b))
 
 -- a part that was lent from behind a head on, or from the end
@@ -83,7 +86,7 @@ module _ (b m m′ : List ℕ) (pos head start : ℕ) (h : start ≡ min (pos + 
   lent-rest : drop (length b - start) (drop start b) ≡ []
   lent-rest = let g : length (drop start b) ≤ length b - start = omega (arith, length-drop start b) in drop-of-length-le (drop start b) g
 
-  lent-kept : take pos (back b start m′) ≡ take pos b
+  pub lent-kept : take pos (back b start m′) ≡ take pos b
   lent-kept = go (leb pos start) refl
     where
       q : length (take start b) ≡ start
@@ -100,16 +103,20 @@ module _ (b m m′ : List ℕ) (pos head start : ℕ) (h : start ≡ min (pos + 
           let l : length m′ ≡ 0 = omega (arith, lent-size) in
           ap (take pos) (rw (lent-rest, none m′ l, append-nil) (take-all start b (omega arith)))
 
-  lent-written : (ws : List ℕ) → (length ws ≤ length m → m′ ≡ over m 0 ws) → WrittenBehind b (back b start m′) pos head ws
+  pub lent-same : length (back b start m′) ≡ length b
+  lent-same =
+      let r = drop (length b - start) (drop start b) in
+      let c : length r ≡ 0 = ap length lent-rest in
+      omega (arith, lent-size, length-take-le start b (omega arith), length-append (take start b) (m′ ++ r), length-append m′ r)
+
+  pub lent-written : (ws : List ℕ) → (length ws ≤ length m → m′ ≡ over m 0 ws) → WrittenBehind b (back b start m′) pos head ws
   unfolding over
   lent-written ws f =
       let l = lent-size in
-      let q : length (take start b) ≡ start = length-take-le start b (omega arith) in
       let r = drop (length b - start) (drop start b) in
-      let c : length r ≡ 0 = ap length lent-rest in
       record {
         wrote = record {
-          same = omega (arith, length-append (take start b) (m′ ++ r), length-append m′ r);
+          same = lent-same;
           behind = drop (length ws) m ++ r;
           is = λ g.
               let n : 0 + length ws ≡ length ws = omega arith in
@@ -119,6 +126,12 @@ module _ (b m m′ : List ℕ) (pos head start : ℕ) (h : start ≡ min (pos + 
         };
         kept = lent-kept;
       }
+
+pub short-part : {s b : List ℕ} {from n pos : ℕ} {t : Bool} → Short n 23 (length s) from (length b) pos 33 t → t ≡ true → ShortPart s from n b pos
+short-part x e = record { few = x .few e; block = x .block e; room = x .fits e }
+
+pub short-digits : {s b : List ℕ} {from n pos : ℕ} {t : Bool} → HexPart s from n → Short n 16 (length s) from (length b) pos 17 t → t ≡ true → ShortPairs s from n b pos
+short-digits p x e = record { digits = p .digits; few = x .few e; block = x .block e; room = x .fits e }
 
 pub string-made : {b b₁ b₂ ws : List ℕ} {n pos major head : ℕ} → n ≡ length ws → n ≤ 0xffff_ffff → HeadMade b b₁ pos major n head → WrittenBehind b₁ b₂ pos head ws → StringMade b b₂ pos major ws (head + n)
 string-made {ws = ws} {n = n} {pos = pos} {major = major} {head = head} l h m w =
@@ -175,7 +188,7 @@ unmarked : {s : List ℕ} {at : ℕ} {u : Bool} → Peeked s at 0x5f u → u ≡
 unfolding indicator bind
 unmarked p e = rw (whether-no p e)
 
-string-whole : {s c : List ℕ} {at next : ℕ} {k : Kind} {w : Width} → CutAt s at next (begins (literal k (definite w) c)) → Whole s at next (string k w c)
+pub string-whole : {s c : List ℕ} {at next : ℕ} {k : Kind} {w : Width} → CutAt s at next (begins (literal k (definite w) c)) → Whole s at next (string k w c)
 unfolding oneRule beginning obey literalItem
 string-whole {c = c} {k = k} {w = w} x = record { begin = literal k (definite w) c; cut = x; gives = λ d p r. refl }
 
@@ -220,21 +233,42 @@ module _ {s : List ℕ} {place q end : ℕ} {t u : Bool} (x : QuotedAt s place q
       let l : length (take (end - (place + 1)) (drop (place + 1) s)) ≡ end - (place + 1) = length-part s (place + 1) (end - (place + 1)) (omega (arith, r .ahead, r .inside)) in
       string-leaf quoted-cut (omega (arith, l, r .ahead)) (m .is) h (λ w. rw l at (x .quote .binary w (take (end - (place + 1)) (drop (place + 1) s)))) e
 
-pub ruleset quoted-ways = (quoted-leaf, leaf-none)
+pub ruleset quoted-ways = (quoted-leaf, leaf-odd)
 
 -- QUOTES
 
 module _ {b : ℕ} where
-  pub starts-text : b ≡ 0x22 → StartsQuoted b true
-  unfolding cut cutBy classOf classIn classRows isIn quotedKind Tells heldOf
-  starts-text e = rw e (record { is = λ t. record { cuts = λ r. refl; binary = λ w c. refl } })
+  starts-quote : Quote b → StartsAs b Quoted
+  starts-quote q = record { quoted = λ e. q; hex = λ e. absurd (let z : _≡_ {A = ℕ} 0 1 = cc in omega arith) }
 
-  pub starts-bytes : b ≡ 0x27 → StartsQuoted b true
+  pub quote-text : b ≡ 0x22 → Quote b
   unfolding cut cutBy classOf classIn classRows isIn quotedKind Tells heldOf
-  starts-bytes e = rw e (record { is = λ t. record { cuts = λ r. refl; binary = λ w c. (refl, refl) } })
+  quote-text e = rw e (record { cuts = λ r. refl; binary = λ w c. refl })
 
-  pub starts-not : StartsQuoted b false
-  starts-not = record { is = λ e. absurd (clash (sym e)) }
+  pub quote-bytes : b ≡ 0x27 → Quote b
+  unfolding cut cutBy classOf classIn classRows isIn quotedKind Tells heldOf
+  quote-bytes e = rw e (record { cuts = λ r. refl; binary = λ w c. (refl, refl) })
+
+  pub starts-text : b ≡ 0x22 → StartsAs b Quoted
+  starts-text e = starts-quote (quote-text e)
+
+  pub starts-bytes : b ≡ 0x27 → StartsAs b Quoted
+  starts-bytes e = starts-quote (quote-bytes e)
+
+  pub starts-hex : b ≡ 0x68 → StartsAs b Hex
+  starts-hex e = record { quoted = λ f. absurd (let z : _≡_ {A = ℕ} 0 1 = cc in omega arith); hex = λ f. e }
+
+  pub starts-integer : StartsAs b Integer
+  starts-integer = record { quoted = λ e. absurd (let z : _≡_ {A = ℕ} 0 1 = cc in omega arith); hex = λ e. absurd (let z : _≡_ {A = ℕ} 0 1 = cc in omega arith) }
+
+  pub starts-word : StartsAs b Word
+  starts-word = record { quoted = λ e. absurd (let z : _≡_ {A = ℕ} 0 1 = cc in omega arith); hex = λ e. absurd (let z : _≡_ {A = ℕ} 0 1 = cc in omega arith) }
+
+  pub starts-odd : StartsAs b Odd
+  starts-odd = record { quoted = λ e. absurd (let z : _≡_ {A = ℕ} 0 1 = cc in omega arith); hex = λ e. absurd (let z : _≡_ {A = ℕ} 0 1 = cc in omega arith) }
+
+  pub starts-other : StartsAs b Other
+  starts-other = record { quoted = λ e. absurd (let z : _≡_ {A = ℕ} 0 1 = cc in omega arith); hex = λ e. absurd (let z : _≡_ {A = ℕ} 0 1 = cc in omega arith) }
 
   pub major-text : b ≡ 0x22 → StringMajor b 3
   unfolding quotedKind majorNumber
@@ -244,12 +278,12 @@ module _ {b : ℕ} where
   unfolding quotedKind majorNumber
   major-bytes n = record { is = rw (ne-eqb b 0x22 n, quotedKind); most = omega arith }
 
-pub ruleset starts-ways = (starts-text, starts-bytes, starts-not)
+pub ruleset starts-ways = (starts-text, starts-bytes, starts-hex, starts-integer, starts-word, starts-odd, starts-other)
 
 pub ruleset major-ways = (major-text, major-bytes)
 
-pub quoted-at : {s : List ℕ} {place : ℕ} {t : Bool} → place < length s → StartsQuoted (getD s place 0) t → t ≡ true → QuotedAt s place (getD s place 0)
-quoted-at l x e = record { here = l; is = refl; quote = x .is e }
+pub quoted-at : {s : List ℕ} {place : ℕ} {k : Start} → place < length s → StartsAs (getD s place 0) k → k ≡ Quoted → QuotedAt s place (getD s place 0)
+quoted-at l x e = record { here = l; is = refl; quote = x .quoted e }
 
 -- HEXADECIMAL STRINGS
 
@@ -280,7 +314,7 @@ body-closed {s} {at} {end} r d =
     let z : at + (end - at) ≡ end = omega arith in
     run-gives body (λ b. isDigit 16 b ≡ true) body-step s at (end - at) (omega (arith, r .inside)) (λ j g l. r .is j g (omega arith)) (rw (z, d))
 
-cut-hex : (r : List ℕ) → cut (0x68 ∷ 0x27 ∷ r) ≡ encodedLiteral hexContent r
+pub cut-hex : (r : List ℕ) → cut (0x68 ∷ 0x27 ∷ r) ≡ encodedLiteral hexContent r
 unfolding cut cutBy word run whether bind prefixed same isWord is classNumber classOf classIn classRows isIn
 cut-hex r = refl
 
@@ -307,9 +341,9 @@ module _ {s : List ℕ} {place end : ℕ} {t u : Bool} (x : HexAt s place) (r : 
       })
       (omega (arith, hex-even (end - (place + 2)) h)) refl (m .made) (λ w. (refl, sym n)) e
 
-pub ruleset hex-ways = (hex-leaf, leaf-none)
+pub ruleset hex-ways = (hex-leaf, leaf-odd)
 
-pub hex-at : {s : List ℕ} {place : ℕ} {t : Bool} → place < length s → getD s place 0 ≡ 0x68 → Peeked s (place + 1) 0x27 t → t ≡ true → HexAt s place
-hex-at {s} {place} l e p f =
+pub hex-at : {s : List ℕ} {place : ℕ} {k : Start} {t : Bool} → place < length s → StartsAs (getD s place 0) k → k ≡ Hex → Peeked s (place + 1) 0x27 t → t ≡ true → HexAt s place
+hex-at {s} {place} l x e p f =
     let z : place + 1 + 1 ≡ place + 2 = omega arith in
-    record { inside = omega (arith, p .inside f); is = at-byte s place l ∙ (rw (e, peeked-yes p f, z)) }
+    record { inside = omega (arith, p .inside f); is = at-byte s place l ∙ (rw (x .hex e, peeked-yes p f, z)) }

@@ -35,7 +35,7 @@ use Rattle.leaf_reader.specs.LeafParts.{shortHead, HeadMade, Four, NoWor
 use Rattle.leaf_reader.specs.declared.word.SimpleWord.{SimpleWord}
 use Rattle.leaf_reader.specs.declared.LeafRead.{LeafRead as LeafS}
 use Rattle.leaf_reader.specs.declared.Found.the-variants.{Leaf}
-use Rattle.leaf_reader.proofs.LeafCode.{leaf-none, leaf-made, leaf-whole}
+use Rattle.leaf_reader.proofs.LeafCode.{leaf-odd, leaf-made, leaf-whole}
 use Rattle.leaf_reader.proofs.HeadsCode.{head-single, head-is}
 
 -- THE BYTES of a text from a place on
@@ -74,7 +74,7 @@ pub word-none : {s : List ℕ} {at : ℕ} {r : SimpleWord} → r .known ≡ fals
 word-none e = record { is = λ f. absurd (clash (sym f ∙ e)) }
 
 module _ {s : List ℕ} {at w : ℕ} (l : 4 ≤ length s - at) (f : Four s at w) where
-  spelled : (a b c d : ℕ) → a < 256 → b < 256 → c < 256 → d < 256 → w ≡ a * 0x100_0000 + b * 0x1_0000 + c * 0x100 + d → drop at (marked s) ≡ a ∷ b ∷ c ∷ d ∷ drop (at + 4) (marked s)
+  pub spelled : (a b c d : ℕ) → a < 256 → b < 256 → c < 256 → d < 256 → w ≡ a * 0x100_0000 + b * 0x1_0000 + c * 0x100 + d → drop at (marked s) ≡ a ∷ b ∷ c ∷ d ∷ drop (at + 4) (marked s)
   spelled a b c d la lb lc ld e = drop-four a b c d la lb lc ld (omega arith) f e
 
   pub word-true : w ≡ 0x7472_7565 → KnownWord s at (record { known = true; end = at + 4; value = 21 })
@@ -97,7 +97,23 @@ module _ {s : List ℕ} {at w : ℕ} (l : 4 ≤ length s - at) (f : Four s at w)
       let h : drop (at + 4) (marked s) ≡ 0x65 ∷ drop (at + 5) (marked s) = rw q at (peeked-yes p g) in
       record { is = λ k. word-at 0x66 (0x61 ∷ 0x6c ∷ 0x73 ∷ 0x65 ∷ []) refl (refl, (refl, (refl, (refl, tt)))) (λ r. refl) (d ∙ rw h) (omega arith) (omega (arith, p .inside g)) (omega arith) }
 
+pub word-undefined : {s : List ℕ} {at v w : ℕ} {t : Bool} → 9 ≤ length s - at → Four s at v → v ≡ 0x756e_6465 → Four s (at + 4) w → w ≡ 0x6669_6e65 → Peeked s (at + 8) 0x64 t → t ≡ true
+    → KnownWord s at (record { known = true; end = at + 9; value = 23 })
+unfolding worded same isWord is classNumber classOf classIn classRows isIn
+word-undefined {s} {at} l f e g h p k =
+    let d = spelled (omega arith) f 0x75 0x6e 0x64 0x65 (omega arith) (omega arith) (omega arith) (omega arith) e in
+    let d′ = spelled (omega arith) g 0x66 0x69 0x6e 0x65 (omega arith) (omega arith) (omega arith) (omega arith) h in
+    let z₁ : at + 4 + 4 ≡ at + 8 = omega arith in
+    let z₂ : at + 8 + 1 ≡ at + 9 = omega arith in
+    let d″ = peeked-yes p k in
+    record {
+      is = λ u.
+          word-at 0x75 (0x6e ∷ 0x64 ∷ 0x65 ∷ 0x66 ∷ 0x69 ∷ 0x6e ∷ 0x65 ∷ 0x64 ∷ []) refl (refl, (refl, (refl, (refl, (refl, (refl, (refl, (refl, tt)))))))) (λ r. refl) (d ∙ rw (d′, z₁, d″, z₂)) (omega arith) (omega (arith, p .inside k)) (omega arith);
+    }
+
 pub ruleset word-ways = (word-none, word-true, word-null, word-false)
+
+pub ruleset undefined-ways = (word-none, word-undefined)
 
 -- WHERE A WORD ENDS
 
@@ -172,4 +188,4 @@ module _ {s : List ℕ} {at : ℕ} {w : SimpleWord} (x : KnownWord s at w) (f : 
       })
       (m .kept)
 
-pub ruleset answer-ways = (word-leaf, leaf-none)
+pub ruleset answer-ways = (word-leaf, leaf-odd)

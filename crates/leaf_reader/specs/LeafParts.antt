@@ -20,6 +20,8 @@ use Rattle.head.specs.HeadAnswers.{headBytes}
 use Rattle.numbers.specs.NumberAnswers.{DigitAt}
 use Rattle.hex.specs.HexAnswers.{HexDigits}
 use Rattle.encoding.specs.ReadAnswers.{heldOf, Tells, Wrote}
+use Rattle.leaf_reader.specs.declared.Start.{Start}
+use Rattle.leaf_reader.specs.declared.Start.the-variants.{Quoted, Hex}
 use Rattle.leaf_reader.specs.declared.word.SimpleWord.{SimpleWord}
 
 -- HEADS
@@ -191,7 +193,11 @@ pub record Quote (q : ℕ) : Type 0 where
   pub cuts : (r : List ℕ) → cut (q ∷ r) ≡ quoted (quotedKind q) q r
   pub binary : (w : Width) (c : List ℕ) → Tells (heldOf (string (quotedKind q) w c)) (eqb q 0x27) (length c)
 
-pub record StartsQuoted (b : ℕ) (t : Bool) : Type 0 where
+pub record StartsAs (b : ℕ) (k : Start) : Type 0 where
+  pub quoted : k ≡ Quoted → Quote b
+  pub hex : k ≡ Hex → b ≡ 0x68
+
+pub record IsQuote (b : ℕ) (t : Bool) : Type 0 where
   pub is : t ≡ true → Quote b
 
 pub record StringMajor (q r : ℕ) : Type 0 where

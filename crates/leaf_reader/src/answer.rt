@@ -17,6 +17,20 @@ pub(crate) fn nothing(at: usize) -> LeafRead
     }
 }
 
+// What may be a leaf all the same.
+pub(crate) fn odd(at: usize) -> LeafRead
+    ensures { λ r. ⌜ r .found ≡ Found.Odd ⌝ }
+{
+    LeafRead {
+        found: Found::Odd,
+        next: at,
+        size: 0,
+        binary: false,
+        length: 0,
+        number: 0,
+    }
+}
+
 pub(crate) fn leaf(next: usize, size: usize, binary: bool, length: usize) -> LeafRead
     ensures { λ r. ⌜ r ≡ record { found = Found.Leaf; next = next; size = size; binary = binary; length = length; number = 0 } ⌝ }
 {

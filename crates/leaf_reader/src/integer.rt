@@ -1,7 +1,7 @@
 // Decimal integers, and the openings of tags.
 use crate::LeafRead;
 use crate::answer::leaf;
-use crate::answer::nothing;
+use crate::answer::odd;
 use crate::answer::opening;
 use crate::heads::put_head;
 use scanning::scan::next_is;
@@ -18,7 +18,7 @@ ghost use Rattle.leaf_reader.specs.LeafParts.{Worth, GoesOn, EndsAt, Tal
 // Behind a number below this one any digit more makes one of 64 bits.
 const MOST: u64 = 1_844_674_407_370_955_160;
 
-pub(crate) fn is_digit(b: u8) -> bool
+fn is_digit(b: u8) -> bool
     ensures { λ r. ⌜ r ≡ isDigit 10 b ⌝ }
 {
     if b < b'0' {
@@ -138,22 +138,22 @@ fn integer(
     let end = d.end;
     let value = d.value;
     if !leads(b, minus, at + 1 < end) {
-        return nothing(place);
+        return odd(place);
     }
     if ends(text, end) {
         let size = put_head(buf, pos, major_of(minus), argument_of(minus, value));
         return leaf(end, size, false, 0);
     }
     if minus {
-        return nothing(place);
+        return odd(place);
     }
     if next_is(text, end, b'(') {
         return opening(end + 1, value);
     }
-    nothing(place)
+    odd(place)
 }
 
-fn behind_sign(at: usize, minus: bool) -> usize
+pub(crate) fn behind_sign(at: usize, minus: bool) -> usize
     requires { ⌜ at < 0xffff_ffff_ffff_ffff ⌝ }
     ensures { λ r. ⌜ Behind at minus r ⌝ }
 {
@@ -163,7 +163,7 @@ fn behind_sign(at: usize, minus: bool) -> usize
     at
 }
 
-fn digit_at(text: &[u8], at: usize) -> bool
+pub(crate) fn digit_at(text: &[u8], at: usize) -> bool
     ensures { λ r. ⌜ DigitThere (now (text .entry)) at r ⌝ }
 {
     if text.len() <= at {
@@ -179,7 +179,7 @@ pub(crate) fn signed(text: &[u8], at: usize, minus: bool, buf: &mut [u8], pos: u
 {
     let from = behind_sign(at, minus);
     if !digit_at(text, from) {
-        return nothing(at);
+        return odd(at);
     }
     integer(text, at, from, minus, buf, pos)
 }

@@ -1,24 +1,34 @@
-// Leaves as they are mostly written, read and written at once. What is not such a one is left to the token cutter.
+// Leaves, read and written at once: first as they are mostly written, then as they seldom are. What is neither is left to the token cutter.
 mod answer;
+mod block;
 mod heads;
 mod integer;
+mod literal;
 mod string;
+mod token_leaf;
 mod word;
 
 use crate::answer::nothing;
-use crate::integer::is_digit;
+use crate::answer::odd;
 use crate::integer::signed;
+use crate::literal::base64_literal;
+use crate::literal::hex_literal;
+use crate::literal::is_quote;
+use crate::literal::quoted_literal;
 use crate::string::hexadecimal;
 use crate::string::quoted;
-use crate::string::starts_quoted;
+use crate::token_leaf::other_integer;
+use crate::token_leaf::simple_value;
 use crate::word::word;
 use scanning::scan::next_is;
 ghost use Rattle.leaf_reader.specs.LeafAnswers.{LeafTold};
+ghost use Rattle.leaf_reader.specs.LeafParts.{StartsAs};
 
-// What was found at a place: a leaf, the opening of a tag, or neither.
+// What was found at a place: a leaf, the opening of a tag, what may be a leaf that is seldom written so, or nothing of these.
 pub enum Found {
     Leaf,
     Tag,
+    Odd,
     Nothing,
 }
 
@@ -33,14 +43,36 @@ pub struct LeafRead {
     pub number: u64,
 }
 
-fn starts_integer(b: u8) -> bool {
-    if b == b'-' {
-        return true;
-    }
-    is_digit(b)
+// What a leaf may begin with.
+enum Start {
+    Integer,
+    Quoted,
+    Hex,
+    Word,
+    Odd,
+    Other,
 }
 
-// The leaf at a place, its bytes into the buffer from pos on, if they fit.
+// One jump by the byte tells them apart.
+fn start_of(b: u8) -> Start
+    ensures { λ r. ⌜ StartsAs b r ⌝ }
+{
+    match b {
+        b'"' => Start::Quoted,
+        b'\'' => Start::Quoted,
+        b'-' => Start::Integer,
+        b'0' | b'2' | b'4' | b'6' | b'8' => Start::Integer,
+        b'1' | b'3' | b'5' | b'7' | b'9' => Start::Integer,
+        b'f' | b'n' => Start::Word,
+        b't' => Start::Word,
+        b'u' => Start::Word,
+        b'h' => Start::Hex,
+        b'b' | b's' => Start::Odd,
+        _ => Start::Other,
+    }
+}
+
+// The leaf at a place as it is mostly written, its bytes into the buffer from pos on, if they fit.
 pub fn read_leaf(text: &[u8], at: usize, buf: &mut [u8], pos: usize) -> LeafRead
     ensures { λ r. ⌜ LeafTold (now (text .entry)) (now (buf .entry)) (now (buf .exit)) at pos r ⌝ }
 {
@@ -48,17 +80,52 @@ pub fn read_leaf(text: &[u8], at: usize, buf: &mut [u8], pos: usize) -> LeafRead
         return nothing(at);
     }
     let b = text[at];
-    if starts_integer(b) {
-        return signed(text, at, b == b'-', buf, pos);
-    }
-    if starts_quoted(b) {
-        return quoted(text, at, b, buf, pos);
-    }
-    if b == b'h' {
-        if next_is(text, at + 1, b'\'') {
-            return hexadecimal(text, at, buf, pos);
+    let start = start_of(b);
+    match start {
+        Start::Integer => signed(text, at, b == b'-', buf, pos),
+        Start::Quoted => quoted(text, at, b, buf, pos),
+        Start::Word => word(text, at, buf, pos),
+        Start::Hex => {
+            if next_is(text, at + 1, b'\'') {
+                return hexadecimal(text, at, buf, pos);
+            }
+            odd(at)
         }
+        Start::Odd => odd(at),
+        Start::Other => nothing(at),
+    }
+}
+
+// The leaf at a place as it is seldom written. It is called in more than one place, so that it is not inlined where leaves are read.
+pub fn read_odd(text: &[u8], at: usize, buf: &mut [u8], pos: usize) -> LeafRead
+    ensures { λ r. ⌜ LeafTold (now (text .entry)) (now (buf .entry)) (now (buf .exit)) at pos r ⌝ }
+{
+    if text.len() <= at {
         return nothing(at);
     }
-    word(text, at, buf, pos)
+    if buf.len() <= pos {
+        return nothing(at);
+    }
+    let b = text[at];
+    if is_quote(b) {
+        return quoted_literal(text, at, b, buf, pos);
+    }
+    match b {
+        b'h' => hex_literal(text, at, buf, pos),
+        b'b' => base64_literal(text, at, buf, pos),
+        b's' => simple_value(text, at, buf, pos),
+        _ => other_integer(text, at, b == b'-', buf, pos),
+    }
+}
+
+// What may be a leaf, read as it is seldom written.
+pub fn odd_leaf(text: &[u8], at: usize, found: Found, buf: &mut [u8], pos: usize) -> LeafRead
+    ensures { λ r. ⌜ LeafTold (now (text .entry)) (now (buf .entry)) (now (buf .exit)) at pos r ⌝ }
+{
+    match found {
+        Found::Leaf => nothing(at),
+        Found::Tag => nothing(at),
+        Found::Odd => read_odd(text, at, buf, pos),
+        Found::Nothing => nothing(at),
+    }
 }

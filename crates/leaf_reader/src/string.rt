@@ -1,7 +1,10 @@
 // Quoted strings with no escape, and h'..' with nothing but digits.
 use crate::LeafRead;
 use crate::answer::leaf;
-use crate::answer::nothing;
+use crate::answer::odd;
+use crate::block::is_short;
+use crate::block::put_short;
+use crate::block::put_short_hex;
 use crate::heads::put_head;
 use hex::pairs::hex_run;
 use hex::pairs::put_pairs;
@@ -11,13 +14,23 @@ ghost use mathlib.Core.Path.{_≡_};
 ghost use Prim.Native.Nat.{_+_, _≤_, min};
 ghost use lib.ListN.{take, drop};
 ghost use Rattle.leaf_reader.specs.LeafAnswers.{LeafTold};
-ghost use Rattle.leaf_reader.specs.LeafParts.{TextPart, WrittenBehind, StringMade, StartsQuoted, StringMajor, QuotedAt, HexPart, PairsBehind, HexMade, HexAt};
+ghost use Rattle.leaf_reader.specs.LeafParts.{TextPart, WrittenBehind, StringMade, StringMajor, QuotedAt, HexPart, PairsBehind, HexMade, HexAt};
 
 // Of a longer string the size might wrap. There is none in a text that the library reads.
-const LONGEST: usize = 0xffff_ffff;
+pub(crate) const LONGEST: usize = 0xffff_ffff;
+
+// A string that is read by one block of 32 bytes: the longest whose head is one byte, and the longest that so many digits make; the room for each, with
+// its head and what is too much.
+const SHORT: usize = 23;
+
+const SHORT_ROOM: usize = 33;
+
+const SHORT_HEX: usize = 16;
+
+const SHORT_HEX_ROOM: usize = 17;
 
 // The major types of strings.
-const BYTES: u8 = 2;
+pub(crate) const BYTES: u8 = 2;
 
 const TEXT: u8 = 3;
 
@@ -41,6 +54,10 @@ fn put_string(text: &[u8], from: usize, n: usize, major: u8, buf: &mut [u8], pos
     requires { ⌜ major ≤ 7 ⌝ }
     ensures { λ r. ⌜ StringMade (now (buf .entry)) (now (buf .exit)) pos major (take n (drop from (now (text .entry)))) r ⌝ }
 {
+    if is_short(n, SHORT, text.len(), from, buf.len(), pos, SHORT_ROOM) {
+        put_short(text, from, n, major, buf, pos);
+        return n + 1;
+    }
     let head = put_head(buf, pos, major, n as u64);
     copy_behind(text, from, n, buf, pos, head);
     head + n
@@ -73,22 +90,24 @@ fn put_hex(text: &[u8], from: usize, n: usize, buf: &mut [u8], pos: usize) -> us
     requires { ⌜ HexPart (now text) from n ⌝ }
     ensures { λ r. ⌜ HexMade (now (text .entry)) from n (now (buf .entry)) (now (buf .exit)) pos r ⌝ }
 {
+    if is_short(
+        n,
+        SHORT_HEX,
+        text.len(),
+        from,
+        buf.len(),
+        pos,
+        SHORT_HEX_ROOM,
+    ) {
+        put_short_hex(text, from, n, buf, pos);
+        return n + 1;
+    }
     let head = put_head(buf, pos, BYTES, n as u64);
     pairs_behind(text, from, n, buf, pos, head);
     head + n
 }
 
-pub(crate) fn starts_quoted(b: u8) -> bool
-    ensures { λ r. ⌜ StartsQuoted b r ⌝ }
-{
-    match b {
-        b'"' => true,
-        b'\'' => true,
-        _ => false,
-    }
-}
-
-fn major_of(quote: u8) -> u8
+pub(crate) fn major_of(quote: u8) -> u8
     ensures { λ r. ⌜ StringMajor quote r ⌝ }
 {
     if quote == b'"' {
@@ -105,14 +124,14 @@ pub(crate) fn quoted(text: &[u8], place: usize, quote: u8, buf: &mut [u8], pos: 
     let at = place + 1;
     let end = text_run(text, at, quote, b'\\');
     if !next_is(text, end, quote) {
-        return nothing(place);
+        return odd(place);
     }
     if next_is(text, end + 1, b'_') {
-        return nothing(place);
+        return odd(place);
     }
     let n = end - at;
     if LONGEST < n {
-        return nothing(place);
+        return odd(place);
     }
     let size = put_string(text, at, n, major_of(quote), buf, pos);
     leaf(end + 1, size, quote == b'\'', n)
@@ -126,17 +145,17 @@ pub(crate) fn hexadecimal(text: &[u8], place: usize, buf: &mut [u8], pos: usize)
     let at = place + 2;
     let end = hex_run(text, at);
     if !next_is(text, end, b'\'') {
-        return nothing(place);
+        return odd(place);
     }
     if next_is(text, end + 1, b'_') {
-        return nothing(place);
+        return odd(place);
     }
     if (end - at) % 2 != 0 {
-        return nothing(place);
+        return odd(place);
     }
     let n = (end - at) / 2;
     if LONGEST < n {
-        return nothing(place);
+        return odd(place);
     }
     let size = put_hex(text, at, n, buf, pos);
     leaf(end + 1, size, true, n)

@@ -1,7 +1,7 @@
-// The words that are simple values: true, false, null.
+// The words that are simple values: true, false, null, undefined.
 use crate::LeafRead;
 use crate::answer::leaf;
-use crate::answer::nothing;
+use crate::answer::odd;
 use scanning::scan::next_is;
 ghost use mathlib.Core.Path.{_≡_};
 ghost use mathlib.Core.Bool.{false};
@@ -18,12 +18,18 @@ const NULL: u32 = 0x6e75_6c6c;
 
 const FALS: u32 = 0x6661_6c73;
 
+const UNDE: u32 = 0x756e_6465;
+
+const FINE: u32 = 0x6669_6e65;
+
 // The values of these words, and the initial byte before them.
 const FALSE_VALUE: u8 = 20;
 
 const TRUE_VALUE: u8 = 21;
 
 const NULL_VALUE: u8 = 22;
+
+const UNDEFINED_VALUE: u8 = 23;
 
 const SIMPLE: u8 = 0xe0;
 
@@ -33,7 +39,7 @@ fn wide(b: u8) -> u32
     b as u32
 }
 
-fn four(text: &[u8], at: usize) -> u32
+pub(crate) fn four(text: &[u8], at: usize) -> u32
     requires { ⌜ at + 4 ≤ length (now text) ⌝ }
     ensures { λ r. ⌜ Four (now (text .entry)) at r ⌝ }
 {
@@ -59,6 +65,30 @@ fn no_word(at: usize) -> SimpleWord
     }
 }
 
+// The word undefined.
+fn undefined(text: &[u8], at: usize) -> SimpleWord
+    requires { ⌜ at < length (now text) ⌝ }
+    ensures { λ r. ⌜ KnownWord (now (text .entry)) at r ⌝ }
+{
+    if text.len() - at < 9 {
+        return no_word(at);
+    }
+    if four(text, at) != UNDE {
+        return no_word(at);
+    }
+    if four(text, at + 4) != FINE {
+        return no_word(at);
+    }
+    if next_is(text, at + 8, b'd') {
+        return SimpleWord {
+            known: true,
+            end: at + 9,
+            value: UNDEFINED_VALUE,
+        };
+    }
+    no_word(at)
+}
+
 // The word that begins at a place, if nothing goes on behind it.
 fn simple_word(text: &[u8], at: usize) -> SimpleWord
     requires { ⌜ at < length (now text) ⌝ }
@@ -82,17 +112,17 @@ fn simple_word(text: &[u8], at: usize) -> SimpleWord
             value: NULL_VALUE,
         };
     }
-    if w != FALS {
+    if w == FALS {
+        if next_is(text, at + 4, b'e') {
+            return SimpleWord {
+                known: true,
+                end: at + 5,
+                value: FALSE_VALUE,
+            };
+        }
         return no_word(at);
     }
-    if next_is(text, at + 4, b'e') {
-        return SimpleWord {
-            known: true,
-            end: at + 5,
-            value: FALSE_VALUE,
-        };
-    }
-    no_word(at)
+    undefined(text, at)
 }
 
 // Whether a byte ends a word, of those that mostly do.
@@ -127,11 +157,11 @@ pub(crate) fn word(text: &[u8], at: usize, buf: &mut [u8], pos: usize) -> LeafRe
 {
     let w = simple_word(text, at);
     if !w.known {
-        return nothing(at);
+        return odd(at);
     }
     let end = w.end;
     if !ends(text, end) {
-        return nothing(at);
+        return odd(at);
     }
     buffer::put(buf, pos, SIMPLE + w.value);
     leaf(end, 1, false, 0)

@@ -3,7 +3,7 @@
 use mathlib.Core.Path.{_≡_, refl, sym, ap, _∙_, subst⁻¹}
 use mathlib.Core.List.{List, [], _∷_, _++_, append-assoc, append-nil}
 use mathlib.Core.Bool.{Bool, true, false, _||_}
-use Prim.Native.Nat.{ℕ, zero, suc, _+_, _-_, _≤_, _<_, min}
+use Prim.Native.Nat.{ℕ, zero, suc, _+_, _-_, _*_, _/_, _%_, _≤_, _<_, min}
 use native.Mathlib.Numerals.{add-one}
 use native.Mathlib.Nat.{add-zero}
 use native.Mathlib.Omega.{arith}
@@ -23,10 +23,13 @@ use Rattle.notation.specs.Literals.{isBody, body, Content, standsFor, bad, afte
 use Rattle.notation.specs.Reading.{marked}
 use Rattle.scanning.specs.TextRuns.{Textual, TextRun}
 use Rattle.scanning.proofs.ClassCode.{slash-at, hash-at}
-use Rattle.literal_body.specs.LiteralAnswers.{digitNumber, scannedBy, Raw, decodedBy, Decodes, Put, bodyByte, BodyByte}
+use Rattle.literal_body.specs.LiteralAnswers.{digitNumber, HexThere, scannedBy, Raw, decodedBy, Decodes, Put, bodyByte, BodyByte}
 use Rattle.literal_body.specs.declared.LiteralScan.{LiteralScan}
 
 -- BYTES
+
+pub true-false : _≡_ {A = Bool} true false → ⊥
+true-false z = let w : _≡_ {A = ℕ} 0 1 = cc in absurd (omega arith)
 
 module _ (b : ℕ) (h : b < 256) where
   pub slash-is : is slash b ≡ eqb b 0x2f
@@ -35,44 +38,46 @@ module _ (b : ℕ) (h : b < 256) where
   pub hash-is : is hash b ≡ eqb b 0x23
   hash-is = hash-at b (omega arith)
 
--- the value of a digit, between two bounds: none, or counted from a base
+-- the value of a digit between two bounds, counted from a base
 module _ {b : ℕ} (lo hi : ℕ) (p : lo ≤ b) (q : b < hi) where
-  no-digit : T (every (λ k x. eqb 99 (digitNumber k)) lo (replicate (hi - lo) 0)) → 99 ≡ digitNumber b
-  no-digit t = eqb→eq 99 (digitNumber b) (between (λ k. eqb 99 (digitNumber k)) lo hi t b p q)
-
   a-digit : (z : ℕ) → T (every (λ k x. eqb (k - z) (digitNumber k)) lo (replicate (hi - lo) 0)) → b - z ≡ digitNumber b
   a-digit z t = eqb→eq (b - z) (digitNumber b) (between (λ k. eqb (k - z) (digitNumber k)) lo hi t b p q)
 
 module _ {b : ℕ} where
-  pub digit-below : b < 0x30 → 99 ≡ digitNumber b
-  unfolding digitNumber isIn
-  digit-below h = no-digit 0 0x30 (omega arith) h tt
-
   pub digit-decimal : 0x30 ≤ b → b < 0x3a → b - 0x30 ≡ digitNumber b
   unfolding digitNumber isIn
   digit-decimal l h = a-digit 0x30 0x3a l h 0x30 tt
-
-  pub digit-between : 0x3a ≤ b → b < 0x41 → 99 ≡ digitNumber b
-  unfolding digitNumber isIn
-  digit-between l h = no-digit 0x3a 0x41 l h tt
 
   pub digit-upper : 0x41 ≤ b → b < 0x47 → b - 0x37 ≡ digitNumber b
   unfolding digitNumber isIn
   digit-upper l h = a-digit 0x41 0x47 l h 0x37 tt
 
-  pub digit-beyond : 0x47 ≤ b → b < 0x61 → 99 ≡ digitNumber b
-  unfolding digitNumber isIn
-  digit-beyond l h = no-digit 0x47 0x61 l h tt
-
   pub digit-lower : 0x61 ≤ b → b < 0x67 → b - 0x57 ≡ digitNumber b
   unfolding digitNumber isIn
   digit-lower l h = a-digit 0x61 0x67 l h 0x57 tt
 
-  pub digit-above : 0x67 ≤ b → b < 256 → 99 ≡ digitNumber b
-  unfolding digitNumber isIn
-  digit-above l h = no-digit 0x67 256 l h tt
+-- the value of a digit, by one rule for all of them
+unfoldable pub ruled : ℕ → Bool
+ruled k = eqb (k % 16 + k / 64 * 9) (digitNumber k)
 
-pub ruleset digit-ways = (digit-below, digit-decimal, digit-between, digit-upper, digit-beyond, digit-lower, digit-above)
+abbrev pub hexKeys : List ℕ
+hexKeys = 0x30 ∷ 0x31 ∷ 0x32 ∷ 0x33 ∷ 0x34 ∷ 0x35 ∷ 0x36 ∷ 0x37 ∷ 0x38 ∷ 0x39 ∷ 0x41 ∷ 0x42 ∷ 0x43 ∷ 0x44 ∷ 0x45 ∷ 0x46 ∷ 0x61 ∷ 0x62 ∷ 0x63 ∷ 0x64 ∷ 0x65 ∷ 0x66 ∷ []
+
+module _ {b : ℕ} where
+  pub hex-key : {k : ℕ} → b ≡ k → T (ruled k) → HexThere b true
+  unfolding ruled
+  hex-key {k} e t = record { some = λ u. eqb→eq (b % 16 + b / 64 * 9) (digitNumber b) (rw e t); none = λ u. absurd (true-false u) }
+
+  pub hex-none : 99 ≡ digitNumber b → HexThere b false
+  hex-none e = record { some = λ u. absurd (true-false (sym u)); none = λ u. e }
+
+  pub value-some : {t : Bool} → HexThere b t → t ≡ true → b % 16 + b / 64 * 9 ≡ digitNumber b
+  value-some x e = x .some e
+
+  pub value-none : {t : Bool} → HexThere b t → t ≡ false → 99 ≡ digitNumber b
+  value-none x e = x .none e
+
+pub ruleset digit-ways = (value-some, value-none)
 
 -- a number below the radix is that of a digit, and then its value
 module _ (radix b : ℕ) where
@@ -117,9 +122,6 @@ front-marked s i h =
     let a : i ≤ length s = omega arith in
     let b : i + 1 ≤ length s = omega arith in
     drop-append s (256 ∷ []) i a ∙ ap (λ (x : List ℕ). x ++ 256 ∷ []) (front s i h) ∙ ap (λ (x : List ℕ). getD s i 0 ∷ x) (sym (drop-append s (256 ∷ []) (i + 1) b))
-
-pub true-false : _≡_ {A = Bool} true false → ⊥
-true-false z = let w : _≡_ {A = ℕ} 0 1 = cc in absurd (omega arith)
 
 -- what holds of the end mark alone and of nothing holds behind the text
 pub past : (P : List ℕ → Type 0) (s : List ℕ) (i : ℕ) → length s ≤ i → P (256 ∷ []) → P [] → P (drop i (marked s))

@@ -1,8 +1,8 @@
 -- Of the code: what the code of string literals answers.
-use Prim.Native.Nat.{ℕ, _+_, _≤_, _<_}
+use Prim.Native.Nat.{ℕ, _+_, _*_, _/_, _%_, _≤_, _<_}
 use mathlib.Core.Path.{_≡_}
 use mathlib.Core.List.{List}
-use mathlib.Core.Bool.{true, false}
+use mathlib.Core.Bool.{Bool, true, false}
 use lib.Dec.{eqb}
 use lib.ListN.{length, take, drop}
 use Rattle.cbor.specs.Refusals.{Result, ok, refuse}
@@ -15,6 +15,11 @@ use Rattle.literal_body.specs.declared.LiteralScan.{LiteralScan}
 -- the number of a digit: its value, 99 where there is none
 unfoldable pub digitNumber : ℕ → ℕ
 digitNumber b = elim (digitAt b) [ worth v ↦ v | noDigit ↦ 99 ]
+
+-- t: b is a digit
+pub record HexThere (b : ℕ) (t : Bool) : Type 0 where
+  pub some : t ≡ true → b % 16 + b / 64 * 9 ≡ digitNumber b
+  pub none : t ≡ false → 99 ≡ digitNumber b
 
 -- SCANS
 

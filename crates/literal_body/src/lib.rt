@@ -9,7 +9,7 @@ ghost use lib.ListN.{drop};
 ghost use Rattle.notation.specs.Classes.{blank, is};
 ghost use Rattle.notation.specs.Literals.{body};
 ghost use Rattle.notation.specs.Reading.{marked};
-ghost use Rattle.literal_body.specs.LiteralAnswers.{digitNumber, Raw, Put, BodyByte};
+ghost use Rattle.literal_body.specs.LiteralAnswers.{digitNumber, HexThere, Raw, Put, BodyByte};
 
 // What a scan found: where the text goes on, and how many bytes the content has.
 pub struct LiteralScan {
@@ -54,27 +54,43 @@ pub fn is_blank(b: u8) -> bool
 // What hex_value answers where no digit stands.
 pub const NO_DIGIT: u8 = 99;
 
-// The value of a hexadecimal digit.
+// Whether a byte is a hexadecimal digit. The compiler makes one test of a bit in a word of this.
+fn is_hex(b: u8) -> bool
+    ensures { λ r. ⌜ HexThere b r ⌝ }
+{
+    match b {
+        0x30 => true,
+        0x31 => true,
+        0x32 => true,
+        0x33 => true,
+        0x34 => true,
+        0x35 => true,
+        0x36 => true,
+        0x37 => true,
+        0x38 => true,
+        0x39 => true,
+        0x41 => true,
+        0x42 => true,
+        0x43 => true,
+        0x44 => true,
+        0x45 => true,
+        0x46 => true,
+        0x61 => true,
+        0x62 => true,
+        0x63 => true,
+        0x64 => true,
+        0x65 => true,
+        0x66 => true,
+        _ => false,
+    }
+}
+
+// The value of a hexadecimal digit. Digits and letters are mixed in every way, and a branch on them would be foretold badly: so there is none.
 pub fn hex_value(b: u8) -> u8
     ensures { λ r. ⌜ r ≡ digitNumber b ⌝ }
 {
-    if b < 0x30 {
-        return NO_DIGIT;
-    }
-    if b < 0x3a {
-        return b - 0x30;
-    }
-    if b < 0x41 {
-        return NO_DIGIT;
-    }
-    if b < 0x47 {
-        return b - 0x37;
-    }
-    if b < 0x61 {
-        return NO_DIGIT;
-    }
-    if b < 0x67 {
-        return b - 0x57;
+    if is_hex(b) {
+        return b % 16 + b / 64 * 9;
     }
     NO_DIGIT
 }

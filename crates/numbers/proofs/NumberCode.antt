@@ -40,7 +40,7 @@ says-as e h = rw e h
 
 pub says-refuse : {s : List ℕ} {k p : ℕ} {t : Cut} (q : ℕ) → Refused k p t → Says s p t (refuse k q)
 unfolding Shown
-says-refuse q r = record { shown = record { code = r .code; kind = r .kind }; place = r .place }
+says-refuse q r = record { shown = record { code = r .code; refusal = r .refusal }; place = r .place }
 
 pub says-made : {s : List ℕ} {c i n p x : ℕ} {t : Cut} → TokenMade c i n p x t → (tok : Token) → c ≡ codeOf tok → i ≡ markOf tok → n ≡ numberOf tok → Written s t tok → x ≤ length s
     → Says s p t (ok tok (drop x (marked s)))

@@ -3,7 +3,7 @@
 use mathlib.Core.Path.{_≡_, refl, sym, ap, _∙_}
 use mathlib.Core.Bool.{true, false}
 use mathlib.Core.List.{List}
-use Prim.Native.Nat.{ℕ, _-_, _≤_}
+use Prim.Native.Nat.{ℕ, _-_, _*_, _≤_}
 use native.Mathlib.Omega.{arith}
 use lib.Dec.{eqb}
 use lib.ListN.{length, drop, length-drop}
@@ -110,18 +110,19 @@ module _ {s : List ℕ} {m : MadeS} {t : Cut} {a : ReadAnswer} (d : ℕ) (inside
 pub ruleset behind-ways = (behind-none, behind-blank, behind-token)
 
 -- THE VERDICT that an answer stands for
-pub record Accepted (s b b′ : List ℕ) (d : ℕ) (m : MadeS) : Type 0 where
+pub record Accepted (s b b′ : List ℕ) (most d : ℕ) (m : MadeS) : Type 0 where
   pub item : Item
   pub is : verdictOf (length s) (single d s) ≡ accepted item
   pub size : m .size ≡ length (encode item)
   pub wrote : Wrote b b′ 0 (encode item)
+  pub short : m .size ≤ 9 * most
 
 module _ {s b b′ : List ℕ} {most : ℕ} (d : ℕ) (a : ReadAnswer) (told : ReadTold ofItem s b b′ most 0 a (plus (single d s))) where
-  pub one-accepted : {m : MadeS} → a ≡ Made m → Accepted s b b′ d m
+  pub one-accepted : {m : MadeS} → a ≡ Made m → Accepted s b b′ most d m
   unfolding ofItem verdictOf
   one-accepted g =
       let it = got a told g in
-      record { item = it .thing; is = sym (verdict-marked s (single d s)) ∙ ap (verdictOf (length (marked s))) (it .is); size = it .moved .sized; wrote = it .moved .wrote }
+      record { item = it .thing; is = sym (verdict-marked s (single d s)) ∙ ap (verdictOf (length (marked s))) (it .is); size = it .moved .sized; wrote = it .moved .wrote; short = omega (arith, it .moved .short) }
 
   pub one-denied : {e : Refusal} → a ≡ Refused e → verdictOf (length s) (single d s) ≡ refused (kindNumber (e .kind)) (e .place)
   unfolding verdictOf

@@ -1,6 +1,6 @@
 -- Room, and results laid into a buffer.
 -- Assumes nothing.
-use Prim.Native.Nat.{ℕ, _-_, _≤_, _<_, min}
+use Prim.Native.Nat.{ℕ, suc, _-_, _*_, _≤_, _<_, min}
 use native.Mathlib.Omega.{arith}
 use mathlib.Core.Path.{_≡_, refl, sym, ap, _∙_}
 use mathlib.Core.Bool.{Bool, true, false}
@@ -9,11 +9,12 @@ use lib.Dec.{leb}
 use lib.ListN.{length}
 use borrow.Author.Tests.{le-leb, lt-leb, leb-true, leb-false}
 use Rattle.cbor.specs.Refusals.{accepted, refused, noRoom}
+use Rattle.cbor.specs.Decode.{mostBytes}
 use Rattle.memory.specs.Buffer.{over}
 use Rattle.refusal.specs.RefusalKinds.{kindNumber}
 use Rattle.refusal.specs.declared.RefusalKind.the-variants.{NoRoom}
 use Rattle.operations.specs.Operations.{room, fitting, written}
-use Rattle.outcome.specs.Outcomes.{outcomeOf, laid, Refuses}
+use Rattle.outcome.specs.Outcomes.{outcomeOf, laid, Refuses, Roomy}
 use Rattle.operations.proofs.Verdicts.{fitting-yes, fitting-no}
 use Rattle.outcome.specs.declared.Answer.{Answer}
 use Rattle.outcome.specs.declared.Answer.the-variants.{Written}
@@ -50,3 +51,16 @@ module _ (b : List ℕ) {n : ℕ} {v : Bool} (f : v ≡ leb n (min (length b) 65
       let m : min (length b) 65535 < length w = rw e at (leb-false n (min (length b) 65535) (sym f ∙ t)) in
       let i : fitting b w ≡ refused noRoom 0 = fitting-no b w m in
       rw (x .is, i)
+
+-- BUFFERS for all that texts of a size can make
+module _ {s m : List ℕ} where
+  pub roomy-tiny : length s ≤ 55 → length m ≡ 504 → Roomy s m
+  roomy-tiny f l = record { room = omega arith }
+
+  pub roomy-small : length s ≤ 511 → length m ≡ 4608 → Roomy s m
+  roomy-small f l = record { room = omega arith }
+
+  pub roomy-large : length m ≡ mostBytes → Roomy s m
+  roomy-large l = record { room = omega arith }
+
+pub ruleset roomy-ways = (roomy-tiny, roomy-small, roomy-large)

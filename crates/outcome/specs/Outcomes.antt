@@ -1,5 +1,5 @@
 -- Of the code: what an operation answers that writes into a lent buffer, with what the buffer then holds.
-use Prim.Native.Nat.{ℕ, _≤_}
+use Prim.Native.Nat.{ℕ, suc, _*_, _≤_, min}
 use mathlib.Core.Path.{_≡_}
 use mathlib.Core.List.{List}
 use lib.ListN.{length, take}
@@ -27,3 +27,7 @@ laid b w = written b (λ v. v) (fitting b w)
 pub record Holds (m : List ℕ) (n : ℕ) (w : List ℕ) : Type 0 where
   pub sized : n ≡ length w
   pub held : n ≤ mostBytes → take n m ≡ w
+
+-- a buffer for all that a text can make: nine bytes for each of its bytes and for its end, and no more than a result may have
+pub record Roomy (s m : List ℕ) : Type 0 where
+  pub room : min mostBytes (9 * suc (length s)) ≤ length m

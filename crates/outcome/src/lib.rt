@@ -2,7 +2,7 @@
 use refusal::Refusal;
 use refusal::RefusalKind;
 ghost use mathlib.Core.Path.{_≡_};
-ghost use Prim.Native.Nat.{min};
+ghost use Prim.Native.Nat.{_≤_, min};
 ghost use lib.Dec.{leb};
 ghost use Rattle.cbor.specs.Decode.{mostBytes};
 ghost use Rattle.outcome.specs.Outcomes.{Refuses};
@@ -27,4 +27,12 @@ pub fn fits(size: usize, room: usize) -> bool
         return false;
     }
     size <= room
+}
+
+// How often a function with a large buffer calls itself, for a text of some bytes: never, since no text is as long. But the compiler does not
+// know that, and what may call itself is not taken into others. So the buffer stands in no caller's frame, where small texts would pay for its pages.
+pub fn turns_for(length: usize) -> u8
+    ensures { λ r. ⌜ r ≤ 1 ⌝ }
+{
+    if length < 0x8000_0000_0000_0000 { 0 } else { 1 }
 }

@@ -1,2 +1,4 @@
 pub mod Stepping
 pub mod Traces
+pub mod Joining
+pub mod Guiding

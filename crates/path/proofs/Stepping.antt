@@ -8,6 +8,7 @@ use mathlib.Core.List.{List, [], _∷_}
 use lib.Dec.{eqb}
 use lib.ListN.{length, take, drop, getD, length-drop, drop-of-length-le}
 use lib.Seq.{drop-cons}
+use Rattle.memory.proofs.Lists.{front}
 use borrow.Author.Tests.{eq-eqb, ne-eqb, eqb-true, eqb-false}
 use Rattle.cbor.specs.Refusals.{Result, ok, refuse, bind}
 use Rattle.cbor.specs.Items.{Size}
@@ -28,8 +29,8 @@ use Rattle.walk.proofs.ItemLeaves.{HeadLeft, head-left}
 use Rattle.walk.proofs.WalkParts.{size-indefinite, size-definite}
 use Rattle.walk.proofs.WalkCycle.{Reached, reached, one-leaves, all-leaves, all-more, all-none, all-one, all-double}
 use Rattle.walk.proofs.WalkItems.{all-told}
-use Rattle.path.specs.Following.{Place, at, astray, onto, behindOne, pastOne, stepTo, nthFrom, childBy, childAt, childIn, numbered, followFrom, trace}
-use Rattle.path.specs.StepAnswers.{placeOf, ReachedInside, ReachedAt, Step, majorBy, itemsBefore, pastItems, tracedTo, Still, Traced}
+use Rattle.path.specs.Following.{Place, at, astray, onto, behindOne, pastOne, stepTo, standing, nthFrom, childBy, childAt, childIn, numbered, followFrom, trace}
+use Rattle.path.specs.StepAnswers.{placeOf, ReachedInside, ReachedAt, Step, majorBy, itemsBefore, pastItems, Begins, tracedTo, Still, Traced}
 use Rattle.path.specs.declared.Cursor.{Cursor}
 use Rattle.path.specs.declared.Destination.{Destination}
 use Rattle.path.specs.declared.Destination.the-variants.{To, Nowhere}
@@ -38,7 +39,7 @@ use Rattle.path.specs.declared.Trace.the-variants.{At, Lost}
 -- PAST ONE
 
 -- what is left behind a part is left of the whole
-left-of : (k : ℕ) (s : List ℕ) (i : ℕ) (r : List ℕ) {z : ℕ} → i ≤ length s → Left k (drop i s) r z → Left 0 s r z
+pub left-of : (k : ℕ) (s : List ℕ) (i : ℕ) (r : List ℕ) {z : ℕ} → i ≤ length s → Left k (drop i s) r z → Left 0 s r z
 left-of k s i r h l = left-weak (omega arith) (omega arith) (left-on (left-cut 0 0 i s (omega arith) (omega arith) h) l)
 
 past-at : (s : List ℕ) (i : ℕ) (m : Passage) (res : Result ℕ) → i ≤ length s → Leaves 0 same (drop i s) res → Reached (length s) m res → ReachedAt s (To (record { at = m .end })) (behindOne res)
@@ -89,16 +90,13 @@ nth-more major zero u v s e z = absurd (z refl)
 nth-more major (suc n) u v s e z = let i : n ≡ suc n - 1 = omega arith in rw e (ap (λ (k : ℕ). onto (pastOne major s) (nthFrom major k v)) i)
 
 -- All that stand before it are passed at once: then one must be left there.
-pastSome : ℕ → ℕ → List ℕ → Place
+unfoldable pub pastSome : ℕ → ℕ → List ℕ → Place
 pastSome major k s = behindOne (allOf major 17 (counted k) s)
 
-lessBy : ℕ → Until → Until
+unfoldable pub lessBy : ℕ → Until → Until
 lessBy k (counted n) = counted (n - k)
 lessBy k broken = broken
 lessBy k ended = ended
-
-stands : Until → List ℕ → Place
-stands u s = stepTo (stepAt u s) (λ v. at s)
 
 some-more : (major k : ℕ) (s : List ℕ) → pastSome major (suc k) s ≡ onto (pastOne major s) (pastSome major k)
 unfolding pastSome pastOne behindOne bind onto
@@ -133,35 +131,35 @@ none-there : (major : ℕ) → pastOne major [] ≡ astray
 unfolding pastOne
 none-there major = refused-there major (oneOf major 17 []) (one-leaves major 17 [])
 
--- they are over: whatever stands there, the place is lost
-skip-over : (major k : ℕ) (u : Until) (s : List ℕ) → pastOne major s ≡ astray → onto (pastSome major (suc k) s) (stands (lessBy (suc k) u)) ≡ astray
+-- they are over: whatever standing there, the place is lost
+skip-over : (major k : ℕ) (u : Until) (s : List ℕ) → pastOne major s ≡ astray → onto (pastSome major (suc k) s) (standing (lessBy (suc k) u)) ≡ astray
 unfolding onto
-skip-over major k u s e = ap (λ (p : Place). onto p (stands (lessBy (suc k) u))) (some-more major k s ∙ ap (λ (p : Place). onto p (pastSome major k)) e)
+skip-over major k u s e = ap (λ (p : Place). onto p (standing (lessBy (suc k) u))) (some-more major k s ∙ ap (λ (p : Place). onto p (pastSome major k)) e)
 
-skip-none : (k : ℕ) (p : Place) → onto p (stands (lessBy k (counted 0))) ≡ astray
-unfolding onto stands lessBy stepTo stepAt
-skip-none k (at r) = let e : 0 - k ≡ 0 = omega arith in ap (λ (n : ℕ). stands (counted n) r) e
+skip-none : (k : ℕ) (p : Place) → onto p (standing (lessBy k (counted 0))) ≡ astray
+unfolding onto standing lessBy stepTo stepAt
+skip-none k (at r) = let e : 0 - k ≡ 0 = omega arith in ap (λ (n : ℕ). standing (counted n) r) e
 skip-none k astray = refl
 
-skip-on : (major k : ℕ) (u v : Until) (s : List ℕ) → ((r : List ℕ) → nthFrom major k v r ≡ onto (pastSome major k r) (stands (lessBy k v))) → stepAt u s ≡ another v → lessBy (suc k) u ≡ lessBy k v
-    → nthFrom major (suc k) u s ≡ onto (pastSome major (suc k) s) (stands (lessBy (suc k) u))
+skip-on : (major k : ℕ) (u v : Until) (s : List ℕ) → ((r : List ℕ) → nthFrom major k v r ≡ onto (pastSome major k r) (standing (lessBy k v))) → stepAt u s ≡ another v → lessBy (suc k) u ≡ lessBy k v
+    → nthFrom major (suc k) u s ≡ onto (pastSome major (suc k) s) (standing (lessBy (suc k) u))
 unfolding nthFrom stepTo onto
 skip-on major k u v s ih e l =
-    rw e (by (pastOne major s) ∙ ap (λ (x : Until). onto (onto (pastOne major s) (pastSome major k)) (stands x)) (sym l) ∙ ap (λ (p : Place). onto p (stands (lessBy (suc k) u))) (sym (some-more major k s)))
+    rw e (by (pastOne major s) ∙ ap (λ (x : Until). onto (onto (pastOne major s) (pastSome major k)) (standing x)) (sym l) ∙ ap (λ (p : Place). onto p (standing (lessBy (suc k) u))) (sym (some-more major k s)))
   where
-    by : (p : Place) → onto p (nthFrom major k v) ≡ onto (onto p (pastSome major k)) (stands (lessBy k v))
+    by : (p : Place) → onto p (nthFrom major k v) ≡ onto (onto p (pastSome major k)) (standing (lessBy k v))
     by (at r) = ih r
     by astray = refl
 
-less-none : (u : Until) → lessBy 0 u ≡ u
+pub less-none : (u : Until) → lessBy 0 u ≡ u
 unfolding lessBy
 less-none (counted n) = let e : n - 0 ≡ n = omega arith in ap counted e
 less-none broken = refl
 less-none ended = refl
 
-skip : (major k : ℕ) (u : Until) (s : List ℕ) → nthFrom major k u s ≡ onto (pastSome major k s) (stands (lessBy k u))
-unfolding nthFrom pastSome stands stepTo stepAt onto behindOne lessBy
-skip major zero u s = ap (λ (x : Until). stands x s) (sym (less-none u)) ∙ sym (ap (λ (res : Result ℕ). onto (behindOne res) (stands (lessBy 0 u))) (all-none major 17 s))
+pub skip : (major k : ℕ) (u : Until) (s : List ℕ) → nthFrom major k u s ≡ onto (pastSome major k s) (standing (lessBy k u))
+unfolding nthFrom pastSome standing stepTo stepAt onto behindOne lessBy
+skip major zero u s = ap (λ (x : Until). standing x s) (sym (less-none u)) ∙ sym (ap (λ (res : Result ℕ). onto (behindOne res) (standing (lessBy 0 u))) (all-none major 17 s))
 skip major (suc k) (counted zero) s = sym (skip-none (suc k) (pastSome major (suc k) s))
 skip major (suc k) (counted (suc n)) s =
     let e : suc n - suc k ≡ n - k = omega arith in
@@ -169,18 +167,18 @@ skip major (suc k) (counted (suc n)) s =
 skip major (suc k) broken [] = skip-on major k broken broken [] (skip major k broken) refl refl
 skip major (suc k) broken (b ∷ s) = by (eqb b 255) refl (skip major k broken)
   where
-    by : (t : Bool) → eqb b 255 ≡ t → ((r : List ℕ) → nthFrom major k broken r ≡ onto (pastSome major k r) (stands (lessBy k broken)))
-        → stepTo (elim t [ true ↦ finished s | false ↦ another broken ]) (λ v. onto (pastOne major (b ∷ s)) (nthFrom major k v)) ≡ onto (pastSome major (suc k) (b ∷ s)) (stands broken)
+    by : (t : Bool) → eqb b 255 ≡ t → ((r : List ℕ) → nthFrom major k broken r ≡ onto (pastSome major k r) (standing (lessBy k broken)))
+        → stepTo (elim t [ true ↦ finished s | false ↦ another broken ]) (λ v. onto (pastOne major (b ∷ s)) (nthFrom major k v)) ≡ onto (pastSome major (suc k) (b ∷ s)) (standing broken)
     by true e ih = sym (skip-over major k broken (b ∷ s) (ap (λ (x : ℕ). pastOne major (x ∷ s)) (eqb-true b 255 e) ∙ at-break major s))
-    by false e ih = on-by (pastOne major (b ∷ s)) ih ∙ ap (λ (p : Place). onto p (stands broken)) (sym (some-more major k (b ∷ s)))
+    by false e ih = on-by (pastOne major (b ∷ s)) ih ∙ ap (λ (p : Place). onto p (standing broken)) (sym (some-more major k (b ∷ s)))
       where
-        on-by : (p : Place) → ((r : List ℕ) → nthFrom major k broken r ≡ onto (pastSome major k r) (stands (lessBy k broken))) → onto p (nthFrom major k broken) ≡ onto (onto p (pastSome major k)) (stands broken)
+        on-by : (p : Place) → ((r : List ℕ) → nthFrom major k broken r ≡ onto (pastSome major k r) (standing (lessBy k broken))) → onto p (nthFrom major k broken) ≡ onto (onto p (pastSome major k)) (standing broken)
         on-by (at r) ih = ih r
         on-by astray ih = refl
 skip major (suc k) ended [] = sym (skip-over major k ended [] (none-there major))
 skip major (suc k) ended (b ∷ s) = skip-on major k ended ended (b ∷ s) (skip major k ended) refl refl
 
-less-mode : (k mode n : ℕ) → lessBy k (untilBy mode n) ≡ untilBy mode (n - k)
+pub less-mode : (k mode n : ℕ) → lessBy k (untilBy mode n) ≡ untilBy mode (n - k)
 unfolding lessBy untilBy
 less-mode k mode n = by (eqb mode 0) (eqb mode 1)
   where
@@ -196,20 +194,20 @@ before-is true k s = ap behindOne (all-double 17 k s)
 before-is false k s = refl
 
 module _ (pairs : Bool) (k : ℕ) {s : List ℕ} (i : ℕ) {n : ℕ} (en : n ≡ itemsBefore pairs k) {move : Destination} (mv : ReachedAt s move (pastItems n (drop i s))) (mode count : ℕ) where
-  on : nthFrom (majorBy pairs) k (untilBy mode count) (drop i s) ≡ onto (placeOf s move) (stands (untilBy mode (count - k)))
+  on : nthFrom (majorBy pairs) k (untilBy mode count) (drop i s) ≡ onto (placeOf s move) (standing (untilBy mode (count - k)))
   on =
       skip (majorBy pairs) k (untilBy mode count) (drop i s)
-      ∙ (λ z. onto (sym (mv .is ∙ ap (λ (x : ℕ). pastItems x (drop i s)) en ∙ before-is pairs k (drop i s)) z) (stands (less-mode k mode count z)))
+      ∙ (λ z. onto (sym (mv .is ∙ ap (λ (x : ℕ). pastItems x (drop i s)) en ∙ before-is pairs k (drop i s)) z) (standing (less-mode k mode count z)))
 
   pub nth-lost : move ≡ Nowhere → ReachedAt s Nowhere (nthFrom (majorBy pairs) k (untilBy mode count) (drop i s))
   unfolding placeOf ReachedInside onto
-  nth-lost e = record { is = sym (on ∙ ap (λ (m : Destination). onto (placeOf s m) (stands (untilBy mode (count - k)))) e); inside = tt }
+  nth-lost e = record { is = sym (on ∙ ap (λ (m : Destination). onto (placeOf s m) (standing (untilBy mode (count - k)))) e); inside = tt }
 
   module _ {c : Cursor} (e : move ≡ To c) {w x : ℕ} (st : Step k w) (ex : x ≡ count - w) {t : Bool} (tu : Turned s (c .at) mode x t) where
     there : nthFrom (majorBy pairs) k (untilBy mode count) (drop i s) ≡ stepTo (stepBy t mode x s (c .at)) (λ v. at (drop (c .at) s))
-    unfolding placeOf onto stands
+    unfolding placeOf onto standing
     there =
-        on ∙ ap (λ (m : Destination). onto (placeOf s m) (stands (untilBy mode (count - k)))) e
+        on ∙ ap (λ (m : Destination). onto (placeOf s m) (standing (untilBy mode (count - k)))) e
         ∙ ap (λ (y : ℕ). stepTo (stepAt (untilBy mode y) (drop (c .at) s)) (λ v. at (drop (c .at) s))) (ap (λ (y : ℕ). count - y) (sym (st .is)) ∙ sym ex)
         ∙ ap (λ (y : _). stepTo y (λ v. at (drop (c .at) s))) (tu .is)
 
@@ -239,7 +237,7 @@ pub ruleset before-ways = (before-pairs, before-each)
 pub extentBy : ℕ → ℕ → Until
 extentBy info n = elim (eqb info 31) [ true ↦ broken | false ↦ counted n ]
 
-mode-is : (info n : ℕ) → untilBy (modeBy info) n ≡ extentBy info n
+pub mode-is : (info n : ℕ) → untilBy (modeBy info) n ≡ extentBy info n
 unfolding untilBy modeBy extentBy
 mode-is info n = by (eqb info 31)
   where
@@ -312,7 +310,7 @@ module _ (k : ℕ) (s : List ℕ) (i : ℕ) (a : HeadRead) (told : headTold a �
     pub into-room : Within s (h .end)
     into-room = let g = got s i a told f in record { inside = omega (arith, g .ends) }
 
-    child-is : childIn k (drop i s) ≡ childBy k (h .major) (extentBy (h .info) (h .argument)) (drop (h .end) s)
+    pub child-is : childIn k (drop i s) ≡ childBy k (h .major) (extentBy (h .info) (h .argument)) (drop (h .end) s)
     unfolding childIn childAt
     child-is =
         let g = got s i a told f in
@@ -361,18 +359,52 @@ pub record Tracing (s path : List ℕ) (move : Destination) (i : ℕ) : Type 0 w
   pub inside : ReachedInside s move
   pub left : trace path s ≡ numbered i (placeOf s move) (followFrom (suc i) (drop (suc i) path))
 
+pub end-none : {s : List ℕ} {i : ℕ} → length s ≤ i → ReachedAt s Nowhere (standing ended (drop i s))
+unfolding placeOf ReachedInside standing stepTo stepAt
+end-none {s} h = record { is = rw (drop-of-length-le s h); inside = tt }
+
+pub end-some : {s : List ℕ} {i : ℕ} → i < length s → ReachedAt s (To (record { at = i })) (standing ended (drop i s))
+unfolding placeOf ReachedInside standing stepTo stepAt
+end-some {s} {i} h = record { is = rw (front s i h); inside = omega arith }
+
+pub ruleset end-ways = (end-none, end-some)
+
+pub top-is : (k : ℕ) (s : List ℕ) → nthFrom 4 k ended s ≡ onto (pastItems k s) (standing ended)
+unfolding pastItems pastSome lessBy
+top-is k s = skip 4 k ended s
+
+start-of : (s path : List ℕ) (i : ℕ) {move : Destination} → Begins s path i → ReachedAt s move (standing ended (drop i s)) → Tracing s path move 0
+unfolding trace onto
+start-of s [] i b mv = absurd (b .some refl)
+start-of s (k ∷ p) i b mv =
+    record {
+      below = omega arith;
+      inside = mv .inside;
+      left = ap (λ (x : Place). numbered 0 x (followFrom 1 p)) (top-is k s ∙ ap (λ (x : Place). onto x (standing ended)) (b .is) ∙ sym (mv .is));
+    }
+
+pub trace-start : {s path : List ℕ} {i : ℕ} {move : Destination} → Begins s path i → ReachedAt s move (standing ended (drop i s)) → Tracing s path move 0
+trace-start b mv = start-of _ _ _ b mv
+
+-- a path leads nowhere if it is empty, or if there are too few items
 pub trace-none : (s path : List ℕ) → length path ≡ 0 → Traced s path (Lost 0)
 unfolding tracedTo Still trace
 trace-none s [] h = record { is = refl; inside = tt }
 trace-none s (k ∷ p) h = absurd (omega arith)
 
-pub top-room : (s : List ℕ) → Within s 0
-top-room s = record { inside = omega arith }
+pub trace-few : (s path : List ℕ) → (length path ≡ 0 → ⊥) → pastItems (getD path 0 0) s ≡ astray → Traced s path (Lost 0)
+unfolding tracedTo Still trace numbered onto
+trace-few s [] n e = absurd (n refl)
+trace-few s (k ∷ p) n e = record { is = sym (ap (λ (x : Place). numbered 0 x (followFrom 1 p)) (top-is k s ∙ ap (λ (x : Place). onto x (standing ended)) e)); inside = tt }
 
-pub trace-start : (s path : List ℕ) {move : Destination} → (length path ≡ 0 → ⊥) → ReachedAt s move (nthFrom (majorBy false) (getD path 0 0) (untilBy 2 0) (drop 0 s)) → Tracing s path move 0
-unfolding trace untilBy majorBy
-trace-start s [] n mv = absurd (n refl)
-trace-start s (k ∷ p) n mv = record { below = omega arith; inside = mv .inside; left = ap (λ (x : Place). numbered 0 x (followFrom 1 p)) (sym (mv .is)) }
+-- behind a number of items, or not
+pub items-not : (k : ℕ) (s : List ℕ) (e : Refusal) → passTold (RefusedV e) ≡ toldOf (length s) (allOf 4 17 (counted k) s) → pastItems k s ≡ astray
+unfolding pastItems
+items-not k s e h = sym (past-not s e (allOf 4 17 (counted k) s) h)
+
+pub items-behind : (k : ℕ) (s : List ℕ) {z : ℕ} {r : List ℕ} → allOf 4 17 (counted k) s ≡ ok z r → pastItems k s ≡ at r
+unfolding pastItems behindOne
+items-behind k s e = ap behindOne e
 
 module _ {s path : List ℕ} {move : Destination} {i : ℕ} (run : Tracing s path move i) where
   pub trace-lost : move ≡ Nowhere → Traced s path (Lost i)
@@ -403,4 +435,4 @@ module _ {s path : List ℕ} {move : Destination} {i : ℕ} (run : Tracing s pat
               ∙ ap (λ (x : Place). numbered (suc i) x (followFrom (suc (suc i)) (drop (suc (suc i)) path))) (sym (mv .is ∙ ap (λ (x : ℕ). childIn x (drop (c .at) s)) q));
         })
 
-pub ruleset trace-ways = (trace-none, trace-lost, trace-at)
+pub ruleset trace-ways = (trace-lost, trace-at)

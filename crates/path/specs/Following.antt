@@ -29,6 +29,10 @@ unfoldable pub stepTo : Step → (Until → Place) → Place
 stepTo (finished r) go = astray
 stepTo (another u) go = go u
 
+-- at what stands there, if one of them does
+unfoldable pub standing : Until → List ℕ → Place
+standing u s = stepTo (stepAt u s) (λ v. at s)
+
 -- at the element or entry number k
 unfoldable pub nthFrom : ℕ → ℕ → Until → List ℕ → Place
 nthFrom major zero u s = stepTo (stepAt u s) (λ v. at s)

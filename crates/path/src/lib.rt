@@ -1,12 +1,15 @@
 // A path, followed step by step.
+pub mod guided;
+
 use head::HeadRead;
 use walk::Passed;
 ghost use mathlib.Core.Path.{_≡_};
 ghost use Prim.Native.Nat.{_-_};
 ghost use lib.ListN.{drop};
+ghost use Rattle.cbor.specs.Decode.{ended};
 ghost use Rattle.walk.specs.WalkAnswers.{untilBy, Within};
-ghost use Rattle.path.specs.Following.{nthFrom, childIn};
-ghost use Rattle.path.specs.StepAnswers.{ReachedAt, Step, itemsBefore, majorBy, pastItems, Traced};
+ghost use Rattle.path.specs.Following.{standing, nthFrom, childIn};
+ghost use Rattle.path.specs.StepAnswers.{ReachedAt, Step, itemsBefore, majorBy, pastItems, Begins, Traced};
 
 // A place in the bytes.
 pub struct Cursor {
@@ -82,6 +85,17 @@ impl Cursor {
         }
     }
 
+    // To the item that stands at the cursor, if one does.
+    fn unless_end(self, bytes: &[u8]) -> Destination
+        ensures { λ r. ⌜ ReachedAt (now (bytes .entry)) r (standing ended (drop (self .at) (now (bytes .entry)))) ⌝ }
+    {
+        let at = self.at;
+        if bytes.len() <= at {
+            return Destination::Nowhere;
+        }
+        Destination::To(Cursor { at })
+    }
+
     // Into the item at the cursor: to the element of an array, or the value of a map's entry, number `k`.
     fn into(self, bytes: &[u8], k: u16) -> Destination
         ensures { λ r. ⌜ ReachedAt (now (bytes .entry)) r (childIn k (drop (self .at) (now (bytes .entry)))) ⌝ }
@@ -108,15 +122,13 @@ impl Cursor {
     }
 }
 
-// Follows a path, step by step.
-pub fn follow(bytes: &[u8], path: &[u16]) -> Trace
+// Follows a path, step by step, from where its top item would begin: `at` is behind as many top items as the first step says.
+pub fn follow_from(bytes: &[u8], path: &[u16], at: usize) -> Trace
+    requires { ⌜ Begins (now bytes) (now path) at ⌝ }
     ensures { λ r. ⌜ Traced (now (bytes .entry)) (now (path .entry)) r ⌝ }
 {
-    if path.len() == 0 {
-        return Trace::Lost(0);
-    }
-    let top = Cursor { at: 0 };
-    let mut step = top.nth(bytes, walk::ENDED, 0, false, path[0]);
+    let top = Cursor { at };
+    let mut step = top.unless_end(bytes);
     let mut i: usize = 0;
     loop {
         match step {

@@ -163,7 +163,7 @@ mutual
   all-length sep none v h = omega arith
   all-length sep (more x xs) v h = let i = item-length x (v .0) in let j = rest-length sep xs (v .1) h in simp length-append (omega arith)
 
-  rest-length : (sep : List ℕ) (xs : Items) → ValidAll xs → length sep ≤ 2 → length (printRest sep xs) ≤ 40 * length (encodeAll xs)
+  pub rest-length : (sep : List ℕ) (xs : Items) → ValidAll xs → length sep ≤ 2 → length (printRest sep xs) ≤ 40 * length (encodeAll xs)
   rest-length sep none v h = omega arith
   rest-length sep (more x xs) v h = let i = item-length x (v .0) in let j = rest-length sep xs (v .1) h in simp length-append (omega arith)
 

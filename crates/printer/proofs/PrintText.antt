@@ -21,9 +21,9 @@ use Rattle.memory.proofs.Buffer.{clipped-nil}
 use Rattle.cbor.proofs.Results.{refuse-not-ok}
 use Rattle.cbor.proofs.EncodeDecode.{encode-of-decode}
 use Rattle.notation.specs.Printing.{printItem, printText}
-use Rattle.walk.specs.WalkAnswers.{mapResult as mapped, below}
+use Rattle.walk.specs.WalkAnswers.{mapResult as mapped, below, untilBy}
 use Rattle.text_output.specs.PrintParts.{Prints}
-use Rattle.printer.specs.PrintAnswers.{printOneOf, printAllOf, untilBy, joined, PrintTold, PrintedAll}
+use Rattle.printer.specs.PrintAnswers.{printOneOf, printAllOf, joined, PrintTold, PrintedAll}
 use Rattle.printer.specs.declared.Printed.{Printed}
 use Rattle.text_output.proofs.PrintLeaves.{prints-more, prints-as}
 use Rattle.printer.proofs.PrintSeveral.{mapped-is, several-as}
@@ -31,7 +31,7 @@ use Rattle.printer.proofs.PrintCycle.{itemTexts, all-joined}
 use Rattle.printer.proofs.PrintBounds.{all-length}
 
 -- the bytes of a slice are bytes
-bytes-of : (s : List ℕ) → ((i : ℕ) → Fits bits8 (getD s i 0)) → Bytes s
+pub bytes-of : (s : List ℕ) → ((i : ℕ) → Fits bits8 (getD s i 0)) → Bytes s
 unfolding Bytes
 bytes-of [] g = tt
 bytes-of (b ∷ s) g = (let u = g 0 in omega (arith, u), bytes-of s (λ i. g (suc i)))

@@ -23,10 +23,10 @@ use Rattle.cbor.proofs.Results.{refuse-not-ok}
 use Rattle.cbor.proofs.DecodeEncode.{enterAt, by-head}
 use Rattle.notation.specs.Printing.{sizeOf, printInt, printString, printChunked, printItem, printSimple}
 use Rattle.memory.specs.Sums.{capped}
-use Rattle.walk.specs.WalkAnswers.{mapResult as mapped, below, Within}
+use Rattle.walk.specs.WalkAnswers.{mapResult as mapped, below, Within, untilBy, modeBy, behindBy, stepBy, Turned}
 use Rattle.cbor.specs.Flags.{kindOf, signOf}
 use Rattle.text_output.specs.PrintParts.{Prints, widthBy, sizeBy}
-use Rattle.printer.specs.PrintAnswers.{entryText, chunkText, printOneOf, printAllOf, untilBy, modeBy, behindBy, stepBy, PrintTurned, joined, openingBy, closingBy, containerText, chunkedText, tagText, PrintTold, PrintHeaded}
+use Rattle.printer.specs.PrintAnswers.{entryText, chunkText, printOneOf, printAllOf, joined, openingBy, closingBy, containerText, chunkedText, tagText, PrintTold, PrintHeaded}
 use Rattle.printer.specs.declared.Printed.{Printed}
 use Rattle.text_output.proofs.PrintLeaves.{prints-more, prints-as}
 use Rattle.printer.proofs.PrintSeveral.{bind-ok, ok-rest, mapped-ok, mapped-is, several-as, counted-all, last, next, told-via, told-none}
@@ -115,13 +115,13 @@ pub ruleset chunk-ways = (chunk-lost, chunk-found)
 
 -- BY THE MAJOR TYPE
 
-int-major : (m : ℕ) → m ≤ 1 → majorOf m ≡ integers (signOf (eqb m 1))
+pub int-major : (m : ℕ) → m ≤ 1 → majorOf m ≡ integers (signOf (eqb m 1))
 unfolding majorOf signOf
 int-major zero h = refl
 int-major (suc zero) h = refl
 int-major (suc (suc m)) h = absurd (omega arith)
 
-string-major : (m : ℕ) → 1 < m → m ≤ 3 → majorOf m ≡ strings (kindOf (eqb m 3))
+pub string-major : (m : ℕ) → 1 < m → m ≤ 3 → majorOf m ≡ strings (kindOf (eqb m 3))
 unfolding majorOf kindOf
 string-major m l h = go (m - 2) (omega arith) (omega arith)
   where
@@ -368,7 +368,7 @@ chunked-more k (t ∷ ts) n = refl
 nil-not-cons : {t : List ℕ} {ts us : List (List ℕ)} → t ∷ ts ≡ us → [] ≡ us → ⊥
 nil-not-cons e f = let z : _≡_ {A = ℕ} 0 1 = cc in omega arith
 
-module _ {s : List ℕ} {from : ℕ} (d major : ℕ) {t : Bool} (tn : PrintTurned s from 1 0 t) {b b₁ : List ℕ} {pos p : ℕ} where
+module _ {s : List ℕ} {from : ℕ} (d major : ℕ) {t : Bool} (tn : Turned s from 1 0 t) {b b₁ : List ℕ} {pos p : ℕ} where
   pub chunked-empty : {e : ℕ} → Within s from → t ≡ true → length s * 1 < 2 ^ 63 → Prints b b₁ pos (printChunked (kindOf (eqb major 3)) []) p → e ≡ capped from 1
       → PrintTold s from b b₁ pos (record { end = e; pos = p }) (mapped (chunkedText (kindOf (eqb major 3))) (printAllOf major d (untilBy 1 0) (drop from s)))
   unfolding printAllOf several behindBy stepBy chunkedText

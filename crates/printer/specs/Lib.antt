@@ -1,1 +1,2 @@
 pub mod PrintAnswers
+pub mod TextSizes

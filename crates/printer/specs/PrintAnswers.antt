@@ -10,7 +10,7 @@ use Rattle.memory.specs.Buffer.{clipped}
 use Rattle.cbor.specs.Refusals.{Result, ok}
 use Rattle.cbor.specs.Items.{Kind, Chunk, Item, tag, Items}
 use Rattle.cbor.specs.Heads.{majorOf, nextHead}
-use Rattle.cbor.specs.Decode.{Until, counted, broken, ended, Step, finished, another, stepAt, several, chunkAt, Entry, entryAt, decode}
+use Rattle.cbor.specs.Decode.{Until, several, chunkAt, Entry, entryAt, decode}
 use Rattle.walk.specs.WalkAnswers.{mapResult as mapped, below}
 use Rattle.cbor.specs.Flags.{kindOf}
 use Rattle.head.specs.declared.HeadAt.{HeadAt}
@@ -37,25 +37,6 @@ printOneOf major d s =
 -- all of them
 unfoldable pub printAllOf : ℕ → ℕ → Until → List ℕ → Result (List (List ℕ))
 printAllOf major d u s = several [] _∷_ (printOneOf major d) u s
-
--- how far they go: 0 a number of them, 1 to a break, else to the end of the bytes
-unfoldable pub untilBy : ℕ → ℕ → Until
-untilBy mode n = elim (eqb mode 0) [ true ↦ counted n | false ↦ elim (eqb mode 1) [ true ↦ broken | false ↦ ended ] ]
-
-unfoldable pub modeBy : ℕ → ℕ
-modeBy i = elim (eqb i 31) [ true ↦ 1 | false ↦ 0 ]
-
--- a break is passed
-unfoldable pub behindBy : ℕ → ℕ
-behindBy mode = elim (eqb mode 1) [ true ↦ 1 | false ↦ 0 ]
-
-unfoldable pub stepBy : Bool → ℕ → ℕ → List ℕ → ℕ → Step
-stepBy true mode n s at = finished (drop (at + behindBy mode) s)
-stepBy false mode n s at = another (untilBy mode (n - 1))
-
-pub record PrintTurned (s : List ℕ) (at mode n : ℕ) (r : Bool) : Type 0 where
-  pub is : stepAt (untilBy mode n) (drop at s) ≡ stepBy r mode n s at
-  pub inside : r ≡ true → at ≤ length s → at + behindBy mode ≤ length s
 
 -- a part that starts at a place ends behind it, and within the bytes, of which there are `size`
 pub record Moves (at end size : ℕ) (r : Bool) : Type 0 where

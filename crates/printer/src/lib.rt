@@ -3,55 +3,48 @@
 use head::HeadAt;
 use head::HeadRead;
 use saturating::sum;
+use walk::BROKEN;
+use walk::ENDED;
+use walk::is_over;
+use walk::less;
+use walk::mode_of;
+use walk::past;
 ghost use mathlib.Core.Path.{_≡_};
 ghost use Prim.Native.Nat.{_+_, _-_};
 ghost use mathlib.Core.Bool.{true};
-ghost use lib.ListN.{drop};
+ghost use lib.ListN.{length, take, drop};
 ghost use lib.Dec.{eqb};
 ghost use Rattle.cbor.specs.Heads.{taking};
 ghost use Rattle.cbor.specs.Decode.{chunkAt, entryAt, item};
-ghost use Rattle.notation.specs.Printing.{printItem, printString};
+ghost use Rattle.notation.specs.Printing.{printItem, printInt, printString, printSimple, sizeOf};
 ghost use Rattle.memory.specs.Sums.{capped};
-ghost use Rattle.walk.specs.WalkAnswers.{mapResult as mapped, below, Within};
-ghost use Rattle.cbor.specs.Flags.{kindOf};
-ghost use Rattle.text_output.specs.PrintParts.{Prints, widthBy};
-ghost use Rattle.printer.specs.PrintAnswers.{entryText, chunkText, printOneOf, printAllOf, untilBy, modeBy, behindBy, PrintTurned, Moves, separatorOf, joined, openingBy, closingBy, containerText, chunkedText, tagText, PrintTold, PrintHeaded, PrintedAll, TextSize};
+ghost use Rattle.walk.specs.WalkAnswers.{mapResult as mapped, below, untilBy, modeBy, Within};
+ghost use Rattle.cbor.specs.Flags.{kindOf, signOf};
+ghost use Rattle.text_output.specs.PrintParts.{Prints, widthBy, sizeBy};
+ghost use Rattle.printer.specs.PrintAnswers.{entryText, chunkText, printOneOf, printAllOf, Moves, separatorOf, joined, openingBy, closingBy, containerText, chunkedText, tagText, PrintTold, PrintHeaded, PrintedAll, TextSize};
+ghost use Rattle.printer.specs.TextSizes.{isBroken, isNone, bracketsSize, chunkedSize, PartSize, PartEnd, PartInside};
+
+// The major types of items that have parts, or a content.
+const TEXT: u8 = 3;
+
+const ARRAY: u8 = 4;
+
+const MAP: u8 = 5;
+
+const TAG: u8 = 6;
+
+// Additional information: the length is indefinite, or it is a break.
+const OPEN: u8 = 31;
+
+// A break, as the byte that it is.
+const BREAK: u8 = 0xff;
+
+// The levels of items: 16 inside each other, and the text around them.
+const LEVELS: usize = 17;
 
 struct Printed {
     end: usize,
     pos: usize,
-}
-
-// How several go on: `mode` 0, a number of them; 1, to a break; else to the end of the bytes.
-fn is_over(bytes: &[u8], at: usize, mode: u8, n: u64) -> bool
-    ensures { λ r. ⌜ PrintTurned (now (bytes .entry)) at mode n r ⌝ }
-{
-    if mode == 0 {
-        return n == 0;
-    }
-    if mode == 1 {
-        if bytes.len() <= at {
-            return false;
-        }
-        return bytes[at] == 0xff;
-    }
-    bytes.len() <= at
-}
-
-// Behind the break, if there is one.
-fn past(at: usize, mode: u8) -> usize
-    ensures { λ r. ⌜ r ≡ capped at (behindBy mode) ⌝ }
-{
-    if mode == 1 {
-        return sum(at, 1);
-    }
-    at
-}
-
-fn less(n: u64) -> u64
-    ensures { λ r. ⌜ r ≡ n - 1 ⌝ }
-{
-    if n == 0 { 0 } else { n - 1 }
 }
 
 // Whether a part that starts at a place ends behind it, and within the bytes.
@@ -64,12 +57,6 @@ fn moves(at: usize, end: usize, size: usize) -> bool
     end <= size
 }
 
-fn mode_of(info: u8) -> u8
-    ensures { λ r. ⌜ r ≡ modeBy info ⌝ }
-{
-    if info == 31 { 1 } else { 0 }
-}
-
 // What stands before one of several: a comma and a blank, or another byte, before each but the first.
 fn separator(first: bool, blank: u8, out: &mut [u8], pos: usize) -> usize
     ensures { λ r. ⌜ Prints (now (out .entry)) (now (out .exit)) pos (separatorOf first blank) r ⌝ }
@@ -77,20 +64,20 @@ fn separator(first: bool, blank: u8, out: &mut [u8], pos: usize) -> usize
     if first {
         return pos;
     }
-    let p = text_output::put(out, pos, 0x2c);
+    let p = text_output::put(out, pos, b',');
     text_output::put(out, p, blank)
 }
 
 fn opening(major: u8) -> u8
     ensures { λ r. ⌜ r ≡ openingBy major ⌝ }
 {
-    if major == 4 { 0x5b } else { 0x7b }
+    if major == ARRAY { b'[' } else { b'{' }
 }
 
 fn closing(major: u8) -> u8
     ensures { λ r. ⌜ r ≡ closingBy major ⌝ }
 {
-    if major == 4 { 0x5d } else { 0x7d }
+    if major == ARRAY { b']' } else { b'}' }
 }
 
 // STRINGS
@@ -158,16 +145,16 @@ fn behind(bytes: &[u8], at: usize, h: HeadAt, levels: usize, out: &mut [u8], pos
         let p = leaf_printer::integer(major == 1, h.info, h.argument, out, pos);
         return Printed { end: h.end, pos: p };
     }
-    if major <= 3 {
-        if h.info == 31 {
+    if major <= TEXT {
+        if h.info == OPEN {
             return chunked(bytes, h.end, major, levels, out, pos);
         }
-        return string(bytes, h.end, h.argument, h.info, major == 3, out, pos);
+        return string(bytes, h.end, h.argument, h.info, major == TEXT, out, pos);
     }
-    if major <= 5 {
+    if major <= MAP {
         return container(bytes, h.end, h.info, h.argument, major, levels, out, pos);
     }
-    if major == 6 {
+    if major == TAG {
         return tag(bytes, h.end, h.info, h.argument, levels, out, pos);
     }
     let p = leaf_printer::simple(h.argument, out, pos);
@@ -200,9 +187,9 @@ fn tag(
     ensures { λ r. ⌜ PrintTold (now (bytes .entry)) from (now (out .entry)) (now (out .exit)) pos r (mapped (tagText info n) (below levels (drop from (now (bytes .entry))))) ⌝ }
 {
     let p = leaf_printer::integer(false, info, n, out, pos);
-    let q = text_output::put(out, p, 0x28);
+    let q = text_output::put(out, p, b'(');
     let part = below(bytes, from, levels, out, q);
-    let e = text_output::put(out, part.pos, 0x29);
+    let e = text_output::put(out, part.pos, b')');
     Printed {
         end: part.end,
         pos: e,
@@ -225,7 +212,7 @@ fn container(
 {
     let p = text_output::put(out, pos, opening(major));
     let q = leaf_printer::size_mark(info, n, out, p);
-    let part = several(bytes, from, mode_of(info), n, major, levels, 0x20, out, q);
+    let part = several(bytes, from, mode_of(info), n, major, levels, b' ', out, q);
     let e = text_output::put(out, part.pos, closing(major));
     Printed {
         end: part.end,
@@ -245,16 +232,16 @@ fn chunked(
     requires { ⌜ Within (now bytes) from ⌝ }
     ensures { λ r. ⌜ PrintTold (now (bytes .entry)) from (now (out .entry)) (now (out .exit)) pos r (mapped (chunkedText (kindOf (eqb major 3))) (printAllOf major levels (untilBy 1 0) (drop from (now (bytes .entry))))) ⌝ }
 {
-    if is_over(bytes, from, 1, 0) {
-        let p = leaf_printer::no_chunks(major == 3, out, pos);
+    if is_over(bytes, from, BROKEN, 0) {
+        let p = leaf_printer::no_chunks(major == TEXT, out, pos);
         return Printed {
             end: sum(from, 1),
             pos: p,
         };
     }
     let p = text_output::put_all(b"(_ ", out, pos);
-    let part = several(bytes, from, 1, 0, major, levels, 0x20, out, p);
-    let e = text_output::put(out, part.pos, 0x29);
+    let part = several(bytes, from, BROKEN, 0, major, levels, b' ', out, p);
+    let e = text_output::put(out, part.pos, b')');
     Printed {
         end: part.end,
         pos: e,
@@ -274,13 +261,13 @@ fn entry(bytes: &[u8], at: usize, levels: usize, out: &mut [u8], pos: usize) -> 
 fn one(bytes: &[u8], at: usize, major: u8, levels: usize, out: &mut [u8], pos: usize) -> Printed
     ensures { λ r. ⌜ PrintTold (now (bytes .entry)) (at + 1) (now (out .entry)) (now (out .exit)) pos r (printOneOf major levels (drop at (now (bytes .entry)))) ⌝ }
 {
-    if major == 4 {
+    if major == ARRAY {
         return below(bytes, at, levels, out, pos);
     }
-    if major == 5 {
+    if major == MAP {
         return entry(bytes, at, levels, out, pos);
     }
-    chunk(bytes, at, major == 3, out, pos)
+    chunk(bytes, at, major == TEXT, out, pos)
 }
 
 // Several inside an item of a major type, from a place on.
@@ -327,14 +314,131 @@ pub fn print_items(bytes: &[u8], out: &mut [u8]) -> usize
     if bytes.len() == 0 {
         return 0;
     }
-    let part = several(bytes, 0, 2, 0, 4, 17, 0x0a, out, 0);
-    text_output::put(out, part.pos, 0x0a)
+    let part = several(bytes, 0, ENDED, 0, ARRAY, LEVELS, b'\n', out, 0);
+    text_output::put(out, part.pos, b'\n')
 }
 
-// The length of that text.
+// THE SIZE of a text: of all heads, one behind the other, whatever stands inside what.
+
+fn is_broken(bytes: &[u8], at: usize) -> bool
+    ensures { λ r. ⌜ r ≡ isBroken (drop at (now (bytes .entry))) ⌝ }
+{
+    if bytes.len() <= at {
+        return false;
+    }
+    bytes[at] == BREAK
+}
+
+// Whether nothing stands inside brackets.
+fn is_none(bytes: &[u8], from: usize, info: u8, n: u64) -> bool
+    ensures { λ r. ⌜ r ≡ isNone (sizeBy info) n (drop from (now (bytes .entry))) ⌝ }
+{
+    if info == OPEN {
+        return is_broken(bytes, from);
+    }
+    n == 0
+}
+
+// Brackets, and what separates them from others; where something stands inside, the first of it is separated from nothing.
+fn brackets_size(bytes: &[u8], from: usize, info: u8, n: u64) -> usize
+    ensures { λ r. ⌜ r ≡ capped 0 (bracketsSize (sizeBy info) n (drop from (now (bytes .entry)))) ⌝ }
+{
+    let mark = leaf_printer::mark_size(info, n);
+    if is_none(bytes, from, info, n) {
+        return sum(mark, 4);
+    }
+    sum(mark, 2)
+}
+
+fn chunked_size(bytes: &[u8], from: usize) -> usize
+    ensures { λ r. ⌜ r ≡ chunkedSize (drop from (now (bytes .entry))) ⌝ }
+{
+    if is_broken(bytes, from) {
+        return 5;
+    }
+    4
+}
+
+// Where the part behind a head ends.
+fn part_end(bytes: &[u8], major: u8, info: u8, n: u64, end: usize) -> usize
+    requires { ⌜ Within (now bytes) end ⌝ }
+    ensures { λ r. ⌜ PartEnd (now (bytes .entry)) major info n end r ⌝ }
+{
+    if major <= 1 {
+        return end;
+    }
+    if TEXT < major {
+        return end;
+    }
+    if info == OPEN {
+        return end;
+    }
+    sum(end, n as usize)
+}
+
+// How long the text of a string with this content is. Most texts are seen at a glance to stand for themselves.
+fn string_size(bytes: &[u8], from: usize, to: usize, info: u8, text: bool) -> usize
+    requires { ⌜ PartInside (now bytes) from to ⌝ }
+    ensures { λ r. ⌜ r ≡ capped 0 (length (printString (kindOf text) (widthBy info) (take (to - from) (drop from (now (bytes .entry)))))) ⌝ }
+{
+    if text {
+        if to <= text_output::plain_run(bytes, from) {
+            return leaf_printer::plain_size(to - from, info);
+        }
+    }
+    leaf_printer::string_size(&bytes[from..to], info, text)
+}
+
+// How many bytes of a text the part behind a head takes, up to the next.
+fn part_size(bytes: &[u8], major: u8, info: u8, n: u64, end: usize, next: usize) -> usize
+    requires { ⌜ PartInside (now bytes) end next ⌝ }
+    requires { ⌜ PartEnd (now bytes) major info n end next ⌝ }
+    ensures { λ r. ⌜ PartSize (now (bytes .entry)) major info n end r ⌝ }
+{
+    if major <= 1 {
+        return sum(leaf_printer::integer_size(major == 1, info, n), 2);
+    }
+    if major <= TEXT {
+        if info == OPEN {
+            return chunked_size(bytes, end);
+        }
+        return sum(string_size(bytes, end, next, info, major == TEXT), 2);
+    }
+    if major <= MAP {
+        return brackets_size(bytes, end, info, n);
+    }
+    if major == TAG {
+        return sum(leaf_printer::integer_size(false, info, n), 2);
+    }
+    if info == OPEN {
+        return 0;
+    }
+    sum(leaf_printer::simple_size(n), 2)
+}
+
+// The length of the text of all items.
 pub fn text_size(bytes: &[u8]) -> usize
     ensures { λ r. ⌜ TextSize (now (bytes .entry)) r ⌝ }
 {
-    let mut none = [0u8; 1];
-    print_items(bytes, &mut none)
+    let mut size: usize = 0;
+    let mut at: usize = 0;
+    while at < bytes.len() {
+        let end = head::head_end(bytes, at);
+        if end == 0 {
+            return 0;
+        }
+        let n = head::head_argument(bytes, at);
+        let major = bytes[at] / 32;
+        let info = bytes[at] % 32;
+        let next = part_end(bytes, major, info, n, end);
+        if !moves(at, next, bytes.len()) {
+            return 0;
+        }
+        size = sum(size, part_size(bytes, major, info, n, end, next));
+        at = next;
+    }
+    if size == 0 {
+        return 0;
+    }
+    size - 1
 }

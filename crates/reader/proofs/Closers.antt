@@ -7,13 +7,13 @@ use Prim.Native.Nat.{ℕ, suc, _+_, _≤_, _<_}
 use native.Mathlib.Omega.{arith}
 use lib.Dec.{T, eqb, ltb}
 use lib.ListN.{length, drop, getD, replicate}
-use borrow.Author.Tests.{eq-eqb, eqb-true, eqb-false, ltb-true, ltb-false}
+use borrow.Author.Tests.{eq-eqb, eqb-true, eqb-false, ltb-true, ltb-false, le-ltb}
 use Rattle.cbor.specs.Refusals.{Result, ok, refuse, bind}
 use Rattle.cbor.proofs.Results.{refuse-not-ok}
 use Rattle.cbor.proofs.Table.{every, between}
 use Rattle.cbor.specs.Utf8.{isIn}
-use Rattle.notation.specs.Classes.{classNumber, classOf, classIn, classRows}
-use Rattle.notation.specs.Scanning.{expect, skip}
+use Rattle.notation.specs.Classes.{classNumber, classOf, classIn, classRows, is, blank, slash, hash}
+use Rattle.notation.specs.Scanning.{expect, Skipping, between as apart-from-tokens, Skipped, stops, skip, skipFrom, skipped}
 use Rattle.notation.specs.Indicators.{Indicator, absent, indicator}
 use Rattle.notation.specs.Tokens.{Shape, square, curly, round, angle, whole, Token, begins, closes, aComma, aColon}
 use Rattle.notation.specs.Cutting.{cut, cutBy, placed, place, next}
@@ -35,7 +35,7 @@ use Rattle.reader.specs.declared.closer.Closing.{Closing}
 use Rattle.reader.specs.declared.closer.Follow.{Follow}
 use Rattle.reader.specs.declared.closer.Follow.the-variants.{On, Over, Stray}
 use Rattle.reader.specs.declared.closer.Follower.{Follower}
-use Rattle.reader.specs.Several.{shapeOf, isSingle, mayBeEmpty, commaCode, separatorCode, closerCode, shownBy, SignAt, GoesOn, ClosesAt, SeparatesAt, NextAt, StartsAt, Follows, Ends}
+use Rattle.reader.specs.Several.{shapeOf, isSingle, mayBeEmpty, commaCode, separatorCode, closerCode, shownBy, SignAt, GoesOn, ClosesAt, SeparatesAt, NextAt, StartsAt, IsFirm, StartsAtOnce, Differs, OpenAt, ClosesAtOnce, hasSign, Follows, Ends, separatorByte, colonCode, maySeparate, closingByte}
 
 -- A BYTE
 module _ {s : List ℕ} {at c : ℕ} {t : Bool} (p : Peeked s at c t) where
@@ -220,15 +220,18 @@ coded c b u r (closes h i) o l e q = absurd (omega (arith, shape-low h))
 coded c b u r aComma o l e q = sym q ∙ cut-led b u r aComma e
 coded c b u r aColon o l e q = sym q ∙ cut-led b u r aColon e
 
-separator-at : {s : List ℕ} {at v : ℕ} {h : Closer} {k t : Bool} (c : ℕ) (tok : Token) → opensBy c ≡ false → c < 14 → ((b : ℕ) → c ≡ classNumber (classOf b) → b ≡ v) → ((u : List ℕ) → cut (v ∷ u) ≡ ok tok u) → codeOf tok ≡ c → separatorCode h k ≡ c → Peeked s at v t → SeparatesAt s at h k t
+separator-at : {s : List ℕ} {at : ℕ} {h : Closer} {k t : Bool} (c : ℕ) (tok : Token) → opensBy c ≡ false → c < 14 → ((b : ℕ) → c ≡ classNumber (classOf b) → b ≡ separatorByte k) → ((u : List ℕ) → cut (separatorByte k ∷ u) ≡ ok tok u) → codeOf tok ≡ c
+    → separatorCode h k ≡ c → Peeked s at (separatorByte k) t → SeparatesAt s at h k t
 unfolding cut
-separator-at {s} {at} {v} {h} {k} {t} c tok o l only cuts z q p =
+separator-at {s} {at} {h} {k} {t} c tok o l only cuts z q p =
     record {
+      here = peeked-yes p;
+      inside = λ e. omega (arith, p .inside e);
       yes = λ e. record { tok = tok; cut-at = record { is = ap cut (peeked-yes p e) ∙ cuts (drop (at + 1) (marked s)); inside = omega (arith, p .inside e, length-marked s); ahead = omega arith }; is = z ∙ sym q };
       no = λ e. never (drop at (marked s)) (peek-no p e);
     }
   where
-    never : (w : List ℕ) → ((u : List ℕ) → w ≡ v ∷ u → ⊥) → (tok : Token) (u : List ℕ) → cut w ≡ ok tok u → codeOf tok ≡ separatorCode h k → ⊥
+    never : (w : List ℕ) → ((u : List ℕ) → w ≡ separatorByte k ∷ u → ⊥) → (tok : Token) (u : List ℕ) → cut w ≡ ok tok u → codeOf tok ≡ separatorCode h k → ⊥
     never [] n tok u e f = refuse-not-ok e
     never (b ∷ w) n tok u e f = n w (ap (λ (x : ℕ). x ∷ w) (only b (coded c b w u tok o l e (f ∙ q))))
 
@@ -236,43 +239,41 @@ no-token : (tok : Token) → codeOf tok ≡ 0 → ⊥
 unfolding codeOf opensBy
 no-token tok e = omega (arith, code-some tok)
 
-module _ {s : List ℕ} {at : ℕ} {h : Closer} {k : Bool} where
-  pub separates-key : {t : Bool} → k ≡ true → Peeked s at 0x3a t → SeparatesAt s at h k t
-  unfolding separatorCode codeOf opensBy
-  separates-key e p = separator-at 12 aColon refl (omega arith) colon-only colon-cut refl (rw e) p
+parts-some : {s : List ℕ} {at : ℕ} {h : Closer} {t : Bool} (k : Bool) → commaCode h ≡ 11 → colonCode h ≡ 12 → Peeked s at (separatorByte k) t → SeparatesAt s at h k t
+unfolding separatorByte separatorCode codeOf opensBy
+parts-some true e f p = separator-at 12 aColon refl (omega arith) colon-only colon-cut refl f p
+parts-some false e f p = separator-at 11 aComma refl (omega arith) comma-only comma-cut refl e p
 
-  module _ (n : k ≡ false) where
-    separates-comma : {t : Bool} → commaCode h ≡ 11 → Peeked s at 0x2c t → SeparatesAt s at h k t
-    unfolding separatorCode codeOf opensBy
-    separates-comma e p = separator-at 11 aComma refl (omega arith) comma-only comma-cut refl (rw n e) p
+parts-none : {s : List ℕ} {at : ℕ} {h : Closer} (k : Bool) → commaCode h ≡ 0 → colonCode h ≡ 0 → SeparatesAt s at h k false
+unfolding separatorCode
+parts-none true e f = record { here = λ g. absurd (true≢false (sym g)); inside = λ g. absurd (true≢false (sym g)); yes = λ g. absurd (true≢false (sym g)); no = λ g tok u q z. no-token tok (z ∙ f) }
+parts-none false e f = record { here = λ g. absurd (true≢false (sym g)); inside = λ g. absurd (true≢false (sym g)); yes = λ g. absurd (true≢false (sym g)); no = λ g tok u q z. no-token tok (z ∙ e) }
 
-    separates-none : commaCode h ≡ 0 → SeparatesAt s at h k false
-    unfolding separatorCode
-    separates-none e = record { yes = λ f. absurd (true≢false (sym f)); no = λ f tok u q z. no-token tok (z ∙ rw n e) }
+-- a byte that stands there parts the items of those lists that have it
+parts-yes : {s : List ℕ} {at : ℕ} (h : Closer) (k : Bool) → Peeked s at (separatorByte k) true → SeparatesAt s at h k (maySeparate h)
+unfolding maySeparate commaCode colonCode
+parts-yes Square k p = parts-some k refl refl p
+parts-yes Curly k p = parts-some k refl refl p
+parts-yes Angle k p = parts-some k refl refl p
+parts-yes Whole k p = parts-some k refl refl p
+parts-yes Round k p = parts-none k refl refl
+parts-yes Nothing k p = parts-none k refl refl
 
-    pub separates-square : {t : Bool} → h ≡ Square → Peeked s at 0x2c t → SeparatesAt s at h k t
-    unfolding commaCode
-    separates-square e p = separates-comma (rw e) p
+parts-not : {s : List ℕ} {at : ℕ} (h : Closer) (k : Bool) → Peeked s at (separatorByte k) false → SeparatesAt s at h k false
+unfolding commaCode colonCode
+parts-not Square k p = parts-some k refl refl p
+parts-not Curly k p = parts-some k refl refl p
+parts-not Angle k p = parts-some k refl refl p
+parts-not Whole k p = parts-some k refl refl p
+parts-not Round k p = parts-none k refl refl
+parts-not Nothing k p = parts-none k refl refl
 
-    pub separates-curly : {t : Bool} → h ≡ Curly → Peeked s at 0x2c t → SeparatesAt s at h k t
-    unfolding commaCode
-    separates-curly e p = separates-comma (rw e) p
+module _ {s : List ℕ} {at c : ℕ} {k t : Bool} (e : c ≡ separatorByte k) (p : Peeked s at c t) where
+  pub separates-yes : {h : Closer} {m : Bool} → t ≡ true → m ≡ maySeparate h → SeparatesAt s at h k m
+  separates-yes {h} f q = rw q (parts-yes h k (rw (f, e) at p))
 
-    pub separates-angle : {t : Bool} → h ≡ Angle → Peeked s at 0x2c t → SeparatesAt s at h k t
-    unfolding commaCode
-    separates-angle e p = separates-comma (rw e) p
-
-    pub separates-whole : {t : Bool} → h ≡ Whole → Peeked s at 0x2c t → SeparatesAt s at h k t
-    unfolding commaCode
-    separates-whole e p = separates-comma (rw e) p
-
-    pub separates-round : h ≡ Round → SeparatesAt s at h k false
-    unfolding commaCode
-    separates-round e = separates-none (rw e)
-
-    pub separates-nothing : h ≡ Nothing → SeparatesAt s at h k false
-    unfolding commaCode
-    separates-nothing e = separates-none (rw e)
+  pub separates-not : {h : Closer} → t ≡ false → SeparatesAt s at h k false
+  separates-not {h} f = parts-not h k (rw (f, e) at p)
 
 -- what a closing token, or none, makes of it
 module _ {c : Closing} where
@@ -284,7 +285,7 @@ module _ {c : Closing} where
 
 pub ruleset ended-ways = (ended-over, ended-stray)
 
-pub ruleset separates-ways = (separates-key, separates-square, separates-curly, separates-angle, separates-whole, separates-round, separates-nothing)
+pub ruleset separates-ways = (separates-yes, separates-not)
 
 -- the three that can follow are not the same
 on-over : On ≡ Over → ⊥
@@ -319,9 +320,9 @@ closing-not w h tok u e q n = let c = closing-is (shapeOf h) tok q in n (c .0) u
 pub skip-inside : {s : List ℕ} {from at : ℕ} → Skips s from at → at ≤ length s + 1
 skip-inside {s} sk = omega (arith, sk .stands .inside, length-marked s)
 
-pub follow-single : {s : List ℕ} {from : ℕ} {h : Closer} {k v : Bool} → v ≡ isSingle h → v ≡ true → Follows s from h k (record { follow = Over; next = from; indicator = 0 })
-follow-single e f =
-    record { on = λ z. absurd (on-over (sym z)); single = λ z w. (refl, refl); over = λ z w. absurd (true≢false (sym f ∙ e ∙ w)); stray = λ z. absurd (over-stray z) }
+pub follow-single : {s : List ℕ} {from : ℕ} {h : Closer} {k v : Bool} {g : Follower} → v ≡ isSingle h → v ≡ true → g ≡ record { follow = Over; next = from; indicator = 0 } → Follows s from h k g
+follow-single e f q =
+    rw q (record { on = λ z. absurd (on-over (sym z)); single = λ z w. (refl, refl); over = λ z w. absurd (true≢false (sym f ∙ e ∙ w)); stray = λ z. absurd (over-stray z) })
 
 pub first-none : {s : List ℕ} {from : ℕ} {h : Closer} {r : Closing} {v : Bool} → v ≡ mayBeEmpty h → v ≡ false → r ≡ record { found = false; next = from; indicator = 0 } → StartsAt s from h r
 first-none {r = r} e f q =
@@ -352,16 +353,16 @@ module _ {s : List ℕ} {from at : ℕ} (sk : Skips s from at) where
         no = λ q m i u z. x .no q i u (next-ok (closes (shapeOf h) i) u z);
       }
 
-  module _ {h : Closer} {k v : Bool} (e : v ≡ isSingle h) (n : v ≡ false) where
-    pub follow-on : {t : Bool} → SeparatesAt s at h k t → t ≡ true → Follows s from h k (record { follow = On; next = at + 1; indicator = 0 })
-    follow-on x f =
+  module _ {h : Closer} {k : Bool} (n : isSingle h ≡ false) where
+    pub follow-on : {t : Bool} {g : Follower} → SeparatesAt s at h k t → t ≡ true → g ≡ record { follow = On; next = at + 1; indicator = 0 } → Follows s from h k g
+    follow-on x f q =
         let y = x .yes f in
-        record {
-          on = λ q. record { several = sym e ∙ n; tok = y .tok; next-at = next-cut (y .cut-at); is = y .is };
-          single = λ q z. absurd (true≢false (sym z ∙ sym e ∙ n));
+        rw q (record {
+          on = λ q. record { several = n; tok = y .tok; next-at = next-cut (y .cut-at); is = y .is };
+          single = λ q z. absurd (true≢false (sym z ∙ n));
           over = λ q z. absurd (on-over q);
           stray = λ q. absurd (on-stray q);
-        }
+        })
 
     module _ {t : Bool} (x : SeparatesAt s at h k t) (f : t ≡ false) where
       apart : (tok : Token) (u : List ℕ) → next (drop from (marked s)) ≡ ok tok u → codeOf tok ≡ separatorCode h k → ⊥
@@ -374,7 +375,7 @@ module _ {s : List ℕ} {from at : ℕ} (sk : Skips s from at) where
             on = λ z. absurd (on-stray (sym z));
             single = λ z w. absurd (over-stray (sym z));
             over = λ z w. absurd (over-stray (sym z));
-            stray = λ z. record { several = sym e ∙ n; separates = apart; closes = λ tok u w y. no-token tok (y ∙ rw q) };
+            stray = λ z. record { several = n; separates = apart; closes = λ tok u w y. no-token tok (y ∙ rw q) };
           }
 
       pub follow-end : {c : Closing} {g : Follower} → k ≡ false → ClosesAt s at h c → Ends c g → Follows s from h k g
@@ -387,7 +388,7 @@ module _ {s : List ℕ} {from at : ℕ} (sk : Skips s from at) where
               let cl = y .yes q in
               record {
                 on = λ z. absurd (on-over (sym z ∙ o .0));
-                single = λ z w. absurd (true≢false (sym w ∙ sym e ∙ n));
+                single = λ z w. absurd (true≢false (sym w ∙ n));
                 over = λ z w. (kf, record { by = cl .by; is = o .2 ∙ cl .is; shown = rw (o .2) (cl .shown); next-at = rw (o .1) (next-cut (cl .cut-at)) });
                 stray = λ z. absurd (over-stray (sym (o .0) ∙ z));
               }
@@ -397,9 +398,175 @@ module _ {s : List ℕ} {from at : ℕ} (sk : Skips s from at) where
                 on = λ z. absurd (on-stray (sym z ∙ o));
                 single = λ z w. absurd (over-stray (sym z ∙ o));
                 over = λ z w. absurd (over-stray (sym z ∙ o));
-                stray = λ z. record { several = sym e ∙ n; separates = apart; closes = λ tok u w z. closing-not (drop at (marked s)) h tok u (next-ok tok u w) (z ∙ rw kf) (y .no q) };
+                stray = λ z. record { several = n; separates = apart; closes = λ tok u w z. closing-not (drop at (marked s)) h tok u (next-ok tok u w) (z ∙ rw kf) (y .no q) };
               }
 
-pub ruleset first-ways = (first-none, first-closes)
+-- AT ONCE: neither a blank nor a comment stands there
+abbrev Firm : ℕ → Bool
+Firm b = ltb b 0x30 || not (is blank b || (is slash b || is hash b))
 
-pub ruleset follow-ways = (follow-single, follow-on, follow-key, follow-end)
+all-firm : T (every (λ b x. Firm b) 0 (replicate 257 0))
+unfolding is classNumber classOf classIn classRows isIn
+all-firm = tt
+
+stop-here : (b : ℕ) (u : List ℕ) → is blank b ≡ false → is slash b ≡ false → is hash b ≡ false → skipped apart-from-tokens b u ≡ stops (b ∷ u)
+unfolding skipped
+stop-here b u e f g = simp (skipped, e, f, g)
+
+skip-here : (b : ℕ) (u : List ℕ) → skipped apart-from-tokens b u ≡ stops (b ∷ u) → skip (b ∷ u) ≡ b ∷ u
+unfolding skip skipFrom
+skip-here b u e = rw (e, skipFrom)
+
+firm-skip : (b : ℕ) (u : List ℕ) → 0x30 ≤ b → b < 256 → skip (b ∷ u) ≡ b ∷ u
+firm-skip b u l m = go (is blank b) (is slash b) (is hash b) refl refl refl
+  where
+    firm : not (is blank b || (is slash b || is hash b)) ≡ true
+    firm = rw (le-ltb b 0x30 l) at (is-true (Firm b) (between Firm 0 257 all-firm b (omega arith) (omega arith)))
+
+    go : (x y z : Bool) → is blank b ≡ x → is slash b ≡ y → is hash b ≡ z → skip (b ∷ u) ≡ b ∷ u
+    go true y z e f g = absurd (true≢false (sym (rw e at firm)))
+    go false true z e f g = absurd (true≢false (sym (rw (e, f) at firm)))
+    go false false true e f g = absurd (true≢false (sym (rw (e, f, g) at firm)))
+    go false false false e f g = skip-here b u (stop-here b u e f g)
+
+parted-skip : (k : Bool) (u : List ℕ) → skip (separatorByte k ∷ u) ≡ separatorByte k ∷ u
+unfolding separatorByte skip skipFrom skipped is classNumber classOf classIn classRows isIn
+parted-skip true u = refl
+parted-skip false u = refl
+
+skips-here : {s : List ℕ} {at b : ℕ} → at < length (marked s) → drop at (marked s) ≡ b ∷ drop (at + 1) (marked s) → skip (b ∷ drop (at + 1) (marked s)) ≡ b ∷ drop (at + 1) (marked s) → Skips s at at
+skips-here l e f = record { stands = record { inside = omega arith; drops = e ∙ sym (ap skip e ∙ f) }; ahead = omega arith }
+
+pub follow-at-once : {s : List ℕ} {from : ℕ} {h : Closer} {k v t : Bool} {g : Follower} → v ≡ isSingle h → v ≡ false → SeparatesAt s from h k t → t ≡ true → g ≡ record { follow = On; next = from + 1; indicator = 0 } → Follows s from h k g
+follow-at-once {s} {from} {k = k} e n x f q =
+    let sk : Skips s from from = skips-here (omega (arith, x .yes f .cut-at .inside)) (x .here f) (parted-skip k (drop (from + 1) (marked s))) in
+    follow-on sk (sym e ∙ n) x f q
+
+pub room-here : (s : List ℕ) {at : ℕ} → at ≤ length (marked s) → at ≤ length s + 1
+room-here s l = omega (arith, length-marked s)
+
+-- no other byte begins what closes
+closing-only : (h : Closer) (b : ℕ) → b < 256 → shapeCode (shapeOf h) ≡ classNumber (classOf b) → b ≡ closingByte h
+unfolding closingByte shapeOf
+closing-only Square b l e = squares .1 b e
+closing-only Curly b l e = curlies .1 b e
+closing-only Round b l e = rounds .1 b e
+closing-only Angle b l e = angle-only b e
+closing-only Whole b l e = absurd (omega (arith, whole-only b e))
+closing-only Nothing b l e = absurd (omega (arith, whole-only b e))
+
+module _ {b c : ℕ} (l : b < 256) where
+  pub firm-no : IsFirm b c false
+  firm-no = record { byte = l; high = λ e. absurd (true≢false (sym e)); other = λ e. absurd (true≢false (sym e)) }
+
+  pub firm-yes : 0x30 ≤ b → IsFirm b c (not (eqb b c))
+  firm-yes g = record { byte = l; high = λ e. g; other = λ e q. true≢false (sym e ∙ ap not (eq-eqb b c q)) }
+
+pub differs-is : {b c : ℕ} → b < 256 → Differs b c (not (eqb b c))
+differs-is {b} {c} l = record { byte = l; other = λ e q. true≢false (sym e ∙ ap not (eq-eqb b c q)) }
+
+module _ {s : List ℕ} {at : ℕ} {h : Closer} where
+  pub open-not : OpenAt s at h false
+  open-not = record { is = λ e. absurd (true≢false (sym e)) }
+
+  pub open-yes : {c : ℕ} {t : Bool} → at < length s → c ≡ closingByte h → Differs (getD s at 0) c t → OpenAt s at h t
+  unfolding codeOf
+  open-yes {c} {t} l e x =
+      record {
+        is = λ f i u q.
+            let b = getD s at 0 in
+            x .other f (closing-only h b (x .byte) (cut-led b (drop (at + 1) (marked s)) u (closes (shapeOf h) i) (ap cut (sym (at-byte s at l)) ∙ q)) ∙ sym e);
+      }
+
+  pub closes-open : {t : Bool} {r : Closing} → OpenAt s at h t → t ≡ true → r ≡ record { found = false; next = at; indicator = 0 } → ClosesAt s at h r
+  closes-open {r = r} x f q =
+      let g : r .found ≡ false = ap (λ (y : Closing). y .found) q in
+      record { yes = λ z. absurd (true≢false (sym z ∙ g)); no = λ z i u w. x .is f i u w }
+
+pub ruleset open-ways = (open-not, open-yes)
+
+-- a sign that closes, with nothing to skip before it
+sign-once : {s : List ℕ} {at : ℕ} {k t : Bool} (h : Closer) (c : ℕ) → Signs h c → ((u : List ℕ) → skip (c ∷ u) ≡ c ∷ u) → k ≡ false → Peeked s at c t → ClosesAtOnce s at h k t
+sign-once {s} {at} h c sg f e p =
+    record {
+      key = λ z. e;
+      skips = λ z. skips-here (omega (arith, p .inside z, length-marked s)) (peeked-yes p z) (f (drop (at + 1) (marked s)));
+      closed = λ z. closes-sign h c sg (sign-is p) .yes z;
+      inside = λ z. omega (arith, p .inside z);
+    }
+
+square-skip : (u : List ℕ) → skip (0x5d ∷ u) ≡ 0x5d ∷ u
+unfolding skip skipFrom skipped is classNumber classOf classIn classRows isIn
+square-skip u = refl
+
+curly-skip : (u : List ℕ) → skip (0x7d ∷ u) ≡ 0x7d ∷ u
+unfolding skip skipFrom skipped is classNumber classOf classIn classRows isIn
+curly-skip u = refl
+
+round-skip : (u : List ℕ) → skip (0x29 ∷ u) ≡ 0x29 ∷ u
+unfolding skip skipFrom skipped is classNumber classOf classIn classRows isIn
+round-skip u = refl
+
+signs-once : {s : List ℕ} {at : ℕ} {k t : Bool} (h : Closer) → hasSign h ≡ true → k ≡ false → Peeked s at (closingByte h) t → ClosesAtOnce s at h k t
+unfolding hasSign closingByte
+signs-once Square m e p = sign-once Square 0x5d squares square-skip e p
+signs-once Curly m e p = sign-once Curly 0x7d curlies curly-skip e p
+signs-once Round m e p = sign-once Round 0x29 rounds round-skip e p
+signs-once Angle m e p = absurd (true≢false (sym m))
+signs-once Whole m e p = absurd (true≢false (sym m))
+signs-once Nothing m e p = absurd (true≢false (sym m))
+
+module _ {s : List ℕ} {at : ℕ} {h : Closer} {k : Bool} where
+  pub closes-once-not : ClosesAtOnce s at h k false
+  closes-once-not = record { key = λ e. absurd (true≢false (sym e)); skips = λ e. absurd (true≢false (sym e)); closed = λ e. absurd (true≢false (sym e)); inside = λ e. absurd (true≢false (sym e)) }
+
+  pub closes-once-yes : {c : ℕ} {m t : Bool} → m ≡ hasSign h → m ≡ true → k ≡ false → c ≡ closingByte h → Peeked s at c t → ClosesAtOnce s at h k t
+  closes-once-yes m n e q p = signs-once h (sym m ∙ n) e (rw q at p)
+
+  pub follow-closed : {v t : Bool} {f : Follower} → v ≡ isSingle h → v ≡ false → ClosesAtOnce s at h k t → t ≡ true → f ≡ record { follow = Over; next = at + 1; indicator = 0 } → Follows s at h k f
+  follow-closed e n x z q =
+      let cl = x .closed z in
+      rw q (record {
+        on = λ y. absurd (on-over (sym y));
+        single = λ y w. absurd (true≢false (sym w ∙ sym e ∙ n));
+        over = λ y w. (x .key z, record { by = cl .by; is = cl .is; shown = cl .shown; next-at = next-cut (x .skips z) (cl .cut-at) });
+        stray = λ y. absurd (over-stray y);
+      })
+
+pub ruleset closes-once-ways = (closes-once-not, closes-once-yes)
+
+module _ {s : List ℕ} {at : ℕ} {h : Closer} where
+  pub once-not : StartsAtOnce s at h false
+  once-not = record { is = λ e. absurd (true≢false (sym e)) }
+
+  pub once-yes : {c : ℕ} {t : Bool} → at < length s → c ≡ closingByte h → IsFirm (getD s at 0) c t → StartsAtOnce s at h t
+  unfolding codeOf
+  once-yes {c} {t} l e x =
+      record {
+        is = λ f.
+            let b = getD s at 0 in
+            let w : drop at (marked s) ≡ b ∷ drop (at + 1) (marked s) = at-byte s at l in
+            let sk : Skips s at at = skips-here (omega (arith, length-marked s)) w (firm-skip b (drop (at + 1) (marked s)) (x .high f) (x .byte)) in
+            record {
+              yes = λ z. absurd (true≢false (sym z));
+              no = λ z y i u v.
+                  let k : cut (b ∷ drop (at + 1) (marked s)) ≡ ok (closes (shapeOf h) i) u = ap cut (sym w) ∙ next-ok sk (closes (shapeOf h) i) u v in
+                  x .other f (closing-only h b (x .byte) (cut-led b (drop (at + 1) (marked s)) u (closes (shapeOf h) i) k) ∙ sym e);
+            };
+      }
+
+pub first-once : {s : List ℕ} {from : ℕ} {h : Closer} {r : Closing} {v : Bool} → StartsAtOnce s from h v → v ≡ true → r ≡ record { found = false; next = from; indicator = 0 } → StartsAt s from h r
+first-once x f q = rw q (x .is f)
+
+pub ruleset firm-ways = (firm-no, firm-yes)
+
+pub ruleset once-ways = (once-not, once-yes)
+
+pub ruleset first-ways = (first-none, first-closes, first-once)
+
+pub ruleset blank-ways = (follow-on, follow-key, follow-end)
+
+pub ruleset follow-ways = (follow-single, follow-at-once, follow-closed)
+
+pub several-still : (h : Closer) {v : Bool} → v ≡ isSingle h → v ≡ false → isSingle h ≡ false
+several-still h e f = sym e ∙ f

@@ -21,7 +21,7 @@ use Rattle.token.specs.TokenAnswers.{indicatorNumber, shapeCode, codeOf, markOf
 use Rattle.encoding.specs.ReadAnswers.{View, Held, unsaid, ofItem, ofClosed, ofPairs, followBy, followed}
 use Rattle.encoding.proofs.ReadRules.{opensBy, begin-not, begin-close, shape-low, code-some, indicatorOf, step, step-close, step-comma, step-stray, items-more, items-end, items-start, lastItem, follow-yes, follow-no, pairs-more, pairs-end, pairs-start}
 use Rattle.reader.proofs.Closers.{closing-is}
-use Rattle.reader.specs.Several.{shapeOf, isSingle, mayBeEmpty, starts, turned, counted, commaCode, separatorCode, closerCode, seen, severalRead, added, shownBy, heldBy, lastOf, stepTo, valueRead, tailRead, onward}
+use Rattle.reader.specs.Several.{shapeOf, isSingle, mayBeEmpty, starts, turned, counted, commaCode, colonCode, separatorCode, closerCode, seen, severalRead, added, shownBy, heldBy, lastOf, stepTo, valueRead, tailRead, onward}
 use Rattle.reader.specs.declared.closer.Closer.{Closer}
 use Rattle.reader.specs.declared.closer.Closer.the-variants.{Square, Curly, Round, Angle, Whole, Nothing}
 
@@ -184,7 +184,7 @@ tail-same rd rd′ f sep shut n last last′ g d s = bind-same (reads (one d) s)
 
 -- THE MACHINE
 pub tail-is : (h : Closer) (k : Bool) (d : ℕ) (s : List ℕ) → (k ≡ true → h ≡ Curly) → tailRead h k d s ≡ bind (reads (one d) s) (λ x r. onward h k d x r)
-unfolding tailRead onward isSingle separatorCode commaCode closerCode shapeOf shapeCode turned counted lastOf shownBy heldBy valueRead ofItem seen
+unfolding tailRead onward isSingle separatorCode commaCode colonCode closerCode shapeOf shapeCode turned counted lastOf shownBy heldBy valueRead ofItem seen
 tail-is Square false d s f = items-tail square d s ∙ tail-same _ _ (λ w. refl) 11 16 1 _ _ (λ x i. refl) d s
 tail-is Angle false d s f = items-tail angle d s ∙ tail-same _ _ (λ w. refl) 11 20 1 _ _ (λ x i. refl) d s
 tail-is Whole false d s f = items-tail whole d s ∙ tail-same _ _ (λ w. refl) 11 21 1 _ _ (λ x i. refl) d s

@@ -2,14 +2,14 @@
 -- Assumes nothing.
 use mathlib.Core.Path.{_≡_, refl, sym, ap, _∙_}
 use mathlib.Core.List.{List, [], _∷_, _++_}
-use mathlib.Core.Bool.{Bool, true, false, true≢false}
+use mathlib.Core.Bool.{Bool, true, false, not, true≢false}
 use Prim.Native.Nat.{ℕ, zero, suc, _+_, _-_, _*_, _≤_, _<_, _^_}
 use native.Mathlib.Omega.{arith}
 use lib.Dec.{eqb}
 use lib.ListN.{length, drop}
 use mir.Syntax.{w8 as bits8}
 use mir.Val.{Fits}
-use borrow.Author.Tests.{eqb-true, eqb-false}
+use borrow.Author.Tests.{eqb-true, eqb-false, not-true}
 use Rattle.cbor.specs.Refusals.{Result, ok, refuse, bind}
 use Rattle.cbor.proofs.Results.{refuse-not-ok}
 use Rattle.cbor.specs.Widths.{Width, w0, w1, w2, w4, w8, limit, shortest, information}
@@ -31,6 +31,7 @@ use Rattle.scanning.proofs.ScanCode.{peeked-yes, expect-yes}
 use Rattle.numbers.specs.NumberAnswers.{Indicated}
 use Rattle.numbers.specs.declared.indicator.Mark.{Mark}
 use Rattle.token.specs.TokenAnswers.{widthNumber, indicatorNumber, itemCode, openCode, kindCode, beginCode, shapeCode, codeOf, openMark, beginMark, markOf, openNumber, beginNumber, numberOf, itemMark, itemNumber, Seen, Took}
+use Rattle.numbers.proofs.IndicatorCode.{indicator-none}
 use Rattle.tokens.proofs.CutCode.{opening-known}
 use Rattle.token.specs.declared.Token.{Token as Cut}
 use Rattle.leaf_reader.specs.LeafAnswers.{CutAt}
@@ -44,7 +45,7 @@ use Rattle.encoding.proofs.ReadRules.{opensBy, shape-shuts}
 use Rattle.encoding.proofs.Telling.{token, seen-as, past, place-left}
 use Rattle.reader.proofs.Closers.{next-cut}
 use Rattle.reader.specs.Several.{NextAt}
-use Rattle.reader.specs.Openings.{OpensAs, Bracketing, Tagging, OpeningTold, ByToken, Opened, bracketByte, BracketAt}
+use Rattle.reader.specs.Openings.{OpensAs, Bracketing, Tagging, OpeningTold, ByToken, Opened, bracketByte, BracketAt, OpensBare}
 use Rattle.reader.specs.declared.opening.Opener.{Opener}
 use Rattle.reader.specs.declared.opening.Opener.the-variants.{Array, Map, Tag, Embedded, Nothing}
 use Rattle.reader.specs.declared.opening.Opening.{Opening}
@@ -97,7 +98,7 @@ indicator-back (wide w4) = refl
 indicator-back (wide w8) = refl
 
 -- the head of a tag
-tag-initial : (t : Cut) (w : Width) (n : ℕ) → t .code ≡ 6 → t .indicator ≡ widthNumber w → t .number ≡ n → n ≤ limit w → initialBy t ≡ initial tags (information w n)
+tag-initial : (t : Cut) (w : Width) (n : ℕ) → t .kind ≡ 6 → t .indicator ≡ widthNumber w → t .argument ≡ n → n ≤ limit w → initialBy t ≡ initial tags (information w n)
 unfolding initialBy majorBy initial majorNumber
 tag-initial t w n e m k h = rw (e, m, k, info-width w n h)
 
@@ -113,7 +114,7 @@ record OpenerAt (s : List ℕ) (at : ℕ) (t : Cut) : Type 0 where
   pub fine : OpenerFine opener
   pub ahead : t .place < t .next
 
-opener-at : {s : List ℕ} {at : ℕ} {t : Cut} (c : ℕ) → Took s at t → t .code ≡ c → opensBy c ≡ true → 5 < c → (c ≡ 7 → ⊥) → (c ≡ 13 → ⊥) → OpenerAt s at t
+opener-at : {s : List ℕ} {at : ℕ} {t : Cut} (c : ℕ) → Took s at t → t .kind ≡ c → opensBy c ≡ true → 5 < c → (c ≡ 7 → ⊥) → (c ≡ 13 → ⊥) → OpenerAt s at t
 opener-at {s} {at} {t} c tk e b l n7 n13 =
     let ta = token tk (λ z. omega arith) in
     let co = code-opener (place (drop at (marked s)) - 1) (ta .tok) (length (ta .rest)) c (ta .fine) (sym (ta .seen .code) ∙ e) b l n7 n13 in
@@ -148,7 +149,7 @@ by-6 P (brace i) e f = absurd (omega arith)
 by-6 P (tagging w n) e f = f w n refl
 by-6 P embedding e f = absurd (omega arith)
 
-opener-code : {s : List ℕ} {t : Cut} {r : List ℕ} (o : Opens) → Seen s t (begins (opens o)) r → t .code ≡ openCode o
+opener-code : {s : List ℕ} {t : Cut} {r : List ℕ} (o : Opens) → Seen s t (begins (opens o)) r → t .kind ≡ openCode o
 unfolding codeOf beginCode
 opener-code o se = se .code
 
@@ -156,7 +157,7 @@ opener-mark : {s : List ℕ} {t : Cut} {r : List ℕ} (o : Opens) → Seen s t (
 unfolding markOf beginMark
 opener-mark o se = se .indicator
 
-opener-number : {s : List ℕ} {t : Cut} {r : List ℕ} (o : Opens) → Seen s t (begins (opens o)) r → t .number ≡ openNumber o
+opener-number : {s : List ℕ} {t : Cut} {r : List ℕ} (o : Opens) → Seen s t (begins (opens o)) r → t .argument ≡ openNumber o
 unfolding numberOf beginNumber
 opener-number o se = se .number
 
@@ -179,19 +180,19 @@ module _ {s : List ℕ} {from : ℕ} {o : Opening} where
 
 -- BY A TOKEN
 module _ {t : Cut} where
-  pub token-tag : {first : ℕ} {o : Opening} → t .code ≡ 6 → first ≡ initialBy t → o ≡ record { opener = Tag; indicator = 0; first = first; number = t .number; place = t .place; next = t .next } → ByToken t o
-  token-tag e i f = record { array = λ q. absurd (omega arith); map = λ q. absurd (omega arith); embedded = λ q. absurd (omega arith); tag = λ q. f ∙ ap (λ (k : ℕ). record { opener = Tag; indicator = 0; first = k; number = t .number; place = t .place; next = t .next }) i; none = λ n6 n15 n17 n19. absurd (n6 e) }
+  pub token-tag : {first : ℕ} {o : Opening} → t .kind ≡ 6 → first ≡ initialBy t → o ≡ record { opener = Tag; indicator = 0; first = first; number = t .argument; place = t .place; next = t .next } → ByToken t o
+  token-tag e i f = record { array = λ q. absurd (omega arith); map = λ q. absurd (omega arith); embedded = λ q. absurd (omega arith); tag = λ q. f ∙ ap (λ (k : ℕ). record { opener = Tag; indicator = 0; first = k; number = t .argument; place = t .place; next = t .next }) i; none = λ n6 n15 n17 n19. absurd (n6 e) }
 
-  pub token-array : {o : Opening} → t .code ≡ 15 → o ≡ record { opener = Array; indicator = t .indicator; first = 0; number = 0; place = t .place; next = t .next } → ByToken t o
+  pub token-array : {o : Opening} → t .kind ≡ 15 → o ≡ record { opener = Array; indicator = t .indicator; first = 0; number = 0; place = t .place; next = t .next } → ByToken t o
   token-array e f = record { array = λ q. f; map = λ q. absurd (omega arith); embedded = λ q. absurd (omega arith); tag = λ q. absurd (omega arith); none = λ n6 n15 n17 n19. absurd (n15 e) }
 
-  pub token-map : {o : Opening} → t .code ≡ 17 → o ≡ record { opener = Map; indicator = t .indicator; first = 0; number = 0; place = t .place; next = t .next } → ByToken t o
+  pub token-map : {o : Opening} → t .kind ≡ 17 → o ≡ record { opener = Map; indicator = t .indicator; first = 0; number = 0; place = t .place; next = t .next } → ByToken t o
   token-map e f = record { array = λ q. absurd (omega arith); map = λ q. f; embedded = λ q. absurd (omega arith); tag = λ q. absurd (omega arith); none = λ n6 n15 n17 n19. absurd (n17 e) }
 
-  pub token-embedded : {o : Opening} → t .code ≡ 19 → o ≡ record { opener = Embedded; indicator = 0; first = 0; number = 0; place = t .place; next = t .next } → ByToken t o
+  pub token-embedded : {o : Opening} → t .kind ≡ 19 → o ≡ record { opener = Embedded; indicator = 0; first = 0; number = 0; place = t .place; next = t .next } → ByToken t o
   token-embedded e f = record { array = λ q. absurd (omega arith); map = λ q. absurd (omega arith); embedded = λ q. f; tag = λ q. absurd (omega arith); none = λ n6 n15 n17 n19. absurd (n19 e) }
 
-  pub token-none : {o : Opening} {p n : ℕ} → (t .code ≡ 6 → ⊥) → (t .code ≡ 15 → ⊥) → (t .code ≡ 17 → ⊥) → (t .code ≡ 19 → ⊥) → o ≡ record { opener = Nothing; indicator = 0; first = 0; number = 0; place = p; next = n } → ByToken t o
+  pub token-none : {o : Opening} {p n : ℕ} → (t .kind ≡ 6 → ⊥) → (t .kind ≡ 15 → ⊥) → (t .kind ≡ 17 → ⊥) → (t .kind ≡ 19 → ⊥) → o ≡ record { opener = Nothing; indicator = 0; first = 0; number = 0; place = p; next = n } → ByToken t o
   token-none n6 n15 n17 n19 f = record { array = λ q. absurd (n15 q); map = λ q. absurd (n17 q); embedded = λ q. absurd (n19 q); tag = λ q. absurd (n6 q); none = λ a b c d. ap (λ (x : Opening). x .opener) f }
 
 pub ruleset token-ways = (token-tag, token-array, token-map, token-embedded, token-none)
@@ -224,24 +225,24 @@ module _ {s : List ℕ} {from : ℕ} {t : Cut} (tk : Took s from t) where
       let b : indicatorFor (o .indicator) ≡ i = ap indicatorFor (m ∙ k) ∙ indicator-back i in
       record { opens-as = as-opener (mk (indicatorFor (o .indicator))) oa (z ∙ ap mk (sym b)) p n; known = ap indicatorNumber b ∙ sym (m ∙ k) }
 
-  opener-of : (c : ℕ) → t .code ≡ c → opensBy c ≡ true → 5 < c → (c ≡ 7 → ⊥) → (c ≡ 13 → ⊥) → OpenerAt s from t
+  opener-of : (c : ℕ) → t .kind ≡ c → opensBy c ≡ true → 5 < c → (c ≡ 7 → ⊥) → (c ≡ 13 → ⊥) → OpenerAt s from t
   opener-of c e b l n7 n13 = opener-at c tk e b l n7 n13
 
   pub opening-by : {o : Opening} → ByToken t o → OpeningTold s from o
   unfolding opensBy openMark openNumber
-  opening-by {o} by = go (eqb (t .code) 6) refl
+  opening-by {o} by = go (eqb (t .kind) 6) refl
     where
-      none : (t .code ≡ 6 → ⊥) → (t .code ≡ 15 → ⊥) → (t .code ≡ 17 → ⊥) → (t .code ≡ 19 → ⊥) → OpeningTold s from o
+      none : (t .kind ≡ 6 → ⊥) → (t .kind ≡ 15 → ⊥) → (t .kind ≡ 17 → ⊥) → (t .kind ≡ 19 → ⊥) → OpeningTold s from o
       none n6 n15 n17 n19 = told-none (by .none n6 n15 n17 n19) (λ op r q. let se = seen-as tk q in opens-code op (λ z. n6 (se .code ∙ z)) (λ z. n15 (se .code ∙ z)) (λ z. n17 (se .code ∙ z)) (λ z. n19 (se .code ∙ z)))
 
-      embeds : t .code ≡ 19 → OpeningTold s from o
+      embeds : t .kind ≡ 19 → OpeningTold s from o
       embeds e =
           let oa = opener-of 19 e refl (omega arith) (λ z. absurd (omega arith)) (λ z. absurd (omega arith)) in
           let f = by .embedded e in
           told-embedded (ap (λ (x : Opening). x .opener) f)
           (by-19 (λ op. (op′ : Opens) → oa .opener ≡ op → op′ ≡ embedding → OpensAs s from o op′) (oa .opener) (sym (opener-code (oa .opener) (oa .seen)) ∙ e) (λ op′ z y. rw y (as-opener embedding oa z (ap (λ (x : Opening). x .place) f) (ap (λ (x : Opening). x .next) f))) embedding refl refl)
 
-      maps : t .code ≡ 17 → OpeningTold s from o
+      maps : t .kind ≡ 17 → OpeningTold s from o
       maps e =
           let oa = opener-of 17 e refl (omega arith) (λ z. absurd (omega arith)) (λ z. absurd (omega arith)) in
           let f = by .map e in
@@ -250,7 +251,7 @@ module _ {s : List ℕ} {from : ℕ} {t : Cut} (tk : Took s from t) where
           (by-17 (λ op. oa .opener ≡ op → Bracketing s from o (brace (indicatorFor (o .indicator)))) (oa .opener) (sym (opener-code (oa .opener) (oa .seen)) ∙ e)
           (λ i z y. bracketing brace i oa y m (opener-mark (oa .opener) (oa .seen) ∙ ap openMark z) (ap (λ (x : Opening). x .place) f) (ap (λ (x : Opening). x .next) f)) refl)
 
-      arrays : t .code ≡ 15 → OpeningTold s from o
+      arrays : t .kind ≡ 15 → OpeningTold s from o
       arrays e =
           let oa = opener-of 15 e refl (omega arith) (λ z. absurd (omega arith)) (λ z. absurd (omega arith)) in
           let f = by .array e in
@@ -259,15 +260,15 @@ module _ {s : List ℕ} {from : ℕ} {t : Cut} (tk : Took s from t) where
           (by-15 (λ op. oa .opener ≡ op → Bracketing s from o (bracket (indicatorFor (o .indicator)))) (oa .opener) (sym (opener-code (oa .opener) (oa .seen)) ∙ e)
           (λ i z y. bracketing bracket i oa y m (opener-mark (oa .opener) (oa .seen) ∙ ap openMark z) (ap (λ (x : Opening). x .place) f) (ap (λ (x : Opening). x .next) f)) refl)
 
-      tagsBy : t .code ≡ 6 → OpeningTold s from o
+      tagsBy : t .kind ≡ 6 → OpeningTold s from o
       tagsBy e =
           let oa = opener-of 6 e refl (omega arith) (λ z. absurd (omega arith)) (λ z. absurd (omega arith)) in
           let f = by .tag e in
-          let nm : o .number ≡ t .number = ap (λ (x : Opening). x .number) f in
+          let nm : o .number ≡ t .argument = ap (λ (x : Opening). x .number) f in
           told-tag (ap (λ (x : Opening). x .opener) f)
           (by-6 (λ op. oa .opener ≡ op → Tagging s from o) (oa .opener) (sym (opener-code (oa .opener) (oa .seen)) ∙ e)
           (λ w k z y.
-          let num : t .number ≡ k = opener-number (oa .opener) (oa .seen) ∙ ap openNumber z in
+          let num : t .argument ≡ k = opener-number (oa .opener) (oa .seen) ∙ ap openNumber z in
           let mark : t .indicator ≡ widthNumber w = opener-mark (oa .opener) (oa .seen) ∙ ap openMark z in
           let fit : k ≤ limit w = rw z at (oa .fine) in
           let q : o .number ≡ k = nm ∙ num in
@@ -278,21 +279,21 @@ module _ {s : List ℕ} {from : ℕ} {t : Cut} (tk : Took s from t) where
             first = ap (λ (x : Opening). x .first) f ∙ tag-initial t w (o .number) e mark (num ∙ sym q) (rw q fit);
           }) refl)
 
-      go : (v : Bool) → eqb (t .code) 6 ≡ v → OpeningTold s from o
-      go true e = tagsBy (eqb-true (t .code) 6 e)
-      go false e = go₂ (eqb (t .code) 15) refl
+      go : (v : Bool) → eqb (t .kind) 6 ≡ v → OpeningTold s from o
+      go true e = tagsBy (eqb-true (t .kind) 6 e)
+      go false e = go₂ (eqb (t .kind) 15) refl
         where
-          go₂ : (v : Bool) → eqb (t .code) 15 ≡ v → OpeningTold s from o
-          go₂ true f = arrays (eqb-true (t .code) 15 f)
-          go₂ false f = go₃ (eqb (t .code) 17) refl
+          go₂ : (v : Bool) → eqb (t .kind) 15 ≡ v → OpeningTold s from o
+          go₂ true f = arrays (eqb-true (t .kind) 15 f)
+          go₂ false f = go₃ (eqb (t .kind) 17) refl
             where
-              go₃ : (v : Bool) → eqb (t .code) 17 ≡ v → OpeningTold s from o
-              go₃ true g = maps (eqb-true (t .code) 17 g)
-              go₃ false g = go₄ (eqb (t .code) 19) refl
+              go₃ : (v : Bool) → eqb (t .kind) 17 ≡ v → OpeningTold s from o
+              go₃ true g = maps (eqb-true (t .kind) 17 g)
+              go₃ false g = go₄ (eqb (t .kind) 19) refl
                 where
-                  go₄ : (v : Bool) → eqb (t .code) 19 ≡ v → OpeningTold s from o
-                  go₄ true h = embeds (eqb-true (t .code) 19 h)
-                  go₄ false h = none (eqb-false (t .code) 6 e) (eqb-false (t .code) 15 f) (eqb-false (t .code) 17 g) (eqb-false (t .code) 19 h)
+                  go₄ : (v : Bool) → eqb (t .kind) 19 ≡ v → OpeningTold s from o
+                  go₄ true h = embeds (eqb-true (t .kind) 19 h)
+                  go₄ false h = none (eqb-false (t .kind) 6 e) (eqb-false (t .kind) 15 f) (eqb-false (t .kind) 17 g) (eqb-false (t .kind) 19 h)
 
 -- BY A BYTE
 tag-fits : (u r : List ℕ) (w : Width) (n : ℕ) → cut u ≡ ok (begins (opens (tagging w n))) r → n ≤ limit w
@@ -353,6 +354,18 @@ module _ {s : List ℕ} {from at : ℕ} where
     unfolding bracketByte
     at-curly p e = record { skips = sk; before = h; inside = omega (arith, p .inside e); is = peeked-yes p e; some = λ z. omega arith }
 
+  pub bare-no : {k : Opener} → OpensBare s from at k false
+  bare-no = record { inside = λ e. absurd (true≢false (sym e)); is = λ e n. absurd (true≢false (sym e)) }
+
+  pub bare-yes : {k : Opener} {c : ℕ} {t v : Bool} → Skips s from at → from ≤ length (marked s) → c ≡ bracketByte k → Peeked s at c t → t ≡ true → Peeked s (at + 1) 0x5f v → OpensBare s from at k (not v)
+  bare-yes {k} {c} {t} {v} sk h i p e p₂ =
+      record {
+        inside = λ f. omega (arith, p .inside e);
+        is = λ f n.
+            let b : BracketAt s from at k = record { skips = sk; before = h; inside = omega (arith, p .inside e); is = rw i at (peeked-yes p e); some = n } in
+            bracket-by k b (indicator-none p₂ (not-true v f) (omega (arith, p .inside e))) (λ z. omega arith) refl;
+      }
+
   pub embeds-here : {t v : Bool} {o : Opening} → Skips s from at → Peeked s at 0x3c t → t ≡ true → Peeked s (at + 1) 0x3c v → v ≡ true → o ≡ record { opener = Embedded; indicator = 0; first = 0; number = 0; place = at; next = at + 2 } → OpeningTold s from o
   unfolding cut cutBy classOf classIn classRows isIn bind
   embeds-here {o = o} sk p e p₂ e₂ f =
@@ -389,3 +402,5 @@ bracket-before b = b .before
 
 pub tag-first : {i : ℕ} (n : ℕ) → i ≡ information (shortest n) n → Fits bits8 (0xc0 + i)
 tag-first n e = record { fits = omega (arith, e, short-most n) }
+
+pub ruleset bare-ways = (bare-no, bare-yes)

@@ -44,7 +44,7 @@ use Rattle.encoding.proofs.Telling.{bind-yes, bind-no, told-no, told-ok, told-l
 use Rattle.encoding.proofs.ReadRules.{begin-not, opensBy, follow-yes, follow-no, one-is}
 use Rattle.reader.proofs.ReadItems.{told-from}
 use Rattle.reader.specs.Several.{asSeen, seen, severalRead}
-use Rattle.reader.specs.Openings.{OpensAs, Bracketing, Tagging, OpeningTold, TagMade}
+use Rattle.reader.specs.Openings.{LevelAt, OpensAs, Bracketing, Tagging, OpeningTold, TagMade, bracketByte, OpensBare}
 use Rattle.reader.specs.declared.closer.Closer.the-variants.{Square, Curly, Round, Angle, Whole, Nothing}
 use Rattle.reader.specs.declared.opening.Opener.the-variants.{Array, Map, Tag, Embedded}
 use Rattle.reader.specs.declared.opening.Opening.{Opening}
@@ -375,25 +375,25 @@ open-told {s} {from = from} {o = o} d op x n h =
     one-is d (drop from (marked s)) ∙ bind-yes (next (drop from (marked s))) _ (begins (opens op)) (drop (o .next) (marked s)) (x .next-at .is) ∙ goes-inside d op (place (drop from (marked s))) (drop (o .next) (marked s)) n ∙ rw (x .place-is) in
     told-more le (rw q h)
 
-module _ {s b b₁ b₂ : List ℕ} {pos from at : ℕ} {q : LeafRead} {a : ReadAnswer} {o : Opening} (d : ℕ) (lt : LeafTold s b b₁ at pos q) (ot : OpeningTold s from o) (n : d ≡ 0 → ⊥) where
-  pub item-array : o .opener ≡ Array → ReadTold ofItem s b₁ b₂ (length (marked s) - o .next + 1) pos a (behindOpener (d - 1) (bracket (indicatorFor (o .indicator))) (length (marked s) - o .place) (drop (o .next) (marked s)))
-      → ReadTold ofItem s b b₂ (length (marked s) - from) pos a (reads (one d) (drop from (marked s)))
-  item-array e h = told-from lt (open-told d (bracket (indicatorFor (o .indicator))) (ot .array e .opens-as) n h)
+module _ {s b b′ : List ℕ} {pos from at : ℕ} {q : LeafRead} {a : ReadAnswer} {o : Opening} (d : ℕ) (l : LevelAt s from at q d) (ot : OpeningTold s from o) where
+  pub item-array : o .opener ≡ Array → ReadTold ofItem s b b′ (length (marked s) - o .next + 1) pos a (behindOpener (d - 1) (bracket (indicatorFor (o .indicator))) (length (marked s) - o .place) (drop (o .next) (marked s)))
+      → ReadTold ofItem s b b′ (length (marked s) - from) pos a (reads (one d) (drop from (marked s)))
+  item-array e h = open-told d (bracket (indicatorFor (o .indicator))) (ot .array e .opens-as) (λ z. omega (arith, l .some)) h
 
-  pub item-map : o .opener ≡ Map → ReadTold ofItem s b₁ b₂ (length (marked s) - o .next + 1) pos a (behindOpener (d - 1) (brace (indicatorFor (o .indicator))) (length (marked s) - o .place) (drop (o .next) (marked s)))
-      → ReadTold ofItem s b b₂ (length (marked s) - from) pos a (reads (one d) (drop from (marked s)))
-  item-map e h = told-from lt (open-told d (brace (indicatorFor (o .indicator))) (ot .map e .opens-as) n h)
+  pub item-map : o .opener ≡ Map → ReadTold ofItem s b b′ (length (marked s) - o .next + 1) pos a (behindOpener (d - 1) (brace (indicatorFor (o .indicator))) (length (marked s) - o .place) (drop (o .next) (marked s)))
+      → ReadTold ofItem s b b′ (length (marked s) - from) pos a (reads (one d) (drop from (marked s)))
+  item-map e h = open-told d (brace (indicatorFor (o .indicator))) (ot .map e .opens-as) (λ z. omega (arith, l .some)) h
 
-  pub item-embed : o .opener ≡ Embedded → ReadTold ofItem s b₁ b₂ (length (marked s) - o .next + 1) pos a (behindOpener (d - 1) embedding (length (marked s) - o .place) (drop (o .next) (marked s)))
-      → ReadTold ofItem s b b₂ (length (marked s) - from) pos a (reads (one d) (drop from (marked s)))
-  item-embed e h = told-from lt (open-told d embedding (ot .embedded e) n h)
+  pub item-embed : o .opener ≡ Embedded → ReadTold ofItem s b b′ (length (marked s) - o .next + 1) pos a (behindOpener (d - 1) embedding (length (marked s) - o .place) (drop (o .next) (marked s)))
+      → ReadTold ofItem s b b′ (length (marked s) - from) pos a (reads (one d) (drop from (marked s)))
+  item-embed e h = open-told d embedding (ot .embedded e) (λ z. omega (arith, l .some)) h
 
-  pub item-tag : o .opener ≡ Tag → ReadTold (ofTagged (o .first) (o .number)) s b₁ b₂ (length (marked s) - o .next + 1) pos a (taggedRead (d - 1) (o .number) (length (marked s) - o .place) (drop (o .next) (marked s)))
-      → ReadTold ofItem s b b₂ (length (marked s) - from) pos a (reads (one d) (drop from (marked s)))
+  pub item-tag : o .opener ≡ Tag → ReadTold (ofTagged (o .first) (o .number)) s b b′ (length (marked s) - o .next + 1) pos a (taggedRead (d - 1) (o .number) (length (marked s) - o .place) (drop (o .next) (marked s)))
+      → ReadTold ofItem s b b′ (length (marked s) - from) pos a (reads (one d) (drop from (marked s)))
   item-tag e h =
       let t = ot .tag e in
-      told-from lt (open-told d (tagging (t .width) (o .number)) (t .opens-as) n
-      (rw (within-tag (d - 1) (t .width) (o .number) (length (marked s) - o .place) (drop (o .next) (marked s))) (told-map (tag (t .width) (o .number)) (λ x. tag-view (o .first) (t .width) (o .number) x (t .first) (t .fits)) h)))
+      open-told d (tagging (t .width) (o .number)) (t .opens-as) (λ z. omega (arith, l .some))
+      (rw (within-tag (d - 1) (t .width) (o .number) (length (marked s) - o .place) (drop (o .next) (marked s))) (told-map (tag (t .width) (o .number)) (λ x. tag-view (o .first) (t .width) (o .number) x (t .first) (t .fits)) h))
 
 -- where the readers of the inside are called
 module _ {s : List ℕ} {from : ℕ} {o : Opening} (pos : ℕ) (ot : OpeningTold s from o) (rm : Room s from pos) where
@@ -412,12 +412,38 @@ module _ {s : List ℕ} {from : ℕ} {o : Opening} (pos : ℕ) (ot : OpeningTold
   pub open-embed : o .opener ≡ Embedded → Opened s (o .next) pos (o .place)
   open-embed e = opened-by embedding (ot .embedded e)
 
--- no level is opened
-module _ {s b b₁ b₂ : List ℕ} {pos at : ℕ} {q : LeafRead} {a a′ : ReadAnswer} (from d : ℕ) where
-  pub item-flat : LeafTold s b b₁ at pos q → ReadTold ofItem s b₁ b₂ (length (marked s) - from) pos a (reads (one d) (drop from (marked s))) → a′ ≡ a → ReadTold ofItem s b b₂ (length (marked s) - from) pos a′ (reads (one d) (drop from (marked s)))
-  item-flat lt h e = rw e (told-from lt h)
+-- and where no indicator stands behind the bracket
+module _ {s : List ℕ} {from at : ℕ} {t : Bool} (pos : ℕ) (e : t ≡ true) where
+  bare-array : OpensBare s from at Array t → OpeningTold s from (record { opener = Array; indicator = 0; first = 0; number = 0; place = at; next = at + 1 })
+  unfolding bracketByte
+  bare-array x = x .is e (λ z. omega arith)
 
-pub ruleset item-ways = (item-array, item-map, item-embed, item-tag, item-flat)
+  bare-map : OpensBare s from at Map t → OpeningTold s from (record { opener = Map; indicator = 0; first = 0; number = 0; place = at; next = at + 1 })
+  unfolding bracketByte
+  bare-map x = x .is e (λ z. omega arith)
+
+  pub bare-array-room : OpensBare s from at Array t → Room s from pos → Bracketed s (at + 1) pos at 0
+  bare-array-room x rm = open-array pos (bare-array x) rm refl
+
+  pub bare-map-room : OpensBare s from at Map t → Room s from pos → Bracketed s (at + 1) pos at 0
+  bare-map-room x rm = open-map pos (bare-map x) rm refl
+
+  module _ {b b′ : List ℕ} {q : LeafRead} {a : ReadAnswer} (d : ℕ) (l : LevelAt s from at q d) where
+    pub item-bare-array : OpensBare s from at Array t → ReadTold ofItem s b b′ (length (marked s) - (at + 1) + 1) pos a (behindOpener (d - 1) (bracket (indicatorFor 0)) (length (marked s) - at) (drop (at + 1) (marked s)))
+        → ReadTold ofItem s b b′ (length (marked s) - from) pos a (reads (one d) (drop from (marked s)))
+    item-bare-array x h = item-array d l (bare-array x) refl h
+
+    pub item-bare-map : OpensBare s from at Map t → ReadTold ofItem s b b′ (length (marked s) - (at + 1) + 1) pos a (behindOpener (d - 1) (brace (indicatorFor 0)) (length (marked s) - at) (drop (at + 1) (marked s)))
+        → ReadTold ofItem s b b′ (length (marked s) - from) pos a (reads (one d) (drop from (marked s)))
+    item-bare-map x h = item-map d l (bare-map x) refl h
+
+-- no level is opened
+pub item-flat : {s b b′ : List ℕ} {pos : ℕ} {a a′ : ReadAnswer} (from d : ℕ) → ReadTold ofItem s b b′ (length (marked s) - from) pos a (reads (one d) (drop from (marked s))) → a′ ≡ a → ReadTold ofItem s b b′ (length (marked s) - from) pos a′ (reads (one d) (drop from (marked s)))
+item-flat from d h e = rw e h
+
+pub ruleset bare-ways = (item-bare-array, item-bare-map)
+
+pub ruleset level-ways = (item-array, item-map, item-embed, item-tag, item-flat)
 
 pub ruleset open-rooms = (open-array, open-map, open-tag, open-embed)
 

@@ -30,7 +30,7 @@ use Rattle.token.specs.declared.Token.{Token as Cut}
 use Rattle.leaf_reader.specs.LeafAnswers.{LeafTold}
 use Rattle.leaf_reader.specs.declared.LeafRead.{LeafRead}
 use Rattle.leaf_reader.specs.declared.Found.{Found}
-use Rattle.leaf_reader.specs.declared.Found.the-variants.{Leaf, Tag as TagFound, Nothing as NoLeaf}
+use Rattle.leaf_reader.specs.declared.Found.the-variants.{Leaf, Tag as TagFound, Odd, Nothing as NoLeaf}
 use Rattle.encoding.specs.ReadAnswers.{View, Held, heldOf, Tells, noBytes, ofItem, ofTagged, followBy, followed, chunkedRead, behindOpener, taggedRead, indicatorFor, initialBy, Room, Opened, Bracketed, Wrote, MovedOn, After, ReadTold, Strayed, Leafed, Denies}
 use Rattle.encoding.specs.declared.answer.MadeItem.{MadeItem as MadeS}
 use Rattle.encoding.specs.declared.answer.ReadAnswer.{ReadAnswer}
@@ -42,7 +42,7 @@ use Rattle.encoding.proofs.ReadRules.{one-is, begin-not, shape-low, shape-shuts
 use Rattle.string_reader.proofs.ReadStrings.{item-literal}
 use Rattle.reader.proofs.Closers.{next-cut}
 use Rattle.reader.proofs.Openers.{leaf-bytes, thirteen}
-use Rattle.reader.specs.Openings.{isLeaf, OpensAs, OpeningTold, Opened as LeafOpened, Flat, TagMade}
+use Rattle.reader.specs.Openings.{LevelAt, isLeaf, OpensAs, OpeningTold, Opened as LeafOpened, Flat, TagMade}
 use Rattle.reader.specs.declared.opening.Opener.the-variants.{Array, Map, Tag, Embedded, Nothing}
 use Rattle.reader.specs.declared.opening.Opening.{Opening}
 
@@ -75,6 +75,7 @@ leaf-found : (f : Found) → isLeaf f ≡ true → f ≡ Leaf
 unfolding isLeaf
 leaf-found Leaf e = refl
 leaf-found TagFound e = absurd (true≢false (sym e))
+leaf-found Odd e = absurd (true≢false (sym e))
 leaf-found NoLeaf e = absurd (true≢false (sym e))
 
 pub item-leaf : {s b b′ : List ℕ} {from at pos : ℕ} {q : LeafRead} {v : Bool} {a : ReadAnswer} (d : ℕ) → Skips s from at → LeafTold s b b′ at pos q → v ≡ isLeaf (q .found) → v ≡ true
@@ -95,6 +96,16 @@ item-leaf {s} {from = from} {at = at} {q = q} d sk lt e t f =
       short = omega (arith, m .short, l, sk .ahead, n .inside, m .whole .cut .ahead);
       wrote = m .wrote;
     })
+
+-- one that was read when none had been found
+-- what is read from a buffer in which no leaf was found
+module _ {s b b₁ b₂ : List ℕ} {pos at : ℕ} {q : LeafRead} {a : ReadAnswer} (from d : ℕ) where
+  pub item-whole : LeafTold s b b₁ at pos q → ReadTold ofItem s b₁ b₂ (length (marked s) - from) pos a (reads (one d) (drop from (marked s))) → ReadTold ofItem s b b₂ (length (marked s) - from) pos a (reads (one d) (drop from (marked s)))
+  item-whole lt h = told-from lt h
+
+  pub item-deep : {a′ : ReadAnswer} → LeafTold s b b₁ at pos q → ReadTold ofItem s b₁ b₂ (length (marked s) - from) pos a (reads (one d) (drop from (marked s))) → a′ ≡ a
+      → ReadTold ofItem s b b₂ (length (marked s) - from) pos a′ (reads (one d) (drop from (marked s)))
+  item-deep lt h e = rw e (told-from lt h)
 
 -- AN ITEM THAT OPENS NO LEVEL, by its token
 low-leaf : (n : ℕ) (tok : Token) (k : ℕ) → Fine n tok k → codeOf tok ≤ 3 → (codeOf tok ≡ 0 → ⊥) → (x : Item) × (tok ≡ begins (leaf x)) × LeafFine x
@@ -156,7 +167,7 @@ unfolding Tells
 tells-none n e f = rw e f
 
 module _ {s b b′ : List ℕ} {pos at : ℕ} {t : Cut} {a : ReadAnswer} (d : ℕ) (tk : Took s at t) where
-  pub flat-none : t .code ≡ 0 → Strayed d t a → ReadTold ofItem s b b′ (length (marked s) - at) pos a (reads (one d) (drop at (marked s)))
+  pub flat-none : t .kind ≡ 0 → Strayed d t a → ReadTold ofItem s b b′ (length (marked s) - at) pos a (reads (one d) (drop at (marked s)))
   flat-none e f = told-stop d _ _ tk f (one-is d (drop at (marked s))) (λ tok r c u. absurd (omega (arith, code-some tok, c)))
 
   leaf-told : (x : Item) (r : List ℕ) → next (drop at (marked s)) ≡ ok (begins (leaf x)) r → Seen s t (begins (leaf x)) r → LeafFine x → t .place < t .next → Leafed t b b′ pos a
@@ -164,7 +175,7 @@ module _ {s b b′ : List ℕ} {pos at : ℕ} {t : Cut} {a : ReadAnswer} (d : �
   unfolding ofItem codeOf markOf numberOf beginCode beginMark beginNumber initialBy oneRule
   leaf-told x r e se f ah lf =
       let lb = leaf-bytes x f in
-      let hs : headBytes (initialBy t) (t .number) ≡ encode x = rw (se .code, se .indicator, se .number) (lb .1) in
+      let hs : headBytes (initialBy t) (t .argument) ≡ encode x = rw (se .code, se .indicator, se .number) (lb .1) in
       told-ok x _ (one-is d (drop at (marked s)) ∙ bind-yes (next (drop at (marked s))) _ (begins (leaf x)) r e ∙ leaf-gives d x (place (drop at (marked s))) r f) (lf .is)
       (record {
         stands = se .next;
@@ -172,23 +183,23 @@ module _ {s b b′ : List ℕ} {pos at : ℕ} {t : Cut} {a : ReadAnswer} (d : �
         counted = refl;
         indicated = refl;
         tells = tells-none 0 (lb .2) refl;
-        many = head-some (initialBy t) (t .number);
-        short = omega (arith, head-short (initialBy t) (t .number), stands-left (se .next), se .next .inside, tk .from, ah);
+        many = head-some (initialBy t) (t .argument);
+        short = omega (arith, head-short (initialBy t) (t .argument), stands-left (se .next), se .next .inside, tk .from, ah);
         wrote = rw hs at (lf .wrote);
       })
 
-  pub flat-other : 5 < t .code → (t .code ≡ 13 → ⊥) → Flat s at d → Strayed d t a → ReadTold ofItem s b b′ (length (marked s) - at) pos a (reads (one d) (drop at (marked s)))
+  pub flat-other : 5 < t .kind → (t .kind ≡ 13 → ⊥) → Flat s at d → Strayed d t a → ReadTold ofItem s b b′ (length (marked s) - at) pos a (reads (one d) (drop at (marked s)))
   flat-other l n13 h f =
       told-stop d _ _ tk f (one-is d (drop at (marked s)))
       (λ tok r c u. none-begins d (place (drop at (marked s)) - 1) tok (length r) (place (drop at (marked s))) r (fine-at (drop at (marked s)) tok r u) (rw c at l) (λ q. n13 (c ∙ q)) (λ z op e. h .is z op r (u ∙ ap (λ (x : Token). ok x r) e)))
 
-  pub flat-leaf : (t .code ≡ 0 → ⊥) → t .code ≤ 3 → Leafed t b b′ pos a → ReadTold ofItem s b b′ (length (marked s) - at) pos a (reads (one d) (drop at (marked s)))
+  pub flat-leaf : (t .kind ≡ 0 → ⊥) → t .kind ≤ 3 → Leafed t b b′ pos a → ReadTold ofItem s b b′ (length (marked s) - at) pos a (reads (one d) (drop at (marked s)))
   flat-leaf n h lf =
       let ta = token tk n in
       let lo = low-leaf (place (drop at (marked s)) - 1) (ta .tok) (length (ta .rest)) (ta .fine) (rw (ta .seen .code) at h) (λ z. n (ta .seen .code ∙ z)) in
       leaf-told (lo .0) (ta .rest) (ta .is ∙ ap (λ (u : Token). ok u (ta .rest)) (lo .1)) (rw (lo .1) at (ta .seen)) (lo .2) (ta .ahead) lf
 
-  pub flat-chunked : t .code ≡ 13 → ReadTold ofItem s b b′ (length (marked s) - t .next + 1) pos a (chunkedRead d (drop (t .next) (marked s)))
+  pub flat-chunked : t .kind ≡ 13 → ReadTold ofItem s b b′ (length (marked s) - t .next + 1) pos a (chunkedRead d (drop (t .next) (marked s)))
       → ReadTold ofItem s b b′ (length (marked s) - at) pos a (reads (one d) (drop at (marked s)))
   unfolding oneRule beginning obey chunkedRead
   flat-chunked e h =
@@ -201,7 +212,7 @@ module _ {s b b′ : List ℕ} {pos at : ℕ} {t : Cut} {a : ReadAnswer} (d : �
 
 pub ruleset flat-ways = (flat-none, flat-leaf, flat-chunked, flat-other, item-literal)
 
-pub flat-open : {s : List ℕ} {at : ℕ} {t : Cut} (pos : ℕ) → Took s at t → Room s at pos → t .code ≡ 13 → Opened s (t .next) pos (t .next)
+pub flat-open : {s : List ℕ} {at : ℕ} {t : Cut} (pos : ℕ) → Took s at t → Room s at pos → t .kind ≡ 13 → Opened s (t .next) pos (t .next)
 flat-open pos tk rm e =
     let ta = token tk (λ z. omega arith) in
     record { inside = ta .seen .next .inside; room = omega (arith, rm .room, past tk (ta .ahead), ta .seen .next .inside); before = ta .seen .next .inside }
@@ -216,8 +227,21 @@ flat-deep e = record { is = λ n. absurd (n e) }
 pub flat-opening : {s : List ℕ} {from d : ℕ} {o : Opening} → OpeningTold s from o → o .opener ≡ Nothing → Flat s from d
 flat-opening x e = record { is = λ n op r q. x .none e op r q }
 
-pub leaf-opened : {s b b′ : List ℕ} {from at pos : ℕ} {q : LeafRead} → Skips s from at → LeafTold s b b′ at pos q → LeafOpened s from at q
-leaf-opened sk lt = record { skips = sk; tag = lt .tag }
+pub level-at : {s b b′ : List ℕ} {from at pos d : ℕ} {q : LeafRead} → Skips s from at → LeafTold s b b′ at pos q → (d ≡ 0 → ⊥) → LevelAt s from at q d
+level-at sk lt n = record { opened = record { skips = sk; tag = lt .tag }; some = omega arith }
+
+pub level-open : {s : List ℕ} {from at d : ℕ} {q : LeafRead} → LevelAt s from at q d → LeafOpened s from at q
+level-open l = l .opened
+
+pub level-skips : {s : List ℕ} {from at d : ℕ} {q : LeafRead} → LevelAt s from at q d → Skips s from at
+level-skips l = l .opened .skips
+
+pub level-odd : {s b b′ : List ℕ} {from at pos d : ℕ} {q r : LeafRead} {v : Bool} {a : ReadAnswer} → LevelAt s from at q d → LeafTold s b b′ at pos r → v ≡ isLeaf (r .found) → v ≡ true
+    → a ≡ Made (record { next = r .next; size = r .size; count = 1; indicator = 0; binary = r .binary; length = r .length }) → ReadTold ofItem s b b′ (length (marked s) - from) pos a (reads (one d) (drop from (marked s)))
+level-odd {d = d} l lt e t f = item-leaf d (level-skips l) lt e t f
+
+pub level-some : {s : List ℕ} {from at d : ℕ} {q : LeafRead} → LevelAt s from at q d → 1 ≤ d
+level-some l = l .some
 
 -- BEHIND THE HEAD OF A TAG
 module _ {n head next′ size length′ place′ : ℕ} {binary r : Bool} {a : ReadAnswer} (e : r ≡ mayTagBy n binary length′) where

@@ -31,7 +31,7 @@ use Rattle.encoding.proofs.Telling.{bind-yes, told-ok, told-lost, told-stop, Go
 use Rattle.encoding.proofs.ReadRules.{shape-low}
 use Rattle.reader.proofs.Closers.{shown-zero}
 use Rattle.reader.proofs.Machine.{to-next, to-last, to-stray, tail-is, start-is, emptyView, empty-is}
-use Rattle.reader.specs.Several.{shapeOf, isSingle, mayBeEmpty, starts, turned, counted, commaCode, separatorCode, closerCode, asSeen, severalRead, added, shownBy, heldBy, lastOf, stepTo, tailRead, onward, StartsAt, OnAt, OverAt, StrayAt, Follows, StrayTold}
+use Rattle.reader.specs.Several.{shapeOf, isSingle, mayBeEmpty, starts, turned, counted, commaCode, colonCode, separatorCode, closerCode, asSeen, severalRead, added, shownBy, heldBy, lastOf, stepTo, tailRead, onward, StartsAt, OnAt, OverAt, StrayAt, Follows, StrayTold}
 use Rattle.reader.specs.declared.closer.Closer.{Closer}
 use Rattle.reader.specs.declared.closer.Closer.the-variants.{Square, Curly, Round, Angle, Whole, Nothing}
 use Rattle.reader.specs.declared.closer.Closing.{Closing}

@@ -14,7 +14,7 @@ use Rattle.notation.specs.Reading.{marked}
 use Rattle.token.specs.TokenAnswers.{indicatorNumber}
 use Rattle.token.specs.declared.Token.{Token as Cut}
 use Rattle.leaf_reader.specs.declared.Found.{Found}
-use Rattle.leaf_reader.specs.declared.Found.the-variants.{Leaf, Tag as TagFound, Nothing as NoLeaf}
+use Rattle.leaf_reader.specs.declared.Found.the-variants.{Leaf, Tag as TagFound, Odd, Nothing as NoLeaf}
 use Rattle.leaf_reader.specs.declared.LeafRead.{LeafRead}
 use Rattle.leaf_reader.specs.LeafAnswers.{CutAt}
 use Rattle.encoding.specs.ReadAnswers.{indicatorFor, initialBy, Denies}
@@ -29,6 +29,7 @@ use Rattle.reader.specs.declared.opening.Opening.{Opening}
 unfoldable pub isLeaf : Found → Bool
 isLeaf Leaf = true
 isLeaf TagFound = false
+isLeaf Odd = false
 isLeaf NoLeaf = false
 
 -- the next token from a place on opens a level by op
@@ -60,6 +61,11 @@ pub record Opened (s : List ℕ) (from at : ℕ) (q : LeafRead) : Type 0 where
   pub skips : Skips s from at
   pub tag : q .found ≡ TagFound → CutAt s at (q .next) (begins (opens (tagging (shortest (q .number)) (q .number))))
 
+-- the same where a level may be opened
+pub record LevelAt (s : List ℕ) (from at : ℕ) (q : LeafRead) (d : ℕ) : Type 0 where
+  pub opened : Opened s from at q
+  pub some : 1 ≤ d
+
 -- no level is opened from a place on, where d are left
 pub record Flat (s : List ℕ) (from d : ℕ) : Type 0 where
   pub is : (d ≡ 0 → ⊥) → (op : Opens) (r : List ℕ) → next (drop from (marked s)) ≡ ok (begins (opens op)) r → ⊥
@@ -71,11 +77,11 @@ pub record TagMade (n head next′ size : ℕ) (binary : Bool) (length′ place�
 
 -- what a token makes of it
 pub record ByToken (t : Cut) (o : Opening) : Type 0 where
-  pub array : t .code ≡ 15 → o ≡ record { opener = Array; indicator = t .indicator; first = 0; number = 0; place = t .place; next = t .next }
-  pub map : t .code ≡ 17 → o ≡ record { opener = Map; indicator = t .indicator; first = 0; number = 0; place = t .place; next = t .next }
-  pub embedded : t .code ≡ 19 → o ≡ record { opener = Embedded; indicator = 0; first = 0; number = 0; place = t .place; next = t .next }
-  pub tag : t .code ≡ 6 → o ≡ record { opener = Tag; indicator = 0; first = initialBy t; number = t .number; place = t .place; next = t .next }
-  pub none : (t .code ≡ 6 → ⊥) → (t .code ≡ 15 → ⊥) → (t .code ≡ 17 → ⊥) → (t .code ≡ 19 → ⊥) → o .opener ≡ Nothing
+  pub array : t .kind ≡ 15 → o ≡ record { opener = Array; indicator = t .indicator; first = 0; number = 0; place = t .place; next = t .next }
+  pub map : t .kind ≡ 17 → o ≡ record { opener = Map; indicator = t .indicator; first = 0; number = 0; place = t .place; next = t .next }
+  pub embedded : t .kind ≡ 19 → o ≡ record { opener = Embedded; indicator = 0; first = 0; number = 0; place = t .place; next = t .next }
+  pub tag : t .kind ≡ 6 → o ≡ record { opener = Tag; indicator = 0; first = initialBy t; number = t .argument; place = t .place; next = t .next }
+  pub none : (t .kind ≡ 6 → ⊥) → (t .kind ≡ 15 → ⊥) → (t .kind ≡ 17 → ⊥) → (t .kind ≡ 19 → ⊥) → o .opener ≡ Nothing
 
 -- the byte of an array, or of a map, stands behind blanks and comments
 unfoldable pub bracketByte : Opener → ℕ
@@ -91,3 +97,8 @@ pub record BracketAt (s : List ℕ) (from at : ℕ) (o : Opener) : Type 0 where
   pub inside : at < length s
   pub is : drop at (marked s) ≡ bracketByte o ∷ drop (at + 1) (marked s)
   pub some : (bracketByte o ≡ 0 → ⊥)
+
+-- it does so with no indicator behind it
+pub record OpensBare (s : List ℕ) (from at : ℕ) (o : Opener) (t : Bool) : Type 0 where
+  pub inside : t ≡ true → at < length s
+  pub is : t ≡ true → (bracketByte o ≡ 0 → ⊥) → OpeningTold s from (record { opener = o; indicator = 0; first = 0; number = 0; place = at; next = at + 1 })

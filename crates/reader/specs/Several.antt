@@ -15,6 +15,7 @@ use Rattle.notation.specs.Form.{atStart, behindComma, one, items, pairs, stray,
 use Rattle.notation.specs.Reading.{marked}
 use Rattle.token.specs.TokenAnswers.{indicatorNumber, shapeCode, codeOf, markOf, Took}
 use Rattle.token.specs.declared.Token.{Token as Cut}
+use Rattle.scanning.specs.ScanAnswers.{Skips}
 use Rattle.leaf_reader.specs.LeafAnswers.{CutAt}
 use Rattle.encoding.specs.ReadAnswers.{View, Held, unsaid, heldOf, ofItem, ofClosed, ofPairs, followed, Strayed}
 use Rattle.encoding.specs.declared.answer.ReadAnswer.{ReadAnswer}
@@ -80,9 +81,47 @@ commaCode Angle = 11
 commaCode Whole = 11
 commaCode Nothing = 0
 
+-- behind a key, which no list has but a map
+unfoldable pub colonCode : Closer → ℕ
+colonCode Square = 12
+colonCode Curly = 12
+colonCode Round = 0
+colonCode Angle = 12
+colonCode Whole = 12
+colonCode Nothing = 0
+
 unfoldable pub separatorCode : Closer → Bool → ℕ
-separatorCode h true = 12
+separatorCode h true = colonCode h
 separatorCode h false = commaCode h
+
+-- the bytes that they are or begin with, by which the code tells them apart
+unfoldable pub separatorByte : Bool → ℕ
+separatorByte true = 0x3a
+separatorByte false = 0x2c
+
+unfoldable pub maySeparate : Closer → Bool
+maySeparate Square = true
+maySeparate Curly = true
+maySeparate Round = false
+maySeparate Angle = true
+maySeparate Whole = true
+maySeparate Nothing = false
+
+unfoldable pub hasSign : Closer → Bool
+hasSign Square = true
+hasSign Curly = true
+hasSign Round = true
+hasSign Angle = false
+hasSign Whole = false
+hasSign Nothing = false
+
+unfoldable pub closingByte : Closer → ℕ
+closingByte Square = 0x5d
+closingByte Curly = 0x7d
+closingByte Round = 0x29
+closingByte Angle = 0x3e
+closingByte Whole = 0
+closingByte Nothing = 0
 
 unfoldable pub closerCode : Closer → Bool → ℕ
 closerCode h true = 0
@@ -188,6 +227,8 @@ pub record CodeAt (s : List ℕ) (at next code : ℕ) : Type 0 where
   pub is : codeOf tok ≡ code
 
 pub record SeparatesAt (s : List ℕ) (at : ℕ) (h : Closer) (k t : Bool) : Type 0 where
+  pub here : t ≡ true → drop at (marked s) ≡ separatorByte k ∷ drop (at + 1) (marked s)
+  pub inside : t ≡ true → at < length s
   pub yes : t ≡ true → CodeAt s at (at + 1) (separatorCode h k)
   pub no : t ≡ false → (tok : Token) (u : List ℕ) → cut (drop at (marked s)) ≡ ok tok u → codeOf tok ≡ separatorCode h k → ⊥
 
@@ -208,6 +249,31 @@ pub record EmptyAt (s : List ℕ) (from : ℕ) (h : Closer) (next′ indicator :
 pub record StartsAt (s : List ℕ) (from : ℕ) (h : Closer) (r : Closing) : Type 0 where
   pub yes : r .found ≡ true → EmptyAt s from h (r .next) (r .indicator)
   pub no : r .found ≡ false → mayBeEmpty h ≡ true → (i : Indicator) (u : List ℕ) → next (drop from (marked s)) ≡ ok (closes (shapeOf h) i) u → ⊥
+
+pub record Differs (b c : ℕ) (t : Bool) : Type 0 where
+  pub byte : b < 256
+  pub other : t ≡ true → b ≡ c → ⊥
+
+-- a list is seen not to be closed at a place, by the byte that stands there
+pub record OpenAt (s : List ℕ) (at : ℕ) (h : Closer) (t : Bool) : Type 0 where
+  pub is : t ≡ true → (i : Indicator) (u : List ℕ) → cut (drop at (marked s)) ≡ ok (closes (shapeOf h) i) u → ⊥
+
+-- it is seen to be closed there
+pub record ClosesAtOnce (s : List ℕ) (at : ℕ) (h : Closer) (k t : Bool) : Type 0 where
+  pub key : t ≡ true → k ≡ false
+  pub skips : t ≡ true → Skips s at at
+  pub closed : t ≡ true → ClosedAt s at h (at + 1) 0
+  pub inside : t ≡ true → at < length s
+
+-- a byte is no blank, begins no comment and is not c
+pub record IsFirm (b c : ℕ) (t : Bool) : Type 0 where
+  pub byte : b < 256
+  pub high : t ≡ true → 0x30 ≤ b
+  pub other : t ≡ true → b ≡ c → ⊥
+
+-- a list is seen not to end at a place
+pub record StartsAtOnce (s : List ℕ) (at : ℕ) (h : Closer) (t : Bool) : Type 0 where
+  pub is : t ≡ true → StartsAt s at h (record { found = false; next = at; indicator = 0 })
 
 -- what stands behind an item
 pub record OnAt (s : List ℕ) (from : ℕ) (h : Closer) (k : Bool) (next′ : ℕ) : Type 0 where

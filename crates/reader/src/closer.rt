@@ -8,7 +8,10 @@ ghost use mathlib.Core.Bool.{false};
 ghost use Prim.Native.Nat.{_+_, _≤_};
 ghost use lib.ListN.{length};
 ghost use Rattle.notation.specs.Reading.{marked};
-ghost use Rattle.reader.specs.Several.{isSingle, mayBeEmpty, starts, turned, counted, SignAt, GoesOn, ClosesAt, SeparatesAt, StartsAt, Ends, Follows};
+ghost use Rattle.reader.specs.Several.{isSingle, mayBeEmpty, starts, turned, counted, SignAt, GoesOn, ClosesAt, SeparatesAt, StartsAt, Ends, Follows, separatorByte, maySeparate, closingByte, hasSign, Differs, OpenAt, IsFirm, StartsAtOnce, ClosesAtOnce};
+
+// From this byte on there is no blank, and none begins a comment.
+const FIRM: u8 = b'0';
 
 // What closes a list: `]`, `}`, `)`, `>>` or the end of the text. `Nothing`: one item is all.
 pub enum Closer {
@@ -168,7 +171,7 @@ fn end(text: &[u8], at: usize) -> Closing
     }
 }
 
-fn closes(text: &[u8], at: usize, closer: Closer) -> Closing
+fn by_closer(text: &[u8], at: usize, closer: Closer) -> Closing
     requires { ⌜ at ≤ length (now text) + 1 ⌝ }
     ensures { λ r. ⌜ ClosesAt (now (text .entry)) at closer r ⌝ }
 {
@@ -182,22 +185,99 @@ fn closes(text: &[u8], at: usize, closer: Closer) -> Closing
     }
 }
 
-// Behind a key a colon, else a comma; a tag has one item.
+// The byte that closes, or begins what closes; 0 where that is the end of the text.
+fn closing_byte(closer: Closer) -> u8
+    ensures { λ r. ⌜ r ≡ closingByte closer ⌝ }
+{
+    match closer {
+        Closer::Square => b']',
+        Closer::Curly => b'}',
+        Closer::Round => b')',
+        Closer::Angle => b'>',
+        Closer::Whole => 0,
+        Closer::Nothing => 0,
+    }
+}
+
+fn differs(b: u8, c: u8) -> bool
+    ensures { λ r. ⌜ Differs b c r ⌝ }
+{
+    b != c
+}
+
+// Whether a byte stands at a place that does not begin what closes: most bytes do not, and which closer it is need not be asked then.
+fn is_open(text: &[u8], at: usize, closer: Closer) -> bool
+    ensures { λ r. ⌜ OpenAt (now (text .entry)) at closer r ⌝ }
+{
+    if text.len() <= at {
+        return false;
+    }
+    differs(text[at], closing_byte(closer))
+}
+
+fn closes(text: &[u8], at: usize, closer: Closer) -> Closing
+    requires { ⌜ at ≤ length (now text) + 1 ⌝ }
+    ensures { λ r. ⌜ ClosesAt (now (text .entry)) at closer r ⌝ }
+{
+    if is_open(text, at, closer) {
+        return none(at);
+    }
+    by_closer(text, at, closer)
+}
+
+// What parts an item from the next one: behind a key a colon, else a comma.
+fn separator(key: bool) -> u8
+    ensures { λ r. ⌜ r ≡ separatorByte key ⌝ }
+{
+    if key {
+        return b':';
+    }
+    b','
+}
+
+// Whether an item may be parted from a next one; a tag has one item.
+fn may_separate(closer: Closer) -> bool
+    ensures { λ r. ⌜ r ≡ maySeparate closer ⌝ }
+{
+    match closer {
+        Closer::Square => true,
+        Closer::Curly => true,
+        Closer::Angle => true,
+        Closer::Whole => true,
+        Closer::Round => false,
+        Closer::Nothing => false,
+    }
+}
+
+// The byte comes first: which closer it is can be foretold less well.
 fn separates(text: &[u8], at: usize, closer: Closer, key: bool) -> bool
     requires { ⌜ at ≤ length (now text) + 1 ⌝ }
     ensures { λ r. ⌜ SeparatesAt (now (text .entry)) at closer key r ⌝ }
 {
-    if key {
-        return next_is(text, at, b':');
+    if next_is(text, at, separator(key)) {
+        return may_separate(closer);
     }
-    match closer {
-        Closer::Square => next_is(text, at, b','),
-        Closer::Curly => next_is(text, at, b','),
-        Closer::Angle => next_is(text, at, b','),
-        Closer::Whole => next_is(text, at, b','),
-        Closer::Round => false,
-        Closer::Nothing => false,
+    false
+}
+
+// Whether a byte is neither a blank nor the begin of a comment nor the one that closes.
+fn is_firm(b: u8, close: u8) -> bool
+    ensures { λ r. ⌜ IsFirm b close r ⌝ }
+{
+    if b < FIRM {
+        return false;
     }
+    b != close
+}
+
+// Whether a list is seen not to end at a place, by the byte that stands there.
+fn starts_at_once(text: &[u8], at: usize, closer: Closer) -> bool
+    ensures { λ r. ⌜ StartsAtOnce (now (text .entry)) at closer r ⌝ }
+{
+    if text.len() <= at {
+        return false;
+    }
+    is_firm(text[at], closing_byte(closer))
 }
 
 // Whether a list ends where it begins.
@@ -205,11 +285,62 @@ pub(crate) fn first(text: &[u8], from: usize, closer: Closer) -> Closing
     requires { ⌜ from ≤ length (marked (now text)) ⌝ }
     ensures { λ r. ⌜ StartsAt (now (text .entry)) from closer r ⌝ }
 {
+    if starts_at_once(text, from, closer) {
+        return none(from);
+    }
     if may_be_empty(closer) {
         let here = TextCursor { at: from }.skip(text);
         return closes(text, here.at, closer);
     }
     none(from)
+}
+
+fn on(next: usize) -> Follower
+    ensures { λ r. ⌜ r ≡ record { follow = Follow.On; next = next; indicator = 0 } ⌝ }
+{
+    Follower {
+        follow: Follow::On,
+        next,
+        indicator: NONE,
+    }
+}
+
+fn over(next: usize) -> Follower
+    ensures { λ r. ⌜ r ≡ record { follow = Follow.Over; next = next; indicator = 0 } ⌝ }
+{
+    Follower {
+        follow: Follow::Over,
+        next,
+        indicator: NONE,
+    }
+}
+
+// Whether what closes is one byte, which is all that it can be.
+fn has_sign(closer: Closer) -> bool
+    ensures { λ r. ⌜ r ≡ hasSign closer ⌝ }
+{
+    match closer {
+        Closer::Square => true,
+        Closer::Curly => true,
+        Closer::Round => true,
+        Closer::Angle => false,
+        Closer::Whole => false,
+        Closer::Nothing => false,
+    }
+}
+
+// Whether a list ends at a place, with no blank and no comment before that.
+fn closes_at_once(text: &[u8], at: usize, closer: Closer, key: bool) -> bool
+    requires { ⌜ at ≤ length (now text) + 1 ⌝ }
+    ensures { λ r. ⌜ ClosesAtOnce (now (text .entry)) at closer key r ⌝ }
+{
+    if key {
+        return false;
+    }
+    if has_sign(closer) {
+        return next_is(text, at, closing_byte(closer));
+    }
+    false
 }
 
 // What stands behind an item.
@@ -218,20 +349,27 @@ pub(crate) fn followed(text: &[u8], from: usize, closer: Closer, key: bool) -> F
     ensures { λ r. ⌜ Follows (now (text .entry)) from closer key r ⌝ }
 {
     if is_single(closer) {
-        return Follower {
-            follow: Follow::Over,
-            next: from,
-            indicator: NONE,
-        };
+        return over(from);
     }
+    if separates(text, from, closer, key) {
+        return on(from + 1);
+    }
+    if closes_at_once(text, from, closer, key) {
+        return over(from + 1);
+    }
+    behind_blanks(text, from, closer, key)
+}
+
+// The same behind blanks and comments.
+fn behind_blanks(text: &[u8], from: usize, closer: Closer, key: bool) -> Follower
+    requires { ⌜ from ≤ length (marked (now text)) ⌝ }
+    requires { ⌜ isSingle closer ≡ false ⌝ }
+    ensures { λ r. ⌜ Follows (now (text .entry)) from closer key r ⌝ }
+{
     let here = TextCursor { at: from }.skip(text);
     let at = here.at;
     if separates(text, at, closer, key) {
-        return Follower {
-            follow: Follow::On,
-            next: at + 1,
-            indicator: NONE,
-        };
+        return on(at + 1);
     }
     if key {
         return Follower {

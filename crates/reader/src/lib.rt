@@ -12,6 +12,7 @@ use crate::closer::starts;
 use crate::closer::turned;
 use crate::opening::Opener;
 use crate::opening::opening_at;
+use crate::opening::opens_bare;
 use encoding::answer::MadeItem;
 use encoding::answer::ReadAnswer;
 use encoding::answer::done;
@@ -28,7 +29,10 @@ use encoding::major::ENDLESS_ARRAY;
 use encoding::major::ENDLESS_MAP;
 use encoding::major::MAP;
 use leaf_reader::Found;
+use leaf_reader::LeafRead;
+use leaf_reader::odd_leaf;
 use leaf_reader::read_leaf;
+use leaf_reader::read_odd;
 use refusal::Refusal;
 use refusal::RefusalKind;
 use saturating::sum;
@@ -37,6 +41,7 @@ use scanning::scan::TextCursor;
 use string_reader::chunked;
 use string_reader::literal;
 use token::indicator::INDEFINITE;
+use token::indicator::NONE;
 use token::kind::BYTES;
 use token::kind::NO_TOKEN;
 use token::kind::SIMPLE;
@@ -49,7 +54,7 @@ ghost use Rattle.notation.specs.Tokens.{bracket, brace, embedding};
 ghost use Rattle.notation.specs.Form.{one, reads};
 ghost use Rattle.notation.specs.Reading.{marked, sequence};
 ghost use Rattle.encoding.specs.ReadAnswers.{behindOpener, taggedRead, indicatorFor, Room, Opened, Bracketed, ReadTold, ofItem, ofClosed, ofTagged};
-ghost use Rattle.reader.specs.Openings.{isLeaf, Flat, TagMade};
+ghost use Rattle.reader.specs.Openings.{isLeaf, LevelAt, Flat, TagMade};
 ghost use Rattle.reader.specs.Several.{asSeen, severalRead, StrayTold};
 
 // Document 01's 16 levels.
@@ -61,6 +66,7 @@ fn is_leaf(found: Found) -> bool
     match found {
         Found::Leaf => true,
         Found::Tag => false,
+        Found::Odd => false,
         Found::Nothing => false,
     }
 }
@@ -97,26 +103,41 @@ fn stray(text: &[u8], from: usize, levels: usize) -> ReadAnswer
 }
 
 // An item that opens no level, by its token.
-fn flat(text: &[u8], from: usize, levels: usize, buf: &mut [u8], pos: usize) -> ReadAnswer
+fn whole(text: &[u8], from: usize, levels: usize, buf: &mut [u8], pos: usize) -> ReadAnswer
     requires { ⌜ Flat (now text) from levels ⌝ }
     requires { ⌜ Room (now text) from pos ⌝ }
     ensures { λ r. ⌜ ReadTold ofItem (now (text .entry)) (now (buf .entry)) (now (buf .exit)) (length (marked (now (text .entry))) - from) pos r (reads (one levels) (drop from (marked (now (text .entry))))) ⌝ }
 {
     let t = next_token(text, from);
-    let code = t.code;
-    if code == NO_TOKEN {
+    let kind = t.kind;
+    if kind == NO_TOKEN {
         return strayed(levels, t);
     }
-    if code <= SIMPLE {
+    if kind <= SIMPLE {
         return leaf(t, buf, pos);
     }
-    if code <= BYTES {
+    if kind <= BYTES {
         return literal(text, t, buf, pos);
     }
-    if code == OPEN_PAREN {
+    if kind == OPEN_PAREN {
         return chunked(text, t.next, levels, buf, pos);
     }
     strayed(levels, t)
+}
+
+// An item that opens no level.
+fn flat(text: &[u8], from: usize, levels: usize, buf: &mut [u8], pos: usize) -> ReadAnswer
+    requires { ⌜ Flat (now text) from levels ⌝ }
+    requires { ⌜ Room (now text) from pos ⌝ }
+    ensures { λ r. ⌜ ReadTold ofItem (now (text .entry)) (now (buf .entry)) (now (buf .exit)) (length (marked (now (text .entry))) - from) pos r (reads (one levels) (drop from (marked (now (text .entry))))) ⌝ }
+{
+    let here = TextCursor { at: from }.skip(text);
+    let q = read_odd(text, here.at, buf, pos);
+    let found = q.found;
+    if is_leaf(found) {
+        return done(q.next, q.size, q.binary, q.length);
+    }
+    whole(text, from, levels, buf, pos)
 }
 
 // What becomes of an item behind the head of a tag.
@@ -152,6 +173,69 @@ fn item(text: &[u8], from: usize, levels: usize, buf: &mut [u8], pos: usize) -> 
     if levels == 0 {
         return again(flat(text, from, levels, buf, pos));
     }
+    enter(text, from, at, q, levels, buf, pos)
+}
+
+// An item that is not seen to be a leaf: an array or a map without an indicator, mostly.
+fn enter(
+    text: &[u8],
+    from: usize,
+    at: usize,
+    q: LeafRead,
+    levels: usize,
+    buf: &mut [u8],
+    pos: usize,
+) -> ReadAnswer
+    requires { ⌜ LevelAt (now text) from at q levels ⌝ }
+    requires { ⌜ Room (now text) from pos ⌝ }
+    ensures { λ r. ⌜ ReadTold ofItem (now (text .entry)) (now (buf .entry)) (now (buf .exit)) (length (marked (now (text .entry))) - from) pos r (reads (one levels) (drop from (marked (now (text .entry))))) ⌝ }
+{
+    if opens_bare(text, from, at, Opener::Array) {
+        return array(text, at + 1, NONE, at, levels - 1, buf, pos);
+    }
+    if opens_bare(text, from, at, Opener::Map) {
+        return map(text, at + 1, NONE, at, levels - 1, buf, pos);
+    }
+    seldom(text, from, at, q, levels, buf, pos)
+}
+
+// A leaf as it is seldom written, or what opens a level.
+fn seldom(
+    text: &[u8],
+    from: usize,
+    at: usize,
+    q: LeafRead,
+    levels: usize,
+    buf: &mut [u8],
+    pos: usize,
+) -> ReadAnswer
+    requires { ⌜ LevelAt (now text) from at q levels ⌝ }
+    requires { ⌜ Room (now text) from pos ⌝ }
+    ensures { λ r. ⌜ ReadTold ofItem (now (text .entry)) (now (buf .entry)) (now (buf .exit)) (length (marked (now (text .entry))) - from) pos r (reads (one levels) (drop from (marked (now (text .entry))))) ⌝ }
+{
+    let found = q.found;
+    let r = odd_leaf(text, at, found, buf, pos);
+    let seen = r.found;
+    if is_leaf(seen) {
+        return done(r.next, r.size, r.binary, r.length);
+    }
+    level(text, from, at, q, levels, buf, pos)
+}
+
+// An item where no leaf was read: what opens a level, or an item by its token.
+fn level(
+    text: &[u8],
+    from: usize,
+    at: usize,
+    q: LeafRead,
+    levels: usize,
+    buf: &mut [u8],
+    pos: usize,
+) -> ReadAnswer
+    requires { ⌜ LevelAt (now text) from at q levels ⌝ }
+    requires { ⌜ Room (now text) from pos ⌝ }
+    ensures { λ r. ⌜ ReadTold ofItem (now (text .entry)) (now (buf .entry)) (now (buf .exit)) (length (marked (now (text .entry))) - from) pos r (reads (one levels) (drop from (marked (now (text .entry))))) ⌝ }
+{
     let o = opening_at(text, from, at, q);
     let opener = o.opener;
     match opener {

@@ -20,7 +20,7 @@ ghost use Rattle.scanning.specs.ScanAnswers.{Skips};
 ghost use Rattle.cbor.specs.Widths.{shortest, information};
 ghost use Rattle.token.specs.TokenAnswers.{Took};
 ghost use Rattle.encoding.specs.ReadAnswers.{initialBy};
-ghost use Rattle.reader.specs.Openings.{Opened, BracketAt, OpeningTold, ByToken};
+ghost use Rattle.reader.specs.Openings.{Opened, BracketAt, OpeningTold, OpensBare, ByToken, bracketByte};
 
 pub enum Opener {
     Array,
@@ -69,9 +69,9 @@ fn tagging(first: u8, number: u64, place: usize, next: usize) -> Opening
 fn by_token(t: Token) -> Opening
     ensures { λ r. ⌜ ByToken t r ⌝ }
 {
-    let code = t.code;
-    match code {
-        TAG => tagging(initial(t), t.number, t.place, t.next),
+    let kind = t.kind;
+    match kind {
+        TAG => tagging(initial(t), t.argument, t.place, t.next),
         OPEN_BRACKET => opens(Opener::Array, t.indicator, t.place, t.next),
         OPEN_BRACE => opens(Opener::Map, t.indicator, t.place, t.next),
         LESS => opens(Opener::Embedded, NONE, t.place, t.next),
@@ -119,6 +119,30 @@ fn by_byte(text: &[u8], from: usize, at: usize) -> Opening
     cut_opening(text, from)
 }
 
+fn bracket_byte(opener: Opener) -> u8
+    ensures { λ r. ⌜ r ≡ bracketByte opener ⌝ }
+{
+    match opener {
+        Opener::Array => b'[',
+        Opener::Map => b'{',
+        Opener::Tag => 0,
+        Opener::Embedded => 0,
+        Opener::Nothing => 0,
+    }
+}
+
+// Whether `[` or `{` stands at a place with no indicator behind it.
+pub(crate) fn opens_bare(text: &[u8], from: usize, at: usize, opener: Opener) -> bool
+    requires { ⌜ Skips (now text) from at ⌝ }
+    requires { ⌜ from ≤ length (marked (now text)) ⌝ }
+    ensures { λ r. ⌜ OpensBare (now (text .entry)) from at opener r ⌝ }
+{
+    if next_is(text, at, bracket_byte(opener)) {
+        return !next_is(text, at + 1, b'_');
+    }
+    false
+}
+
 // The initial byte of a tag, but for the additional information.
 const TAG_HEAD: u8 = 0xc0;
 
@@ -137,6 +161,7 @@ pub(crate) fn opening_at(text: &[u8], from: usize, at: usize, q: LeafRead) -> Op
             q.next,
         ),
         Found::Leaf => by_byte(text, from, at),
+        Found::Odd => by_byte(text, from, at),
         Found::Nothing => by_byte(text, from, at),
     }
 }

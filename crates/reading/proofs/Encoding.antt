@@ -1,6 +1,6 @@
 -- Reading: what is asked of all of a text, and the bytes that were made of it.
 -- Assumes nothing.
-use Prim.Native.Nat.{ℕ, suc, _+_, _-_, _≤_, _<_, min}
+use Prim.Native.Nat.{ℕ, suc, _+_, _-_, _*_, _≤_, _<_, min}
 use native.Mathlib.Omega.{arith}
 use mathlib.Core.Path.{_≡_, refl, sym, ap, _∙_}
 use mathlib.Core.Bool.{Bool, true, false}
@@ -30,7 +30,7 @@ use Rattle.outcome.specs.declared.Answer.{Answer}
 use Rattle.outcome.specs.declared.Answer.the-variants.{Written, Refused}
 use Rattle.text_check.specs.declared.Text.{Text}
 use Rattle.text_check.specs.declared.Text.the-variants.{Good, Refused as TextRefused}
-use Rattle.outcome.proofs.Room.{laid-room, laid-yes, laid-no}
+use Rattle.outcome.proofs.Room.{laid-room, laid-yes, laid-no, roomy-small, roomy-large}
 use Rattle.encoding.proofs.Wrote.{wrote-held}
 use Rattle.text_check.proofs.Texts.{passes, fails, passed-short}
 
@@ -56,15 +56,16 @@ module _ {m : List ℕ} {n : ℕ} (b : List ℕ) {v : Bool} (f : v ≡ leb n (mi
 pub ruleset deliver-ways = (deliver-done, deliver-refused)
 
 -- ENCODING
-encode-yes : (s b b′ made made′ : List ℕ) (most : ℕ) {r : Answer} {a : ReadAnswer} {k : MadeS} (res : Result Closed) → sequence s ≡ res → length made ≡ 65535 → After ofClosed s made made′ most 0 a res
-    → a ≡ ReadMade k → Delivered made′ (k .size) b b′ r → Encodes s b b′ r
+encode-yes : (s b b′ made made′ : List ℕ) (most : ℕ) {r : Answer} {a : ReadAnswer} {k : MadeS} (res : Result Closed) → sequence s ≡ res → most ≡ suc (length s) → Ready s made
+    → After ofClosed s made made′ most 0 a res → a ≡ ReadMade k → Delivered made′ (k .size) b b′ r → Encodes s b b′ r
 unfolding After ofClosed itemsRead bind verdictOf andThen laid
-encode-yes s b b′ made made′ most {k = k} (ok c q) e l x i d =
+encode-yes s b b′ made made′ most {k = k} (ok c q) e f l x i d =
     let j : x .made ≡ k = cc (x .is) in
     let n : k .size ≡ length (encodeAll (c .all)) = rw j at (x .moved .sized) in
-    let h : k .size ≤ mostBytes → take (k .size) made′ ≡ encodeAll (c .all) = λ m. rw n (wrote-held (x .moved .wrote) (omega (arith, n))) in
+    let z : k .size ≤ 9 * suc (length s) = omega (arith, f, rw j at (x .moved .short)) in
+    let h : k .size ≤ mostBytes → take (k .size) made′ ≡ encodeAll (c .all) = λ m. rw n (wrote-held (x .moved .wrote) (omega (arith, n, z, l .roomy .room))) in
     record { is = rw e (d .is (encodeAll (c .all)) (record { sized = n; held = h })) }
-encode-yes s b b′ made made′ most (refuse n q) e l x i d = let z : _≡_ {A = ℕ} 0 1 = cc (x .is) in absurd (omega arith)
+encode-yes s b b′ made made′ most (refuse n q) e f l x i d = let z : _≡_ {A = ℕ} 0 1 = cc (x .is) in absurd (omega arith)
 
 encode-no : (s b made made′ : List ℕ) (most : ℕ) {a : ReadAnswer} {e : Refusal} (res : Result Closed) → sequence s ≡ res → After ofClosed s made made′ most 0 a res → a ≡ ReadRefused e → Encodes s b b (Refused e)
 unfolding After itemsRead bind verdictOf andThen outcomeOf written
@@ -75,20 +76,30 @@ encode-no s b made made′ most {e = e} (refuse n q) f x i =
     let p : e .place ≡ suc (length s) - q = rw (j, l) at (x .place) in
     record { is = rw (f, p, rw j at (x .number)) }
 
-module _ {s made made′ : List ℕ} (b : List ℕ) {most : ℕ} {a : ReadAnswer} (t : ReadTold ofClosed s made made′ most 0 a (sequence s)) where
+module _ {s made made′ : List ℕ} (b : List ℕ) {a : ReadAnswer} (t : ReadTold ofClosed s made made′ (length (marked s)) 0 a (sequence s)) where
   pub encode-done : {k : MadeS} {b′ : List ℕ} {r : Answer} → Ready s made → a ≡ ReadMade k → Delivered made′ (k .size) b b′ r → Encodes s b b′ r
-  encode-done l i d = encode-yes s b _ made made′ most (sequence s) refl (l .room) (t .after) i d
+  encode-done l i d = encode-yes s b _ made made′ (length (marked s)) (sequence s) refl (marked-length s) l (t .after) i d
 
   pub encode-refused : {e : Refusal} → a ≡ ReadRefused e → Encodes s b b (Refused e)
-  encode-refused i = encode-no s b made made′ most (sequence s) refl (t .after) i
+  encode-refused i = encode-no s b made made′ (length (marked s)) (sequence s) refl (t .after) i
 
 pub ruleset encode-ways = (encode-done, encode-refused)
 
+-- THE BUFFERS
+module _ {s made : List ℕ} where
+  pub small-ready : length s ≤ 511 → length made ≡ 4608 → Ready s made
+  small-ready f l = record { short = omega arith; roomy = roomy-small f l }
+
+  pub large-ready : length s ≤ mostBytes → length made ≡ mostBytes → Ready s made
+  large-ready f l = record { short = f; roomy = roomy-large l }
+
+pub ruleset ready-ways = (small-ready, large-ready)
+
 -- THE OPERATION
 module _ (s b : List ℕ) {t : Text} (h : textTold t ≡ passing s) where
-  pub read-ready : {made : List ℕ} → t ≡ Good → length made ≡ 65535 → Ready s made
+  pub read-short : t ≡ Good → length s ≤ mostBytes
   unfolding textTold
-  read-ready e l = record { short = passed-short s (sym h ∙ rw e); room = l }
+  read-short e = passed-short s (sym h ∙ rw e)
 
   pub read-done : {b′ : List ℕ} {r : Answer} → t ≡ Good → Encodes s b b′ r → outcomeOf r b′ ≡ read s b
   unfolding textTold read bytesOf readText itemsRead
@@ -100,4 +111,4 @@ module _ (s b : List ℕ) {t : Text} (h : textTold t ≡ passing s) where
       let p : passing s ≡ refused (kindNumber (e .kind)) (e .place) = sym h ∙ rw i in
       rw (fails s (itemsRead s) p)
 
-pub ruleset read-ways = (read-ready, read-done, read-refused)
+pub ruleset read-ways = (read-short, read-done, read-refused)

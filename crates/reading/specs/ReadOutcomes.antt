@@ -9,7 +9,7 @@ use Rattle.cbor.specs.Encode.{encodeAll}
 use Rattle.cbor.specs.Decode.{mostBytes}
 use Rattle.notation.specs.Reading.{sequence}
 use Rattle.operations.specs.Operations.{andThen, fitting, written}
-use Rattle.outcome.specs.Outcomes.{outcomeOf, laid, Holds}
+use Rattle.outcome.specs.Outcomes.{outcomeOf, laid, Holds, Roomy}
 use Rattle.outcome.specs.declared.Answer.{Answer}
 
 pub record Delivered (m : List ℕ) (n : ℕ) (b b′ : List ℕ) (r : Answer) : Type 0 where
@@ -22,7 +22,7 @@ itemsRead s = verdictOf (suc (length s)) (bind (sequence s) (λ c r. ok (c .all)
 -- a text that passed, and a buffer for its bytes
 pub record Ready (s made : List ℕ) : Type 0 where
   pub short : length s ≤ mostBytes
-  pub room : length made ≡ mostBytes
+  pub roomy : Roomy s made
 
 pub record Encodes (s b b′ : List ℕ) (r : Answer) : Type 0 where
   pub is : outcomeOf r b′ ≡ written b (λ v. v) (andThen (itemsRead s) (λ xs. fitting b (encodeAll xs)))

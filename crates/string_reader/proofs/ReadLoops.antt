@@ -133,7 +133,7 @@ module _ (L : Row) {s b₀ : List ℕ} {i pos at n size : ℕ} {b b′ : List �
         ∙ bind-assoc (next (drop (m .next) (marked s))) _ _
 
     module _ {t : Cut} (tk : Took s (m .next) t) where
-      pub row-comma : t .code ≡ 11 → Run L s b₀ i pos (t .next) (n + m .count) (size + m .size) b′
+      pub row-comma : t .kind ≡ 11 → Run L s b₀ i pos (t .next) (n + m .count) (size + m .size) b′
       row-comma e =
           let tk′ = token tk (λ z. omega arith) in
           let st = tk′ .seen .next in
@@ -157,13 +157,13 @@ module _ (L : Row) {s b₀ : List ℕ} {i pos at n size : ℕ} {b b′ : List �
             wrote = written;
           }
 
-      pub row-less : t .code ≡ 11 → length (marked s) - t .next < length (marked s) - at
+      pub row-less : t .kind ≡ 11 → length (marked s) - t .next < length (marked s) - at
       row-less e =
           let tk′ = token tk (λ z. omega arith) in
           omega (arith, past tk (tk′ .ahead), tk′ .seen .next .inside, stands-left (it .moved .stands), it .moved .stands .inside, it .moved .short, run .inside)
 
       module _ {a′ : ReadAnswer} where
-        pub row-close : t .code ≡ shapeCode (L .closer) → a′ ≡ Made (record { next = t .next; size = size + m .size; count = n + m .count; indicator = 0; binary = L .binary; length = n + m .count }) → ReadTold (L .ofAll) s b₀ b′ (length (marked s) - i) pos a′ (L .first (drop i (marked s)))
+        pub row-close : t .kind ≡ shapeCode (L .closer) → a′ ≡ Made (record { next = t .next; size = size + m .size; count = n + m .count; indicator = 0; binary = L .binary; length = n + m .count }) → ReadTold (L .ofAll) s b₀ b′ (length (marked s) - i) pos a′ (L .first (drop i (marked s)))
         unfolding bind
         row-close e f =
             let tk′ = token tk (λ z. omega (arith, shape-low (L .closer))) in
@@ -187,7 +187,7 @@ module _ (L : Row) {s b₀ : List ℕ} {i pos at n size : ℕ} {b b′ : List �
               wrote = rw q written;
             })
 
-        pub row-stray : (t .code ≡ shapeCode (L .closer) → ⊥) → (t .code ≡ 11 → ⊥) → Strayed (L .levels) t a′ → ReadTold (L .ofAll) s b₀ b′ (length (marked s) - i) pos a′ (L .first (drop i (marked s)))
+        pub row-stray : (t .kind ≡ shapeCode (L .closer) → ⊥) → (t .kind ≡ 11 → ⊥) → Strayed (L .levels) t a′ → ReadTold (L .ofAll) s b₀ b′ (length (marked s) - i) pos a′ (L .first (drop i (marked s)))
         unfolding bind
         row-stray nc n11 f =
             told-stop (L .levels) _ _ tk f behind

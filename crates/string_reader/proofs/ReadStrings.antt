@@ -78,7 +78,7 @@ pub record LiteralHere (s : List ℕ) (at : ℕ) (t : Cut) : Type 0 where
   pub stands : Stands (marked s) (t .next) rest
   pub short : length held + t .place < t .next
 
-pub literal-here : {s : List ℕ} {at pos : ℕ} {t : Cut} → Took s at t → Room s at pos → 3 < t .code → t .code ≤ 5 → LiteralHere s at t
+pub literal-here : {s : List ℕ} {at pos : ℕ} {t : Cut} → Took s at t → Room s at pos → 3 < t .kind → t .kind ≤ 5 → LiteralHere s at t
 unfolding codeOf markOf numberOf Written beginCode beginMark beginNumber BeginsAs limit
 literal-here {s} {at} {pos} {t} tk rm l h =
     let ta = token tk (λ z. omega arith) in
@@ -101,7 +101,7 @@ literal-here {s} {at} {pos} {t} tk rm l h =
     fits-by : (z : Size) (w : Width) (n : ℕ) → z ≡ definite w → SizeFine z n → n ≤ limit w8 → n ≤ limit w
     fits-by z w n e f h = (rw e at f) h
 
-pub literal-light : {s : List ℕ} {at : ℕ} {t : Cut} (pos : ℕ) → Took s at t → Room s at pos → 3 < t .code → t .code ≤ 5 → Light (pos + t .number)
+pub literal-light : {s : List ℕ} {at : ℕ} {t : Cut} (pos : ℕ) → Took s at t → Room s at pos → 3 < t .kind → t .kind ≤ 5 → Light (pos + t .argument)
 literal-light pos tk rm l h =
     let li = literal-here tk rm l h in
     record { fits = omega (arith, li .short, li .facts .number, li .stands .inside, rm .room, rm .inside, tk .from) }
@@ -114,7 +114,7 @@ literal-size k (definite w) c =
     (omega (arith, l), omega (arith, l, head-most (strings k) w (length c)))
 literal-size k indefinite c = (omega arith, omega arith)
 
-pub item-literal : {s b b′ : List ℕ} {at pos : ℕ} {t : Cut} {a : ReadAnswer} (d : ℕ) → Took s at t → Room s at pos → 3 < t .code → t .code ≤ 5 → LiteralTold s t b b′ pos a
+pub item-literal : {s b b′ : List ℕ} {at pos : ℕ} {t : Cut} {a : ReadAnswer} (d : ℕ) → Took s at t → Room s at pos → 3 < t .kind → t .kind ≤ 5 → LiteralTold s t b b′ pos a
     → ReadTold ofItem s b b′ (length (marked s) - at) pos a (reads (one d) (drop at (marked s)))
 unfolding ofItem oneRule beginning obey
 item-literal {s} {b} {b′} {at} {pos} {t} {a} d tk rm l h to =
@@ -270,19 +270,19 @@ module _ {s b₀ : List ℕ} {kind d i pos at n size : ℕ} {b b′ : List ℕ} 
     chunks-sum = row-count (chunksRow (kindFor kind) d) a (run .run) told g
 
     module _ {t : Cut} (tk : Took s (m .next) t) where
-      pub chunks-comma : t .code ≡ 11 → Chunks-run kind d s b₀ i pos (t .next) (n + m .count) (size + m .size) b′
+      pub chunks-comma : t .kind ≡ 11 → Chunks-run kind d s b₀ i pos (t .next) (n + m .count) (size + m .size) b′
       chunks-comma e = record { from = run .from; run = row-comma (chunksRow (kindFor kind) d) a (run .run) told g tk e }
 
-      pub chunks-less : t .code ≡ 11 → length (marked s) - t .next < length (marked s) - at
+      pub chunks-less : t .kind ≡ 11 → length (marked s) - t .next < length (marked s) - at
       chunks-less e = row-less (chunksRow (kindFor kind) d) a (run .run) told g tk e
 
       module _ {a′ : ReadAnswer} where
-        pub chunks-close : {v : Bool} → t .code ≡ 14 → v ≡ isBytesBy kind → a′ ≡ Made (record { next = t .next; size = size + m .size; count = n + m .count; indicator = 0; binary = v; length = n + m .count })
+        pub chunks-close : {v : Bool} → t .kind ≡ 14 → v ≡ isBytesBy kind → a′ ≡ Made (record { next = t .next; size = size + m .size; count = n + m .count; indicator = 0; binary = v; length = n + m .count })
             → ChunksTold kind s b₀ b′ (length (marked s) - i) pos a′ (reads (chunks (only (kindFor kind)) d) (drop i (marked s)))
         unfolding shapeCode
         chunks-close e w f = record { told = row-close (chunksRow (kindFor kind) d) a (run .run) told g tk e (rw (run .from .kinds) (rw w at f)); kept = λ m′ q. made-kept a′ _ m′ f q (isBytesBy kind) (w, refl) }
 
-        pub chunks-stray : (t .code ≡ 14 → ⊥) → (t .code ≡ 11 → ⊥) → Strayed d t a′
+        pub chunks-stray : (t .kind ≡ 14 → ⊥) → (t .kind ≡ 11 → ⊥) → Strayed d t a′
             → ChunksTold kind s b₀ b′ (length (marked s) - i) pos a′ (reads (chunks (only (kindFor kind)) d) (drop i (marked s)))
         unfolding shapeCode
         chunks-stray nc n11 f = record { told = row-stray (chunksRow (kindFor kind) d) a (run .run) told g tk nc n11 f; kept = λ m′ q. made-never a′ (f .refusal) m′ (f .is) q }
@@ -333,11 +333,11 @@ mixed-by k k′ indefinite b p r n m = absurd (n refl)
 -- a chunk that was written
 done-by : {s b b′ : List ℕ} {at pos size : ℕ} {t : Cut} {a : ReadAnswer} (k k′ : Kind) (z : Size) (c r : List ℕ) (res : Result Chunk) → Took s at t → (t .indicator ≡ 1 → ⊥) → k′ ≡ k → LiteralIs s t k′ z c
     → res ≡ chunkOf k k′ z c (place (drop at (marked s))) r → Stands (marked s) (t .next) r → length c + t .place < t .next → Stringed s t b b′ pos size
-    → a ≡ Made (record { next = t .next; size = size; count = t .number; indicator = 0; binary = false; length = 0 }) → ReadTold (ofChunk k) s b b′ (length (marked s) - at) pos a res
+    → a ≡ Made (record { next = t .next; size = size; count = t .argument; indicator = 0; binary = false; length = 0 }) → ReadTold (ofChunk k) s b b′ (length (marked s) - at) pos a res
 unfolding chunkOf sizeNumber ofChunk encodeString head Tells
 done-by k k′ indefinite c r res tk n1 same l e sn sh sg f = absurd (n1 (l .size))
 done-by {s} {b} {b′} {at} {pos} {size} {t} {a} k k′ (definite w) c r res tk n1 same l e sn sh sg f =
-    let hs : headBytes (initialBy t) (t .number) ≡ head (strings k) w (length c) = string-head l ∙ ap (λ (x : Kind). head (strings x) w (length c)) same in
+    let hs : headBytes (initialBy t) (t .argument) ≡ head (strings k) w (length c) = string-head l ∙ ap (λ (x : Kind). head (strings x) w (length c)) same in
     let q : size ≡ length (head (strings k) w (length c) ++ c) = sg .size-is ∙ (rw (hs, l .number)) ∙ sym (length-append (head (strings k) w (length c)) c) in
     let z : length (head (strings k) w (length c) ++ c) ≡ length (head (strings k) w (length c)) + length c = length-append (head (strings k) w (length c)) c in
     told-ok (record { width = w; content = c }) res (e ∙ (rw same (rw (wanted-same k, chunkOf)))) f
@@ -358,30 +358,30 @@ unfolding chunkRead chunkReadBy
 chunk-is {s} {at} k d li = bind-yes (next (drop at (marked s))) _ (begins (literal (li .kind) (li .size) (li .held))) (li .rest) (li .next-is)
 
 module _ {s b b′ : List ℕ} {at pos kind : ℕ} {t : Cut} {a : ReadAnswer} (d : ℕ) (st : Strings s at pos kind) (tk : Took s at t) where
-  chunk-other : (3 < t .code → t .code ≤ 5 → ⊥) → Strayed d t a → ReadTold (ofChunk (kindFor kind)) s b b′ (length (marked s) - at) pos a (chunkRead (kindFor kind) d (drop at (marked s)))
+  chunk-other : (3 < t .kind → t .kind ≤ 5 → ⊥) → Strayed d t a → ReadTold (ofChunk (kindFor kind)) s b b′ (length (marked s) - at) pos a (chunkRead (kindFor kind) d (drop at (marked s)))
   unfolding chunkRead
   chunk-other n f = told-stop d _ _ tk f refl (λ tok r e u. not-literal (kindFor kind) d tok (place (drop at (marked s))) r (λ l h. n (rw e l) (rw e h)))
 
-  pub chunk-low : t .code ≤ 3 → Strayed d t a → ReadTold (ofChunk (kindFor kind)) s b b′ (length (marked s) - at) pos a (chunkRead (kindFor kind) d (drop at (marked s)))
+  pub chunk-low : t .kind ≤ 3 → Strayed d t a → ReadTold (ofChunk (kindFor kind)) s b b′ (length (marked s) - at) pos a (chunkRead (kindFor kind) d (drop at (marked s)))
   chunk-low h f = chunk-other (λ l m. absurd (omega arith)) f
 
-  pub chunk-high : 5 < t .code → Strayed d t a → ReadTold (ofChunk (kindFor kind)) s b b′ (length (marked s) - at) pos a (chunkRead (kindFor kind) d (drop at (marked s)))
+  pub chunk-high : 5 < t .kind → Strayed d t a → ReadTold (ofChunk (kindFor kind)) s b b′ (length (marked s) - at) pos a (chunkRead (kindFor kind) d (drop at (marked s)))
   chunk-high h f = chunk-other (λ l m. absurd (omega arith)) f
 
-  module _ (l : 3 < t .code) (h : t .code ≤ 5) where
+  module _ (l : 3 < t .kind) (h : t .kind ≤ 5) where
     pub chunk-open : t .indicator ≡ 1 → Denies badIndicator (t .place) a → ReadTold (ofChunk (kindFor kind)) s b b′ (length (marked s) - at) pos a (chunkRead (kindFor kind) d (drop at (marked s)))
     chunk-open e f =
         let li = literal-here tk (st .room) l h in
         told-no badIndicator (place (drop at (marked s))) _ (chunk-is (kindFor kind) d li ∙ open-by (kindFor kind) (li .kind) (li .size) (li .held) (place (drop at (marked s))) (li .rest) (sym (li .facts .size) ∙ e)) (denied f (place-at tk))
 
     module _ (n1 : t .indicator ≡ 1 → ⊥) where
-      pub chunk-mixed : (t .code ≡ kind → ⊥) → Denies mixedChunks (t .place) a → ReadTold (ofChunk (kindFor kind)) s b b′ (length (marked s) - at) pos a (chunkRead (kindFor kind) d (drop at (marked s)))
+      pub chunk-mixed : (t .kind ≡ kind → ⊥) → Denies mixedChunks (t .place) a → ReadTold (ofChunk (kindFor kind)) s b b′ (length (marked s) - at) pos a (chunkRead (kindFor kind) d (drop at (marked s)))
       chunk-mixed n f =
           let li = literal-here tk (st .room) l h in
           told-no mixedChunks (place (drop at (marked s))) _
           (chunk-is (kindFor kind) d li ∙ mixed-by (kindFor kind) (li .kind) (li .size) (li .held) (place (drop at (marked s))) (li .rest) (λ z. n1 (li .facts .size ∙ z)) (λ e. n (li .facts .code ∙ e ∙ st .kinds))) (denied f (place-at tk))
 
-      pub chunk-done : {size : ℕ} → t .code ≡ kind → Stringed s t b b′ pos size → a ≡ Made (record { next = t .next; size = size; count = t .number; indicator = 0; binary = false; length = 0 })
+      pub chunk-done : {size : ℕ} → t .kind ≡ kind → Stringed s t b b′ pos size → a ≡ Made (record { next = t .next; size = size; count = t .argument; indicator = 0; binary = false; length = 0 })
           → ReadTold (ofChunk (kindFor kind)) s b b′ (length (marked s) - at) pos a (chunkRead (kindFor kind) d (drop at (marked s)))
       chunk-done {size} e sg f =
           let li = literal-here tk (st .room) l h in
@@ -389,7 +389,7 @@ module _ {s b b′ : List ℕ} {at pos kind : ℕ} {t : Cut} {a : ReadAnswer} (d
 
 pub ruleset chunk-ways = (chunk-low, chunk-high, chunk-open, chunk-mixed, chunk-done)
 
-pub chunk-light : {s : List ℕ} {at kind : ℕ} {t : Cut} (pos : ℕ) → Strings s at pos kind → Took s at t → 3 < t .code → t .code ≤ 5 → Light (pos + t .number)
+pub chunk-light : {s : List ℕ} {at kind : ℕ} {t : Cut} (pos : ℕ) → Strings s at pos kind → Took s at t → 3 < t .kind → t .kind ≤ 5 → Light (pos + t .argument)
 chunk-light pos st tk l h = literal-light pos tk (st .room) l h
 
 -- A STRING IN CHUNKS
@@ -429,16 +429,16 @@ pub open-room : {s : List ℕ} {at place : ℕ} (pos : ℕ) → Opened s at pos 
 open-room pos o = record { inside = o .inside; room = omega (arith, o .room) }
 
 module _ {s b b′ : List ℕ} {at pos place′ : ℕ} {t : Cut} {a : ReadAnswer} (d : ℕ) (o : Opened s at pos place′) (tk : Took s at t) where
-  chunked-other : (3 < t .code → t .code ≤ 5 → ⊥) → Strayed d t a → ReadTold ofItem s b b′ (length (marked s) - at + 1) pos a (chunkedRead d (drop at (marked s)))
+  chunked-other : (3 < t .kind → t .kind ≤ 5 → ⊥) → Strayed d t a → ReadTold ofItem s b b′ (length (marked s) - at + 1) pos a (chunkedRead d (drop at (marked s)))
   unfolding chunkedRead rules bind
   chunked-other n f =
       told-stop d _ _ tk f (ap (λ (u : Result Chunks). bind u (λ c r. Whole c r)) (reads-is (chunks either d) (drop at (marked s))) ∙ bind-assoc (next (drop at (marked s))) _ _)
       (λ tok r e u. bind-no _ (λ c r. Whole c r) _ _ (not-either d tok (place (drop at (marked s))) r (λ l h. n (rw e l) (rw e h))))
 
-  pub chunked-low : t .code ≤ 3 → Strayed d t a → ReadTold ofItem s b b′ (length (marked s) - at + 1) pos a (chunkedRead d (drop at (marked s)))
+  pub chunked-low : t .kind ≤ 3 → Strayed d t a → ReadTold ofItem s b b′ (length (marked s) - at + 1) pos a (chunkedRead d (drop at (marked s)))
   chunked-low h f = chunked-other (λ l m. absurd (omega arith)) f
 
-  pub chunked-high : 5 < t .code → Strayed d t a → ReadTold ofItem s b b′ (length (marked s) - at + 1) pos a (chunkedRead d (drop at (marked s)))
+  pub chunked-high : 5 < t .kind → Strayed d t a → ReadTold ofItem s b b′ (length (marked s) - at + 1) pos a (chunkedRead d (drop at (marked s)))
   chunked-high h f = chunked-other (λ l m. absurd (omega arith)) f
 
 kind-told : {s b b′ : List ℕ} {most pos : ℕ} {m : MadeS} {r : List ℕ} (k : Kind) (cs : Chunks) → m .binary ≡ isBytesBy (kindCode k) → MovedOn s b b′ most pos m (ofChunks k cs) r → cs .kind ≡ k
@@ -468,18 +468,18 @@ whole-told {s} {b} {b′} {b″} {at} {pos} {place′} {first} {m} {a′} k cs r
       wrote = rw q at w;
     })
 
-pub chunked-strings : {s : List ℕ} {at place′ : ℕ} {t : Cut} (pos : ℕ) → Opened s at pos place′ → Took s at t → 3 < t .code → t .code ≤ 5 → Strings s at (pos + 1) (t .code)
+pub chunked-strings : {s : List ℕ} {at place′ : ℕ} {t : Cut} (pos : ℕ) → Opened s at pos place′ → Took s at t → 3 < t .kind → t .kind ≤ 5 → Strings s at (pos + 1) (t .kind)
 chunked-strings pos o tk l h =
     let li = literal-here tk (open-room pos o) l h in
     record { room = open-room pos o; kinds = rw (li .facts .code) (ap kindCode (kind-back (li .kind))) }
 
-module _ {s b b′ : List ℕ} {at pos place′ : ℕ} {t : Cut} (d : ℕ) (a : ReadAnswer) (o : Opened s at pos place′) (tk : Took s at t) (l : 3 < t .code) (h : t .code ≤ 5)
-    (ct : ChunksTold (t .code) s b b′ (length (marked s) - at) (pos + 1) a (reads (chunks (only (kindFor (t .code))) d) (drop at (marked s)))) where
-  chunked-is : chunkedRead d (drop at (marked s)) ≡ bind (reads (chunks (only (kindFor (t .code))) d) (drop at (marked s))) (λ c r. Whole c r)
+module _ {s b b′ : List ℕ} {at pos place′ : ℕ} {t : Cut} (d : ℕ) (a : ReadAnswer) (o : Opened s at pos place′) (tk : Took s at t) (l : 3 < t .kind) (h : t .kind ≤ 5)
+    (ct : ChunksTold (t .kind) s b b′ (length (marked s) - at) (pos + 1) a (reads (chunks (only (kindFor (t .kind))) d) (drop at (marked s)))) where
+  chunked-is : chunkedRead d (drop at (marked s)) ≡ bind (reads (chunks (only (kindFor (t .kind))) d) (drop at (marked s))) (λ c r. Whole c r)
   unfolding chunkedRead
   chunked-is =
       let li = literal-here tk (open-room pos o) l h in
-      let e : li .kind ≡ kindFor (t .code) = sym (kind-back (li .kind)) ∙ ap kindFor (sym (li .facts .code)) in
+      let e : li .kind ≡ kindFor (t .kind) = sym (kind-back (li .kind)) ∙ ap kindFor (sym (li .facts .code)) in
       ap (λ (u : Result Chunks). bind u (λ c r. Whole c r)) (chunks-either d li ∙ ap (λ (k : Kind). reads (chunks (only k) d) (drop at (marked s))) e)
 
   pub chunked-lost : {b″ : List ℕ} {e : Refusal} → a ≡ Refused e → ReadTold ofItem s b b″ (length (marked s) - at + 1) pos (Refused e) (chunkedRead d (drop at (marked s)))
@@ -489,14 +489,14 @@ module _ {s b b′ : List ℕ} {at pos place′ : ℕ} {t : Cut} (d : ℕ) (a : 
     pub chunked-light : Light (pos + m .size)
     chunked-light = record { fits = omega (arith, got a (ct .told) g .moved .short, o .room) }
 
-    pub chunked-done : {b″ : List ℕ} {a′ : ReadAnswer} {major : ℕ} → MajorBy (t .code) major → Ended b′ b″ pos (major * 32 + 31) (m .next) (m .size) (m .binary) (m .length) a′
+    pub chunked-done : {b″ : List ℕ} {a′ : ReadAnswer} {major : ℕ} → MajorBy (t .kind) major → Ended b′ b″ pos (major * 32 + 31) (m .next) (m .size) (m .binary) (m .length) a′
         → ReadTold ofItem s b b″ (length (marked s) - at + 1) pos a′ (chunkedRead d (drop at (marked s)))
     chunked-done mj en =
         let it = got a (ct .told) g in
-        let code : kindCode (kindFor (t .code)) ≡ t .code = chunked-strings pos o tk l h .kinds in
+        let code : kindCode (kindFor (t .kind)) ≡ t .kind = chunked-strings pos o tk l h .kinds in
         let k = ct .kept m g in
-        let same : it .thing .kind ≡ kindFor (t .code) = kind-told (kindFor (t .code)) (it .thing) (k .0 ∙ ap isBytesBy (sym code)) (it .moved) in
-        whole-told (kindFor (t .code)) (it .thing) _ (it .rest) (chunked-is ∙ bind-yes (reads (chunks (only (kindFor (t .code))) d) (drop at (marked s))) _ (it .thing) (it .rest) (it .is)) same
+        let same : it .thing .kind ≡ kindFor (t .kind) = kind-told (kindFor (t .kind)) (it .thing) (k .0 ∙ ap isBytesBy (sym code)) (it .moved) in
+        whole-told (kindFor (t .kind)) (it .thing) _ (it .rest) (chunked-is ∙ bind-yes (reads (chunks (only (kindFor (t .kind))) d) (drop at (marked s))) _ (it .thing) (it .rest) (it .is)) same
         (ap (λ (x : ℕ). x * 32 + 31) (mj .is ∙ ap majorBy (sym code))) (it .moved) en o
 
 pub ruleset chunked-ways = (chunked-low, chunked-high, chunked-lost, chunked-done)

@@ -60,26 +60,26 @@ fn fill(text: &[u8], t: Token, buf: &mut [u8], pos: usize)
 
 // A literal's head and what it holds.
 fn string(text: &[u8], t: Token, buf: &mut [u8], pos: usize) -> usize
-    requires { ⌜ Light (pos + t .number) ⌝ }
+    requires { ⌜ Light (pos + t .argument) ⌝ }
     ensures { λ r. ⌜ Stringed (now (text .entry)) t (now (buf .entry)) (now (buf .exit)) pos r ⌝ }
 {
     let first = initial(t);
     let size = head_size(first);
-    head::write_head(buf, pos, first, t.number);
+    head::write_head(buf, pos, first, t.argument);
     fill(text, t, buf, pos + size);
-    size + t.number as usize
+    size + t.argument as usize
 }
 
 // A literal that is an item.
 pub fn literal(text: &[u8], t: Token, buf: &mut [u8], pos: usize) -> ReadAnswer
-    requires { ⌜ Light (pos + t .number) ⌝ }
+    requires { ⌜ Light (pos + t .argument) ⌝ }
     ensures { λ r. ⌜ LiteralTold (now (text .entry)) t (now (buf .entry)) (now (buf .exit)) pos r ⌝ }
 {
     if t.indicator == INDEFINITE {
-        return endless(buf, pos, initial(t), t.next, 0, is_binary(t.code), 0);
+        return endless(buf, pos, initial(t), t.next, 0, is_binary(t.kind), 0);
     }
     let size = string(text, t, buf, pos);
-    done(t.next, size, is_binary(t.code), t.number as usize)
+    done(t.next, size, is_binary(t.kind), t.argument as usize)
 }
 
 // A chunk of a kind of literals.
@@ -88,21 +88,21 @@ fn chunk(text: &[u8], at: usize, kind: u8, levels: usize, buf: &mut [u8], pos: u
     ensures { λ r. ⌜ ReadTold (ofChunk (kindFor kind)) (now (text .entry)) (now (buf .entry)) (now (buf .exit)) (length (marked (now (text .entry))) - at) pos r (chunkRead (kindFor kind) levels (drop at (marked (now (text .entry))))) ⌝ }
 {
     let t = next_token(text, at);
-    let code = t.code;
-    if code <= SIMPLE {
+    let found = t.kind;
+    if found <= SIMPLE {
         return strayed(levels, t);
     }
-    if BYTES < code {
+    if BYTES < found {
         return strayed(levels, t);
     }
     if t.indicator == INDEFINITE {
         return refuse(RefusalKind::BadIndicator, t.place);
     }
-    if code != kind {
+    if found != kind {
         return refuse(RefusalKind::MixedChunks, t.place);
     }
     let size = string(text, t, buf, pos);
-    listed(t.next, size, t.number as usize, NONE)
+    listed(t.next, size, t.argument as usize, NONE)
 }
 
 // The chunks of a string up to its parenthesis.
@@ -128,8 +128,8 @@ fn chunks(
                 n += m.count;
                 size += m.size;
                 let t = next_token(text, m.next);
-                let code = t.code;
-                if code == CLOSE_PAREN {
+                let found = t.kind;
+                if found == CLOSE_PAREN {
                     return ReadAnswer::Made(MadeItem {
                         next: t.next,
                         size,
@@ -139,7 +139,7 @@ fn chunks(
                         length: n,
                     });
                 }
-                if code != COMMA {
+                if found != COMMA {
                     return strayed(levels, t);
                 }
                 at = t.next;
@@ -154,7 +154,7 @@ pub fn chunked(text: &[u8], at: usize, levels: usize, buf: &mut [u8], pos: usize
     ensures { λ r. ⌜ ReadTold ofItem (now (text .entry)) (now (buf .entry)) (now (buf .exit)) (length (marked (now (text .entry))) - at + 1) pos r (chunkedRead levels (drop at (marked (now (text .entry))))) ⌝ }
 {
     let t = next_token(text, at);
-    let kind = t.code;
+    let kind = t.kind;
     if kind <= SIMPLE {
         return strayed(levels, t);
     }

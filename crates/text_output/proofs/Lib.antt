@@ -1,1 +1,3 @@
 pub mod PrintLeaves
+pub mod PlainRuns
+pub mod Decimals

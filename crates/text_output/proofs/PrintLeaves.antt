@@ -10,7 +10,7 @@ use native.Mathlib.Omega.{arith}
 use lib.Dec.{ltb, leb}
 use lib.ListN.{length, take, set, getD, length-append, length-set}
 use lib.Seq.{take-suc}
-use mir.Syntax.{w64 as bits64}
+use mir.Syntax.{w8 as bits8, w64 as bits64}
 use mir.Val.{Fits}
 use borrow.Author.Tests.{leb-true, leb-false, ltb-false, lt-ltb, le-ltb, eq-eqb, ne-eqb}
 use Rattle.cbor.specs.Ascii.{ascii}
@@ -19,6 +19,7 @@ use Rattle.memory.proofs.Buffer.{clipped-past, clipped-nil, clipped-one, clippe
 use Rattle.notation.specs.Printing.{decimalWithin, decimalOf, hexDigitOf, hexByteOf, hexOf, escapeOf, escapedOf}
 use Rattle.memory.specs.Sums.{capped}
 use Rattle.text_output.specs.PrintParts.{Prints, contentOf}
+use Rattle.text_output.specs.Runs.{lettersAt}
 
 -- ONE PART BEHIND THE OTHER
 
@@ -50,10 +51,10 @@ module _ {b : List ℕ} {pos : ℕ} (s : length b * 1 < 2 ^ 63) where
 
 -- ALL OF A TEXT
 
-take-next : (s : List ℕ) (i : ℕ) → i < length s → take (i + 1) s ≡ take i s ++ getD s i 0 ∷ []
+pub take-next : (s : List ℕ) (i : ℕ) → i < length s → take (i + 1) s ≡ take i s ++ getD s i 0 ∷ []
 take-next s i h = rw (add-one, take-suc s i 0 h)
 
-take-whole : (s : List ℕ) (i : ℕ) → length s ≤ i → take i s ≡ s
+pub take-whole : (s : List ℕ) (i : ℕ) → length s ≤ i → take i s ≡ s
 take-whole [] zero h = refl
 take-whole [] (suc i) h = refl
 take-whole (b ∷ s) zero h = absurd (omega arith)
@@ -150,6 +151,37 @@ hex-high v h = rw (le-ltb v 10 h, hexDigitOf)
 
 pub ruleset hex-ways = (hex-low, hex-high)
 
+-- a digit by adding
+pub letters-none : {v : ℕ} → v < 10 → 0 ≡ lettersAt v
+unfolding lettersAt
+letters-none {v} h = sym (rw (lt-ltb v 10 h, lettersAt))
+
+pub letters-some : {v : ℕ} → 10 ≤ v → 39 ≡ lettersAt v
+unfolding lettersAt
+letters-some {v} h = sym (rw (le-ltb v 10 h, lettersAt))
+
+pub ruleset letters-ways = (letters-none, letters-some)
+
+letters-few : (v : ℕ) → lettersAt v ≤ 39
+unfolding lettersAt
+letters-few v = go (ltb v 10)
+  where
+    go : (t : Bool) → elim t [ true ↦ 0 | false ↦ 39 ] ≤ 39
+    go true = omega arith
+    go false = omega arith
+
+module _ (v : ℕ) {x : ℕ} (e : x ≡ lettersAt v) where
+  pub hex-fits : v < 16 → Fits bits8 (0x30 + v + x)
+  hex-fits h = record { fits = omega (arith, letters-few v) }
+
+  pub hex-is : 0x30 + v + x ≡ hexDigitOf v
+  unfolding hexDigitOf lettersAt
+  hex-is = go (ltb v 10) e
+    where
+      go : (t : Bool) → x ≡ elim t [ true ↦ 0 | false ↦ 39 ] → 0x30 + v + x ≡ elim t [ true ↦ 0x30 + v | false ↦ 0x57 + v ]
+      go true f = omega arith
+      go false f = omega arith
+
 module _ {b b₁ b₂ : List ℕ} {pos p q : ℕ} where
   pub two : {v w : ℕ} → Prints b b₁ pos (v ∷ []) p → Prints b₁ b₂ p (w ∷ []) q → Prints b b₂ pos (v ∷ w ∷ []) q
   two f g = prints-more f g
@@ -190,17 +222,17 @@ module _ {b b₁ : List ℕ} {t : Bool} {pos p : ℕ} (c : ℕ) where
 
 pub ruleset content-ways = (content-text, content-bytes)
 
-escaped-append : (x y : List ℕ) → escapedOf (x ++ y) ≡ escapedOf x ++ escapedOf y
+pub escaped-append : (x y : List ℕ) → escapedOf (x ++ y) ≡ escapedOf x ++ escapedOf y
 unfolding escapedOf
 escaped-append [] y = refl
 escaped-append (b ∷ x) y = rw (escaped-append x y, append-assoc (escapeOf b) (escapedOf x) (escapedOf y))
 
-hex-append : (x y : List ℕ) → hexOf (x ++ y) ≡ hexOf x ++ hexOf y
+pub hex-append : (x y : List ℕ) → hexOf (x ++ y) ≡ hexOf x ++ hexOf y
 unfolding hexOf
 hex-append [] y = refl
 hex-append (b ∷ x) y = rw (hex-append x y, append-assoc (hexByteOf b) (hexOf x) (hexOf y))
 
-content-append : (t : Bool) (x y : List ℕ) → contentOf t (x ++ y) ≡ contentOf t x ++ contentOf t y
+pub content-append : (t : Bool) (x y : List ℕ) → contentOf t (x ++ y) ≡ contentOf t x ++ contentOf t y
 unfolding contentOf
 content-append true x y = escaped-append x y
 content-append false x y = hex-append x y

@@ -1,1 +1,2 @@
 pub mod PrintParts
+pub mod Runs

@@ -161,16 +161,16 @@ Written s t aColon = Unit {0}
 
 -- t is the token tok, with r behind it
 pub record Seen (s : List ℕ) (t : Cut) (tok : Token) (r : List ℕ) : Type 0 where
-  pub code : t .code ≡ codeOf tok
+  pub code : t .kind ≡ codeOf tok
   pub indicator : t .indicator ≡ markOf tok
-  pub number : t .number ≡ numberOf tok
+  pub number : t .argument ≡ numberOf tok
   pub written : Written s t tok
   pub next : Stands (marked s) (t .next) r
 
 -- t is no token, but a refusal by the number k
 pub record Failed (t : Cut) (k : ℕ) : Type 0 where
-  pub code : t .code ≡ 0
-  pub kind : t .indicator ≡ k
+  pub code : t .kind ≡ 0
+  pub refusal : t .refusal ≡ k
 
 unfoldable pub Shown : List ℕ → Cut → Result Token → Type 0
 Shown s t (ok tok r) = Seen s t tok r
@@ -186,17 +186,17 @@ pub record Took (s : List ℕ) (at : ℕ) (t : Cut) : Type 0 where
   pub shown : Shown s t (next (drop at (marked s)))
   pub place : Stands (marked s) (t .place) (skip (drop at (marked s)))
   pub from : at ≤ t .place
-  pub ahead : (t .code ≡ 0 → ⊥) → t .place < t .next
+  pub ahead : (t .kind ≡ 0 → ⊥) → t .place < t .next
 
 -- what the two functions that make a token answer
 pub record Refused (k p : ℕ) (t : Cut) : Type 0 where
-  pub code : t .code ≡ 0
-  pub kind : t .indicator ≡ k
+  pub code : t .kind ≡ 0
+  pub refusal : t .refusal ≡ k
   pub place : t .place ≡ p
 
 pub record TokenMade (c i n p x : ℕ) (t : Cut) : Type 0 where
-  pub code : t .code ≡ c
+  pub code : t .kind ≡ c
   pub indicator : t .indicator ≡ i
-  pub number : t .number ≡ n
+  pub number : t .argument ≡ n
   pub place : t .place ≡ p
   pub next : t .next ≡ x

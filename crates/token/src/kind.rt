@@ -1,6 +1,6 @@
 // The kinds of token, as `Token` has them. A token that a single sign begins is of the kind of that sign, its class (`scanning::class`).
 
-// No token: `indicator` has the number of the refusal.
+// No token: `refusal` says why.
 pub const NO_TOKEN: u8 = 0;
 
 pub const UNSIGNED: u8 = 1;

@@ -5,16 +5,19 @@ pub mod kind;
 pub mod reason;
 
 use crate::form::QUOTED;
+use crate::indicator::NONE;
 use crate::kind::NO_TOKEN;
+use crate::reason::NO_REFUSAL;
 ghost use Rattle.token.specs.TokenAnswers.{Refused, TokenMade};
 
-// A token. Its kind (see kind.rt). The indicator of a container, or the width that it gives an argument (see indicator.rt); where there is no token, the
-// number of the refusal (see reason.rt). The number: an argument, a simple value, or how many bytes a literal stands for. The form of a literal (see
-// form.rt); what it holds starts at `start`, and stops at `stop` in h'..' and b64'..'. The token's place, and what is next behind it.
+// A token: its kind (kind.rt); where there is none, why not (reason.rt). The indicator of a container, or the width that it gives an argument
+// (indicator.rt). The argument of its head: of a literal, how many bytes it stands for. The form of a literal (form.rt); what it holds starts
+// at `start`, and stops at `stop` in h'..' and b64'..'. The token's place, and what is next behind it.
 pub struct Token {
-    pub code: u8,
+    pub kind: u8,
+    pub refusal: u8,
     pub indicator: u8,
-    pub number: u64,
+    pub argument: u64,
     pub form: u8,
     pub start: usize,
     pub stop: usize,
@@ -26,9 +29,10 @@ pub fn refuse(reason: u8, place: usize) -> Token
     ensures { λ r. ⌜ Refused reason place r ⌝ }
 {
     Token {
-        code: NO_TOKEN,
-        indicator: reason,
-        number: 0,
+        kind: NO_TOKEN,
+        refusal: reason,
+        indicator: NONE,
+        argument: 0,
         form: QUOTED,
         start: 0,
         stop: 0,
@@ -38,13 +42,14 @@ pub fn refuse(reason: u8, place: usize) -> Token
 }
 
 // A token that is no literal.
-pub fn made(code: u8, indicator: u8, number: u64, place: usize, next: usize) -> Token
-    ensures { λ r. ⌜ TokenMade code indicator number place next r ⌝ }
+pub fn made(kind: u8, indicator: u8, argument: u64, place: usize, next: usize) -> Token
+    ensures { λ r. ⌜ TokenMade kind indicator argument place next r ⌝ }
 {
     Token {
-        code,
+        kind,
+        refusal: NO_REFUSAL,
         indicator,
-        number,
+        argument,
         form: QUOTED,
         start: 0,
         stop: 0,

@@ -1,5 +1,8 @@
 // Why there is no token, by the numbers of document 01's table.
 
+// There is one.
+pub const NO_REFUSAL: u8 = 0;
+
 // What begins no token, or begins one that is not ended.
 pub const NOTHING: u8 = 3;
 

@@ -329,7 +329,7 @@ unfolding Shown placed
 shown-placed s t q (ok tok r) h = h
 shown-placed s t q (refuse k l) h = h
 
-shown-ahead : (s : List ℕ) (t : Cut) (at : ℕ) (R : Result Token) → Below (length (drop at (marked s))) R → Shown s t R → (t .code ≡ 0 → ⊥) → at < t .next
+shown-ahead : (s : List ℕ) (t : Cut) (at : ℕ) (R : Result Token) → Below (length (drop at (marked s))) R → Shown s t R → (t .kind ≡ 0 → ⊥) → at < t .next
 unfolding Shown
 shown-ahead s t at (ok tok r) b h n =
     omega (arith, stands-at (h .next), h .next .inside, length-drop at (marked s))

@@ -79,7 +79,7 @@ module _ {form mark size start stop place next : ℕ} (w : ℕ) (f : w ≡ choos
       }
 
   pub lit-made : (c : ℕ) → (w ≡ 0 → ⊥) → c ≡ kindCode (quoteKind form)
-      → Literally form mark size start stop place next (record { code = c; indicator = w; number = size; form = form; start = start; stop = stop; place = place; next = next })
+      → Literally form mark size start stop place next (record { kind = c; refusal = 0; indicator = w; argument = size; form = form; start = start; stop = stop; place = place; next = next })
   unfolding Shown codeOf beginCode markOf beginMark sizeNumber numberOf beginNumber Written BeginsAs
   lit-made c z g =
       record {
@@ -117,7 +117,7 @@ empty (c ∷ b) e = absurd (omega arith)
 
 module _ {form size start place : ℕ} {m : Mark} where
   pub quoted-empty : (c : ℕ) → m .mark ≡ 1 → size ≡ 0 → c ≡ kindCode (quoteKind form)
-      → Quotedly form size start place m (record { code = c; indicator = 1; number = 0; form = form; start = start; stop = 0; place = place; next = m .next })
+      → Quotedly form size start place m (record { kind = c; refusal = 0; indicator = 1; argument = 0; form = form; start = start; stop = 0; place = place; next = m .next })
   unfolding Shown codeOf beginCode markOf beginMark sizeNumber numberOf beginNumber Written BeginsAs quotedToken
   quoted-empty c e z g =
       record {

@@ -18,6 +18,7 @@ use token::kind::BYTES;
 use token::kind::TEXT;
 use token::reason::BAD_CONTENT;
 use token::reason::BAD_INDICATOR;
+use token::reason::NO_REFUSAL;
 use token::reason::NOTHING;
 use token::reason::UNKNOWN_WORD;
 use token::refuse;
@@ -35,7 +36,7 @@ ghost use Rattle.token.specs.TokenAnswers.{Says, kindCode};
 ghost use Rattle.words.specs.WordAnswers.{Enclosed};
 ghost use Rattle.tokens.specs.CutAnswers.{quoteKind, quoteByte, literalContent, QuotedAt, EncodedAt, Literally, Quotedly};
 
-fn code_of(form: u8) -> u8
+fn kind_of(form: u8) -> u8
     ensures { λ r. ⌜ r ≡ kindCode (quoteKind form) ⌝ }
 {
     if form == QUOTED {
@@ -70,9 +71,10 @@ fn literal(
         return refuse(BAD_INDICATOR, place);
     }
     Token {
-        code: code_of(form),
+        kind: kind_of(form),
+        refusal: NO_REFUSAL,
         indicator: width,
-        number: size as u64,
+        argument: size as u64,
         form,
         start,
         stop,
@@ -90,9 +92,10 @@ fn quoted_token(form: u8, size: usize, start: usize, place: usize, m: Mark) -> T
     if mark == INDEFINITE {
         if size == 0 {
             return Token {
-                code: code_of(form),
+                kind: kind_of(form),
+                refusal: NO_REFUSAL,
                 indicator: INDEFINITE,
-                number: 0,
+                argument: 0,
                 form,
                 start,
                 stop: 0,

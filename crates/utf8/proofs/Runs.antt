@@ -1,7 +1,7 @@
 -- Runs of ASCII: a block by its largest byte, and the walk over a run.
 -- Assumes nothing.
-use mathlib.Core.Path.{_≡_, refl, subst}
-use mathlib.Core.Bool.{Bool, true, false, not}
+use mathlib.Core.Path.{_≡_, refl, sym, subst}
+use mathlib.Core.Bool.{Bool, true, false, not, true≢false}
 use mathlib.Core.List.{List}
 use Prim.Native.Nat.{ℕ, zero, suc, _+_, _-_, _≤_, _<_, max}
 use native.Mathlib.Omega.{arith}
@@ -11,7 +11,7 @@ use borrow.Author.Count.{below-more}
 use borrow.Author.Tests.{ltb-true, ltb-false, not-false}
 use Rattle.cbor.specs.Utf8.{firstBad}
 use Rattle.cbor.proofs.Sequences.{Walked, walk-start, walk-ascii, walk-end}
-use Rattle.utf8.specs.AsciiRuns.{Block, Ascii}
+use Rattle.utf8.specs.AsciiRuns.{Block, Ascii, AllAscii}
 
 -- the loop over a block: none of the first i bytes is above m
 pub record Topped (s : List ℕ) (at i m : ℕ) : Type 0 where
@@ -24,7 +24,7 @@ module _ {s : List ℕ} {at i m : ℕ} (inv : Topped s at i m) where
   pub topped-on : {n : ℕ} → n ≡ max m (getD s (at + i) 0) → Topped s at (i + 1) n
   topped-on {n} e = record { is = below-more (λ j. getD s (at + j) 0 ≤ n) i (λ j h. omega (arith, inv .is j h)) (omega arith) }
 
-  pub topped-end : 32 ≤ i → Block s at (ltb m 0x80)
+  pub topped-end : {n : ℕ} → n ≤ i → Block s at n (ltb m 0x80)
   topped-end l = record { is = λ e j h. let k : j < i = omega arith in omega (arith, ltb-true m 0x80 e, inv .is j k) }
 
 -- the loops over a run
@@ -51,10 +51,10 @@ module _ {s : List ℕ} {from at : ℕ} (inv : Ascii s from at) where
         ahead = omega (arith, inv .ahead);
       }
 
-  pub ascii-block : {t : Bool} → 32 ≤ length s - at → Block s at t → not t ≡ false → Ascii s from (at + 32)
-  ascii-block {t} l x n = ascii-join inv (record { is = is; inside = omega arith; ahead = omega arith })
+  pub ascii-block : {k : ℕ} {t : Bool} → k ≤ length s - at → Block s at k t → not t ≡ false → Ascii s from (at + k)
+  ascii-block {k} {t} l x n = let i = inv .inside in ascii-join inv (record { is = is; inside = omega arith; ahead = omega arith })
     where
-      is : (j : ℕ) → at ≤ j → j < at + 32 → getD s j 0 < 0x80
+      is : (j : ℕ) → at ≤ j → j < at + k → getD s j 0 < 0x80
       is j g h = let z : at + (j - at) ≡ j = omega arith in rw z at (x .is (not-false t n) (j - at) (omega arith))
 
 -- the walk passes a run
@@ -77,3 +77,23 @@ pub ascii-good : (s : List ℕ) → ((j : ℕ) → j < length s → getD s j 0 <
 ascii-good s f =
     let z : 0 + length s ≡ length s = omega arith in
     walk-end (subst (Walked s) z (walk-run (length s) walk-start (λ j a b. f j (omega arith)) (omega arith))) (omega arith)
+
+-- all of it, the last block once more
+module _ {s : List ℕ} where
+  pub all-not : AllAscii s false
+  all-not = record { is = λ e. absurd (true≢false (sym e)) }
+
+  pub all-blocks : {end k : ℕ} {t : Bool} → k ≤ length s → Ascii s 0 end → length s - end < k → Block s (length s - k) k t → AllAscii s t
+  all-blocks {end} {k} {t} h x l y = record { is = is }
+    where
+      is : t ≡ true → (j : ℕ) → j < length s → getD s j 0 < 0x80
+      is e j g = go (ltb j end) refl
+        where
+          go : (u : Bool) → ltb j end ≡ u → getD s j 0 < 0x80
+          go true f = x .is j (omega arith) (ltb-true j end f)
+          go false f = let b = ltb-false j end f in let z : length s - k + (j - (length s - k)) ≡ j = omega arith in rw z at (y .is e (j - (length s - k)) (omega arith))
+
+pub ruleset all-ways = (all-not, all-blocks)
+
+pub bad-none : {s : List ℕ} {t : Bool} → AllAscii s t → t ≡ true → length s ≡ firstBad s
+bad-none {s} x e = ascii-good s (x .is e)

@@ -5,7 +5,7 @@ ghost use Prim.Native.Nat.{_+_, _<_, _≤_, max};
 ghost use lib.ListN.{length, drop};
 ghost use Rattle.cbor.specs.Utf8.{_to_, follow, areIn, firstBad};
 ghost use Rattle.cbor.specs.Sequences.{behindFirst, Sequence};
-ghost use Rattle.utf8.specs.AsciiRuns.{Block, Ascii};
+ghost use Rattle.utf8.specs.AsciiRuns.{Block, Ascii, AllAscii};
 
 // What a first byte says: how long its sequence is, 0 where none begins so, and the bounds of the second byte.
 struct Lead(u8, u8, u8);
@@ -81,8 +81,13 @@ fn sequence(bytes: &[u8], at: usize) -> usize
     size
 }
 
+// The first byte that is no ASCII.
+const BEHIND_ASCII: u8 = 0x80;
+
 // Blocks of ASCII are passed over whole, but only behind a few letters of it: between other letters a block would be looked at in vain.
 const BLOCK: usize = 32;
+
+const WIDE: usize = 128;
 
 const FEW: usize = 16;
 
@@ -98,7 +103,7 @@ fn larger(a: u8, b: u8) -> u8
 // Whether a block is ASCII. The loop has no way out, so the compiler makes wide steps of it.
 fn is_ascii_block(bytes: &[u8], at: usize) -> bool
     requires { ⌜ at + 32 ≤ length (now bytes) ⌝ }
-    ensures { λ r. ⌜ Block (now (bytes .entry)) at r ⌝ }
+    ensures { λ r. ⌜ Block (now (bytes .entry)) at 32 r ⌝ }
 {
     let mut most: u8 = 0;
     let mut i: usize = 0;
@@ -106,7 +111,36 @@ fn is_ascii_block(bytes: &[u8], at: usize) -> bool
         most = larger(most, bytes[at + i]);
         i += 1;
     }
-    most < 0x80
+    most < BEHIND_ASCII
+}
+
+// The same of a wide block.
+fn is_wide_block(bytes: &[u8], at: usize) -> bool
+    requires { ⌜ at + 128 ≤ length (now bytes) ⌝ }
+    ensures { λ r. ⌜ Block (now (bytes .entry)) at 128 r ⌝ }
+{
+    let mut most: u8 = 0;
+    let mut i: usize = 0;
+    while i < WIDE {
+        most = larger(most, bytes[at + i]);
+        i += 1;
+    }
+    most < BEHIND_ASCII
+}
+
+// Past wide blocks of ASCII.
+fn wide_blocks(bytes: &[u8], from: usize) -> usize
+    requires { ⌜ from ≤ length (now bytes) ⌝ }
+    ensures { λ r. ⌜ Ascii (now (bytes .entry)) from r ⌝ }
+{
+    let mut end = from;
+    while WIDE <= bytes.len() - end {
+        if !is_wide_block(bytes, end) {
+            return end;
+        }
+        end += WIDE;
+    }
+    end
 }
 
 // Past whole blocks of ASCII.
@@ -114,7 +148,7 @@ fn ascii_blocks(bytes: &[u8], from: usize) -> usize
     requires { ⌜ from ≤ length (now bytes) ⌝ }
     ensures { λ r. ⌜ Ascii (now (bytes .entry)) from r ⌝ }
 {
-    let mut end = from;
+    let mut end = wide_blocks(bytes, from);
     while BLOCK <= bytes.len() - end {
         if !is_ascii_block(bytes, end) {
             return end;
@@ -124,6 +158,20 @@ fn ascii_blocks(bytes: &[u8], from: usize) -> usize
     end
 }
 
+// Whether all is ASCII, as far as blocks show it. The last one may overlap the one before it.
+fn is_ascii(bytes: &[u8]) -> bool
+    ensures { λ r. ⌜ AllAscii (now (bytes .entry)) r ⌝ }
+{
+    if bytes.len() < BLOCK {
+        return false;
+    }
+    let end = ascii_blocks(bytes, 0);
+    if BLOCK <= bytes.len() - end {
+        return false;
+    }
+    is_ascii_block(bytes, bytes.len() - BLOCK)
+}
+
 // Past ASCII, to where other letters may stand.
 fn ascii_end(bytes: &[u8], from: usize) -> usize
     requires { ⌜ from ≤ length (now bytes) ⌝ }
@@ -131,7 +179,7 @@ fn ascii_end(bytes: &[u8], from: usize) -> usize
 {
     let mut end = from;
     while end < bytes.len() {
-        if 0x80 <= bytes[end] {
+        if BEHIND_ASCII <= bytes[end] {
             return end;
         }
         if FEW <= end - from {
@@ -146,9 +194,12 @@ fn ascii_end(bytes: &[u8], from: usize) -> usize
 pub fn first_bad(bytes: &[u8]) -> usize
     ensures { λ r. ⌜ r ≡ firstBad (now (bytes .entry)) ⌝ }
 {
+    if is_ascii(bytes) {
+        return bytes.len();
+    }
     let mut at = 0;
     while at < bytes.len() {
-        if bytes[at] < 0x80 {
+        if bytes[at] < BEHIND_ASCII {
             at = ascii_end(bytes, at + 1);
             continue;
         }

@@ -4,14 +4,14 @@ use Prim.Native.Nat.{ℕ, zero, suc, _+_, _-_, _*_, _^_, _≤_, _<_, min}
 use native.Mathlib.Omega.{arith}
 use mathlib.Core.Path.{_≡_, refl, sym, ap, _∙_}
 use mathlib.Core.Bool.{Bool, true, false, not}
-use mathlib.Core.List.{List}
+use mathlib.Core.List.{List, [], _∷_}
 use lib.Dec.{eqb}
 use lib.ListN.{length, take, drop, length-drop}
 use lib.Seq.{drop-drop, take-all}
 use borrow.Author.Tests.{ne-eqb, not-true, not-false}
 use Rattle.cbor.specs.Refusals.{Result, ok, refuse, bind}
 use Rattle.cbor.specs.Items.{Item}
-use Rattle.cbor.specs.Decode.{Until, counted, Step, finished, another, stepAt, severalBy, chunkAt, entryAt, item}
+use Rattle.cbor.specs.Decode.{Until, counted, ended, Step, finished, another, stepAt, severalBy, chunkAt, entryAt, item}
 use Rattle.walk.specs.WalkAnswers.{PassTold, passed, passRefused, passTold, contents, mapResult, toldOf, passOf, below, entryContents, chunkContents, oneOf, allOf, untilBy, behindBy, stepBy, Turned, afterTold}
 use Rattle.cbor.specs.Flags.{kindOf}
 use Rattle.refusal.specs.declared.Refusal.{Refusal}
@@ -162,6 +162,37 @@ all-twice d (suc n) s =
 
 pub all-double : (d n : ℕ) (s : List ℕ) → allOf 4 d (counted (n * 2)) s ≡ allOf 5 d (counted n) s
 all-double d n s = let e : n * 2 ≡ n + n = omega arith in ap (λ (k : ℕ). allOf 4 d (counted k) s) e ∙ sym (all-twice d n s)
+
+-- a number of items, and then all to the end
+pub all-rest : (d k : ℕ) (s : List ℕ) {z : ℕ} {r : List ℕ} → allOf 4 d (counted k) s ≡ ok z r → allOf 4 d ended s ≡ bind (allOf 4 d ended r) (λ n r′. ok (z + n) r′)
+unfolding bind stepAt severalBy
+all-rest d zero s {z} {r} e =
+    let f : ok 0 s ≡ ok z r = sym (all-none 4 d s) ∙ e in
+    let a : 0 ≡ z = cc in
+    let b : s ≡ r = cc in
+    bind-none (allOf 4 d ended s) ∙ (λ j. bind (allOf 4 d ended (b j)) (λ n r′. ok (a j + n) r′))
+all-rest d (suc k) s {z} {r} e = first (oneOf 4 d s) refl (sym (all-more 4 d k s) ∙ e) (λ t x u h. all-rest d k t h)
+  where
+    last : (m x : ℕ) (res : Result ℕ) → bind (bind res (λ n r′. ok (x + n) r′)) (λ n r′. ok (m + n) r′) ≡ bind res (λ n r′. ok (m + x + n) r′)
+    last m x (ok n t) = let q : m + (x + n) ≡ m + x + n = omega arith in ap (λ (y : ℕ). ok y t) q
+    last m x (refuse n l) = refl
+
+    second : (m : ℕ) (t : List ℕ) (res : Result ℕ) → allOf 4 d (counted k) t ≡ res → bind res (λ n r′. ok (m + n) r′) ≡ ok z r → ((x : ℕ) (u : List ℕ) → allOf 4 d (counted k) t ≡ ok x u → allOf 4 d ended t ≡ bind (allOf 4 d ended u) (λ n r′. ok (x + n) r′))
+        → bind (allOf 4 d ended t) (λ n r′. ok (m + n) r′) ≡ bind (allOf 4 d ended r) (λ n r′. ok (z + n) r′)
+    second m t (ok x u) h i ih =
+        let a : m + x ≡ z = cc in
+        let b : u ≡ r = cc in
+        ap (λ (res : Result ℕ). bind res (λ n r′. ok (m + n) r′)) (ih x u h) ∙ last m x (allOf 4 d ended u) ∙ (λ j. bind (allOf 4 d ended (b j)) (λ n r′. ok (a j + n) r′))
+    second m t (refuse x l) h i ih = let o : _≡_ {A = ℕ} 0 1 = cc in absurd (omega arith)
+
+    going : (t : List ℕ) {m : ℕ} {u : List ℕ} → oneOf 4 d t ≡ ok m u → allOf 4 d ended t ≡ bind (oneOf 4 d t) (others 4 d ended)
+    going [] h = let l = rw h at (one-leaves 4 d []) in absurd (omega (arith, l .less))
+    going (b ∷ t) h = all-eq 4 d ended (b ∷ t)
+
+    first : (res : Result ℕ) → oneOf 4 d s ≡ res → bind res (others 4 d (counted k)) ≡ ok z r → ((t : List ℕ) (x : ℕ) (u : List ℕ) → allOf 4 d (counted k) t ≡ ok x u → allOf 4 d ended t ≡ bind (allOf 4 d ended u) (λ n r′. ok (x + n) r′))
+        → allOf 4 d ended s ≡ bind (allOf 4 d ended r) (λ n r′. ok (z + n) r′)
+    first (ok m t) h i ih = going s h ∙ ap (λ (res : Result ℕ). bind res (others 4 d ended)) h ∙ second m t (allOf 4 d (counted k) t) refl i (ih t)
+    first (refuse n l) h i ih = let o : _≡_ {A = ℕ} 0 1 = cc in absurd (omega arith)
 
 module _ (n d : ℕ) (s : List ℕ) {t : PassTold} where
   pub other-entry : {major : ℕ} → major ≡ 5 → t ≡ toldOf n (allOf 4 d (untilBy 0 2) s) → t ≡ toldOf n (oneOf major d s)

@@ -163,7 +163,7 @@ fn simple_in(text: &[u8], place: usize, from: usize, end: usize, a: Amount) -> T
 }
 
 // Behind the word `simple`.
-fn simple_token(text: &[u8], place: usize, at: usize) -> Token
+pub fn simple_token(text: &[u8], place: usize, at: usize) -> Token
     requires { ⌜ at ≤ length (now text) ⌝ }
     ensures { λ r. ⌜ Says (now (text .entry)) place r (simpleToken (drop at (marked (now (text .entry))))) ⌝ }
 {

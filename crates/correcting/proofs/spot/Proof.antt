@@ -3,7 +3,7 @@
 use borrow.Author.Needs.{needs}
 use Rattle.correcting.proofs.spot.Statement.{statement}
 use Rattle.correcting.proofs.spot.Tie as tie
-use Rattle.looking.proofs.Parts.{bytes-of}
+use Rattle.path.proofs.Guiding.{bytes-of}
 
 pub spot-spec : {M : Type 1} → statement M
 spot-spec =

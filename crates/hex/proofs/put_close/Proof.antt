@@ -6,7 +6,7 @@ use Prim.Native.Nat.{_-_}
 use Rattle.notation.specs.Literals.{hexContent}
 use Rattle.literal_body.specs.LiteralReading.{Progressed}
 use Rattle.literal_body.proofs.ReadingCode.{progress-start}
-use Rattle.hex.proofs.HexCode.{close-on}
+use Rattle.hex.proofs.HexCode.{close-on, close-gap, close-less}
 use borrow.Author.Needs.{needs}
 
 abbrev Inv-loop : tie.InvT-loop
@@ -21,8 +21,6 @@ put-close-spec =
     (λ c. search progress-start)  -- loop-holds
     (λ c. search needs)  -- sub-loop
     (λ c κs. search needs)  -- pair-requires
-    (λ c. search needs)  -- same-length
-    (λ c. search needs)  -- returns
     (λ c. search needs)  -- cast-put
     (λ c κs. search needs)  -- put-requires
     (λ c. search needs)  -- add-size
@@ -30,6 +28,11 @@ put-close-spec =
     (λ c κs. search needs)  -- after-blank-requires
     (λ c. search needs)  -- loop-less
     (λ c. search close-on)  -- loop-again
+    (λ c κs. search needs)  -- past-gap-requires
+    (λ c. search needs)  -- same-length
+    (λ c. search needs)  -- returns
+    (λ c. search (close-less, needs))  -- loop-less-2
+    (λ c. search close-gap)  -- loop-again-2
     (λ c. search needs)  -- same-length-2
     (λ c. search needs)  -- returns-2
     )

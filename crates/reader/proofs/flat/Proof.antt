@@ -1,26 +1,20 @@
 -- `reader::flat` meets its contract.
 -- Assumes nothing.
 use borrow.Author.Needs.{needs}
-use Rattle.string_reader.proofs.ReadStrings.{literal-light}
-use Rattle.reader.proofs.ReadItems.{flat-ways, flat-open, room-inside}
+use Rattle.reader.proofs.ReadItems.{item-leaf, item-whole, room-inside}
 use Rattle.reader.proofs.flat.Statement.{statement}
 use Rattle.reader.proofs.flat.Tie as tie
 
 pub flat-spec : {M : Type 1} → statement M
 flat-spec =
     tie.close (tie.spec
-    (λ c κs. search room-inside)  -- next-token-requires
-    (λ c κs. search needs)  -- strayed-requires
-    (λ c. search flat-ways)  -- returns
-    (λ c κs. search needs)  -- leaf-requires
+    (λ c κs. search room-inside)  -- skip-requires
+    (λ c κs. search needs)  -- read-odd-requires
+    (λ c κs. search needs)  -- is-leaf-requires
+    (λ c κs. search needs)  -- done-requires
     (λ c. search needs)  -- same-length
-    (λ c. search flat-ways)  -- returns-2
-    (λ c κs. search literal-light)  -- literal-requires
+    (λ c. search item-leaf)  -- returns
+    (λ c κs. search needs)  -- whole-requires
     (λ c. search needs)  -- same-length-2
-    (λ c. search flat-ways)  -- returns-3
-    (λ c κs. search flat-open)  -- chunked-requires
-    (λ c. search needs)  -- same-length-3
-    (λ c. search flat-ways)  -- returns-4
-    (λ c κs. search needs)  -- strayed-requires-2
-    (λ c. search flat-ways)  -- returns-5
+    (λ c. search item-whole)  -- returns-2
     )

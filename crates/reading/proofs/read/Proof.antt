@@ -11,9 +11,15 @@ read-spec =
     (λ c κs. search needs)  -- check-text-requires
     (λ c. search needs)  -- enum-known-t
     (λ c. search needs)  -- enum-told
-    (λ c. search needs)  -- slice-aggregate-encode
-    (λ c κs. search read-ways)  -- encode-requires
-    (λ c. search read-ways)  -- returns
+    (λ c κs. search needs)  -- encode-tiny-requires
     (λ c. search needs)  -- same-length
+    (λ c. search read-ways)  -- returns
+    (λ c κs. search needs)  -- encode-small-requires
+    (λ c. search needs)  -- same-length-2
     (λ c. search read-ways)  -- returns-2
+    (λ c κs. search needs)  -- turns-for-requires
+    (λ c κs. search read-ways)  -- encode-large-requires
+    (λ c. search read-ways)  -- returns-3
+    (λ c. search needs)  -- same-length-3
+    (λ c. search read-ways)  -- returns-4
     )

@@ -2,26 +2,19 @@
 -- Assumes nothing.
 use Rattle.text_output.proofs.content.Statement.{statement}
 use Rattle.text_output.proofs.content.Tie as tie
+use Rattle.text_output.proofs.PlainRuns.{content-past, as-text, as-hex}
 use borrow.Author.Needs.{needs}
-use Rattle.text_output.proofs.PrintLeaves.{Filled, fill-start, fill-step, fill-end, fill-same}
-use lib.ListN.{length}
-use Prim.Native.Nat.{_-_}
-
-abbrev Inv-loop : tie.InvT-loop
-Inv-loop bytes text out₀ pos p₀ i₀ out p i = Filled text bytes out₀ pos i p out
-
-abbrev μ-loop : tie.MeasureT-loop
-μ-loop bytes text out₀ pos p₀ i₀ out p i = length bytes - i
 
 pub content-spec : {M : Type 1} → statement M
 content-spec =
-    tie.close (tie.spec Inv-loop μ-loop
-    (λ c. search fill-start)  -- loop-holds
-    (λ c. search needs)  -- shared-slice-read-content-byte
-    (λ c κs. search needs)  -- content-byte-requires
-    (λ c. search needs)  -- add-i
-    (λ c. search needs)  -- loop-less
-    (λ c. search fill-step)  -- loop-again
-    (λ c. search fill-same)  -- same-length
-    (λ c. search fill-end)  -- returns
+    tie.close (tie.spec
+    (λ c κs. search needs)  -- content-size-requires
+    (λ c κs. search needs)  -- sum-requires
+    (λ c. search content-past)  -- returns
+    (λ c κs. search needs)  -- text-content-requires
+    (λ c. search needs)  -- same-length
+    (λ c. search as-text)  -- returns-2
+    (λ c κs. search needs)  -- hex-content-requires
+    (λ c. search needs)  -- same-length-2
+    (λ c. search as-hex)  -- returns-3
     )

@@ -3,7 +3,7 @@
 use Rattle.utf8.proofs.ascii_blocks.Statement.{statement}
 use Rattle.utf8.proofs.ascii_blocks.Tie as tie
 use Rattle.utf8.specs.AsciiRuns.{Ascii}
-use Rattle.utf8.proofs.Runs.{ascii-start, ascii-block}
+use Rattle.utf8.proofs.Runs.{ascii-block}
 use Prim.Native.Nat.{_-_}
 use lib.ListN.{length}
 use borrow.Author.Needs.{needs}
@@ -17,9 +17,10 @@ abbrev μ-loop : tie.MeasureT-loop
 pub ascii-blocks-spec : {M : Type 1} → statement M
 ascii-blocks-spec =
     tie.close (tie.spec Inv-loop μ-loop
-    (λ c. search ascii-start)  -- loop-holds
+    (λ c κs. search needs)  -- wide-blocks-requires
+    (λ c. search needs)  -- loop-holds
     (λ c. search needs)  -- sub
-    (λ c κs. search needs)  -- ascii-block-requires
+    (λ c κs. search needs)  -- is-ascii-block-requires
     (λ c. search needs)  -- returns
     (λ c. search needs)  -- add-end
     (λ c. search needs)  -- loop-less

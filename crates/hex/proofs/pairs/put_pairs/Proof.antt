@@ -2,13 +2,13 @@
 -- Assumes nothing.
 use Rattle.hex.proofs.pairs.put_pairs.Statement.{statement}
 use Rattle.hex.proofs.pairs.put_pairs.Tie as tie
-use Rattle.hex.proofs.PairsCode.{eights-digits, rest-digits, pairs-put}
+use Rattle.hex.proofs.PairsCode.{blocks-digits, rest-digits, pairs-put}
 use borrow.Author.Needs.{needs}
 
 pub put-pairs-spec : {M : Type 1} → statement M
 put-pairs-spec =
     tie.close (tie.spec
-    (λ c κs. search eights-digits)  -- put-eights-requires
+    (λ c κs. search blocks-digits)  -- put-blocks-requires
     (λ c. search needs)  -- mul-put-singly
     (λ c. search needs)  -- add-put-singly
     (λ c κs. search rest-digits)  -- put-singly-requires

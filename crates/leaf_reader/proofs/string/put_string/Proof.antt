@@ -1,16 +1,21 @@
 -- `leaf_reader::string::put_string` meets its contract.
 -- Assumes nothing.
 use borrow.Author.Needs.{needs}
-use Rattle.leaf_reader.proofs.StringCode.{text-made}
+use Rattle.leaf_reader.proofs.StringCode.{short-part, text-made}
 use Rattle.leaf_reader.proofs.string.put_string.Statement.{statement}
 use Rattle.leaf_reader.proofs.string.put_string.Tie as tie
 
 pub put-string-spec : {M : Type 1} → statement M
 put-string-spec =
     tie.close (tie.spec
-    (λ c κs. search needs)  -- put-head-requires
-    (λ c κs. search needs)  -- copy-behind-requires
+    (λ c κs. search needs)  -- is-short-requires
+    (λ c κs. (search short-part, search needs))  -- put-short-requires
     (λ c. search needs)  -- add-result
     (λ c. search needs)  -- same-length
-    (λ c. search text-made)  -- returns
+    (λ c. search needs)  -- returns
+    (λ c κs. search needs)  -- put-head-requires
+    (λ c κs. search needs)  -- copy-behind-requires
+    (λ c. search needs)  -- add-result-2
+    (λ c. search needs)  -- same-length-2
+    (λ c. search text-made)  -- returns-2
     )

@@ -1,9 +1,9 @@
 -- `leaf_reader::word::simple_word` meets its contract.
 -- Assumes nothing.
 use borrow.Author.Needs.{needs}
-use Rattle.leaf_reader.proofs.WordCode.{word-ways}
 use Rattle.leaf_reader.proofs.word.simple_word.Statement.{statement}
 use Rattle.leaf_reader.proofs.word.simple_word.Tie as tie
+use Rattle.leaf_reader.proofs.WordCode.{word-ways}
 
 pub simple-word-spec : {M : Type 1} → statement M
 simple-word-spec =
@@ -16,12 +16,12 @@ simple-word-spec =
     (λ c. search word-ways)  -- returns-2
     (λ c. search needs)  -- add-t8
     (λ c. search word-ways)  -- returns-3
-    (λ c κs. search needs)  -- no-word-requires-2
-    (λ c. search word-ways)  -- returns-4
     (λ c. search needs)  -- add-next-is
     (λ c κs. search needs)  -- next-is-requires
-    (λ c. search needs)  -- add-t10
+    (λ c. search needs)  -- add-t11
+    (λ c. search word-ways)  -- returns-4
+    (λ c κs. search needs)  -- no-word-requires-2
     (λ c. search word-ways)  -- returns-5
-    (λ c κs. search needs)  -- no-word-requires-3
-    (λ c. search word-ways)  -- returns-6
+    (λ c κs. search needs)  -- undefined-requires
+    (λ c. search needs)  -- returns-6
     )

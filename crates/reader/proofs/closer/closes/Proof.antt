@@ -1,29 +1,14 @@
--- `reader::closer::closes` meets its contract.
--- Assumes nothing.
 use borrow.Author.Needs.{needs}
-use Rattle.reader.proofs.Closers.{closes-ways}
+use Rattle.reader.proofs.Closers.{closes-open}
 use Rattle.reader.proofs.closer.closes.Statement.{statement}
 use Rattle.reader.proofs.closer.closes.Tie as tie
 
 pub closes-spec : {M : Type 1} → statement M
 closes-spec =
     tie.close (tie.spec
-    (λ c. search needs)  -- enum-told
-    (λ c κs. search needs)  -- sign-requires
-    (λ c. search needs)  -- enum-told-2
-    (λ c κs. search needs)  -- sign-requires-2
-    (λ c. search needs)  -- enum-told-3
-    (λ c κs. search needs)  -- sign-requires-3
-    (λ c. search needs)  -- enum-told-4
-    (λ c κs. search needs)  -- angles-requires
-    (λ c. search needs)  -- enum-told-5
-    (λ c κs. search needs)  -- end-requires
-    (λ c. search needs)  -- enum-told-6
-    (λ c κs. search needs)  -- end-requires-2
-    (λ c. search closes-ways)  -- returns(-\d)?
-    (λ c. search closes-ways)  -- returns(-\d)?
-    (λ c. search closes-ways)  -- returns(-\d)?
-    (λ c. search closes-ways)  -- returns(-\d)?
-    (λ c. search closes-ways)  -- returns(-\d)?
-    (λ c. search closes-ways)  -- returns(-\d)?
+    (λ c κs. search needs)  -- is-open-requires
+    (λ c κs. search needs)  -- none-requires
+    (λ c. search closes-open)  -- returns
+    (λ c κs. search needs)  -- by-closer-requires
+    (λ c. search needs)  -- returns-2
     )

@@ -1,9 +1,9 @@
 -- `reader::opening::opening_at` meets its contract.
 -- Assumes nothing.
 use borrow.Author.Needs.{needs}
-use Rattle.reader.proofs.Openers.{tag-first, tag-here}
 use Rattle.reader.proofs.opening.opening_at.Statement.{statement}
 use Rattle.reader.proofs.opening.opening_at.Tie as tie
+use Rattle.reader.proofs.Openers.{tag-first, tag-here}
 
 pub opening-at-spec : {M : Type 1} → statement M
 opening-at-spec =
@@ -16,7 +16,10 @@ opening-at-spec =
     (λ c κs. search needs)  -- by-byte-requires
     (λ c. search needs)  -- enum-told-3
     (λ c κs. search needs)  -- by-byte-requires-2
+    (λ c. search needs)  -- enum-told-4
+    (λ c κs. search needs)  -- by-byte-requires-3
     (λ c. search tag-here)  -- returns
     (λ c. search needs)  -- returns-2
     (λ c. search needs)  -- returns-3
+    (λ c. search needs)  -- returns-4
     )

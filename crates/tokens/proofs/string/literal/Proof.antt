@@ -11,6 +11,6 @@ literal-spec =
     (λ c κs. search needs)  -- choose-requires
     (λ c κs. search needs)  -- refuse-requires
     (λ c. search lit-misfit)  -- returns
-    (λ c κs. search needs)  -- code-of-requires
+    (λ c κs. search needs)  -- kind-of-requires
     (λ c. search lit-made)  -- returns-2
     )

@@ -8,7 +8,7 @@ use Rattle.tokens.proofs.StringCode.{quoted-tokens}
 pub quoted-token-spec : {M : Type 1} → statement M
 quoted-token-spec =
     tie.close (tie.spec
-    (λ c κs. search needs)  -- code-of-requires
+    (λ c κs. search needs)  -- kind-of-requires
     (λ c. search quoted-tokens)  -- returns
     (λ c κs. search needs)  -- refuse-requires
     (λ c. search quoted-tokens)  -- returns-2

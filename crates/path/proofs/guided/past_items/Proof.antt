@@ -1,0 +1,23 @@
+-- `path::guided::past_items` meets its contract.
+-- Assumes nothing.
+use borrow.Author.Needs.{needs}
+use Rattle.path.proofs.Guiding.{pass-ways}
+use Rattle.path.proofs.guided.past_items.Statement.{statement}
+use Rattle.path.proofs.guided.past_items.Tie as tie
+
+pub past-items-spec : {M : Type 1} → statement M
+past-items-spec =
+    tie.close (tie.spec
+    (λ c κs. search needs)  -- is-over-requires
+    (λ c κs. search needs)  -- past-requires
+    (λ c. search (pass-ways, c .before .before .before .shared-slice-known .given))  -- returns
+    (λ c. search needs)  -- sub-elements
+    (λ c. search needs)  -- part-elements-start
+    (λ c. search needs)  -- part-elements-end
+    (λ c κs. search needs)  -- elements-requires
+    (λ c κs. search needs)  -- after-requires
+    (λ c. search needs)  -- enum-known-part
+    (λ c. search needs)  -- enum-known-part-2
+    (λ c. search (pass-ways, c .before .before .before .before .before .before .before .before .shared-slice-known .given))  -- returns-2
+    (λ c. search (pass-ways, c .before .before .before .before .before .before .before .before .shared-slice-known .given))  -- returns-3
+    )
