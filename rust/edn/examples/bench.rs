@@ -2,7 +2,7 @@
 //!
 //! Every row is a ratio of least times, the two taken in turn: the library's over the opponent's, or, for growth, the library's time for a
 //! byte near 60,000 bytes over that near 1,000. A shape has several texts, and all of them are timed together. Words behind `--` choose rows:
-//! `-- read flat` takes those with both in them.
+//! `-- read flat` takes those with both in them. Without them, it fails if a row is over its bound.
 #[path = "../tests/opponent/mod.rs"]
 mod opponent;
 #[path = "../tests/stored/mod.rs"]
@@ -10,6 +10,7 @@ mod stored;
 
 use opponent::Opponent;
 use std::hint::black_box;
+use std::process::ExitCode;
 use std::time::{Duration, Instant};
 use stored::{Shape, Sheet};
 
@@ -56,6 +57,11 @@ impl Table {
     fn wants(&self, operation: &str, sheet: &str) -> bool {
         let row = format!("{operation} {sheet}");
         self.wanted.iter().all(|w| row.contains(w.as_str()))
+    }
+
+    /// Some rows alone are a look at them; the whole table is a check.
+    fn verdict(&self) -> ExitCode {
+        ExitCode::from((self.wanted.is_empty() && self.over > 0) as u8)
     }
 
     /// A row, from the sums of so many calls of each.
@@ -238,7 +244,7 @@ fn read_again(sheet: &Sheet, out: &mut [u8]) {
     assert_eq!(number, sheet.number, "{}", sheet.name);
 }
 
-fn main() {
+fn main() -> ExitCode {
     if cfg!(debug_assertions) {
         eprintln!("a debug build says nothing: cargo run --release --example bench");
     }
@@ -250,4 +256,5 @@ fn main() {
     working_on_bytes(&mut table, &mut o);
     growth(&table);
     println!("\n{} of {} rows are over their bound", table.over, table.rows);
+    table.verdict()
 }

@@ -5,36 +5,24 @@ use super::quoted::finish;
 use super::table::{byte, is, BLANK};
 use super::Cursor;
 
-/// Set in the table for what is no letter; stays clear of the bits of four letters.
-const NONE: u32 = 1 << 31;
-
-const fn letter(b: u8) -> u32 {
-    match b {
-        b'A'..=b'Z' => (b - b'A') as u32,
-        b'a'..=b'z' => (b - b'a') as u32 + 26,
-        b'0'..=b'9' => (b - b'0') as u32 + 52,
-        b'+' | b'-' => 62,
-        b'/' | b'_' => 63,
-        _ => NONE,
-    }
-}
-
-/// The six bits of each letter, for each of the four places that it can have.
-static LETTERS: [[u32; 256]; 4] = {
-    let mut table = [[NONE; 256]; 4];
+/// The six bits of each letter, in either alphabet, and more for what is no letter.
+static LETTERS: [u8; 256] = {
+    let mut table = [NONE; 256];
     let mut b = 0;
     while b < 256 {
-        let bits = letter(b as u8);
-        if bits != NONE {
-            table[0][b] = bits << 18;
-            table[1][b] = bits << 12;
-            table[2][b] = bits << 6;
-            table[3][b] = bits;
-        }
+        table[b] = match b as u8 {
+            l @ b'A'..=b'Z' => l - b'A',
+            l @ b'a'..=b'z' => l - b'a' + 26,
+            l @ b'0'..=b'9' => l - b'0' + 52,
+            b'+' | b'-' => 62,
+            b'/' | b'_' => 63,
+            _ => NONE,
+        };
         b += 1;
     }
     table
 };
+const NONE: u8 = 0xff;
 
 /// The literal whose `b64` stands at the cursor.
 #[inline(never)]
@@ -54,9 +42,9 @@ fn letters(text: &[u8], out: &mut [u8], mut c: Cursor) -> Option<Cursor> {
         let mut held = 0;
         while held < 4 {
             let b = byte(text, c.at);
-            let six = LETTERS[3][b as usize];
+            let six = LETTERS[b as usize];
             if six != NONE {
-                bits = bits << 6 | six;
+                bits = bits << 6 | six as u32;
                 held += 1;
             } else if !is(b, BLANK) {
                 return last(text, out, c, bits, held);
@@ -68,20 +56,20 @@ fn letters(text: &[u8], out: &mut [u8], mut c: Cursor) -> Option<Cursor> {
     }
 }
 
+/// Decodes the letters that stand here, four into three bytes.
 #[inline(always)]
-fn fours(text: &[u8], out: &mut [u8], mut c: Cursor) -> Cursor {
-    let mut rest = &text[c.at..];
-    while let Some((four, more)) = rest.split_first_chunk::<4>() {
-        let [a, b, d, e] = *four;
-        let bits = LETTERS[0][a as usize] | LETTERS[1][b as usize] | LETTERS[2][d as usize] | LETTERS[3][e as usize];
-        if bits >= NONE {
+fn fours(text: &[u8], out: &mut [u8], c: Cursor) -> Cursor {
+    let mut count = 0;
+    let (four, three) = (text[c.at..].as_chunks::<4>().0, out[c.to..].as_chunks_mut::<3>().0);
+    for (four, three) in four.iter().zip(three) {
+        let [a, b, d, e] = four.map(|letter| LETTERS[letter as usize]);
+        if a | b | d | e == NONE {
             break;
         }
-        out[c.to..c.to + 4].copy_from_slice(&(bits << 8).to_be_bytes());
-        c = Cursor { at: c.at + 4, to: c.to + 3 };
-        rest = more;
+        *three = [a << 2 | b >> 4, b << 4 | d >> 2, d << 6 | e];
+        count += 1;
     }
-    c
+    Cursor { at: c.at + 4 * count, to: c.to + 3 * count }
 }
 
 /// The letters that are left over, the padding and the quote.

@@ -1,50 +1,31 @@
 //! Numbers written in decimal.
 
-const EIGHT_DIGITS: u64 = 100_000_000;
-const ZEROS: u64 = 0x3030_3030_3030_3030;
-
-/// Writes a number; where it ends.
-#[inline(always)]
-pub fn decimal(out: &mut [u8], to: usize, n: u64) -> usize {
-    if n < EIGHT_DIGITS {
-        return leading(out, to, n);
+/// The two digits of each number under a hundred.
+static PAIRS: [[u8; 2]; 100] = {
+    let mut table = [[0; 2]; 100];
+    let mut n = 0;
+    while n < 100 {
+        table[n] = [b'0' + n as u8 / 10, b'0' + n as u8 % 10];
+        n += 1;
     }
-    long(out, to, n)
-}
+    table
+};
 
-#[inline(never)]
-fn long(out: &mut [u8], to: usize, n: u64) -> usize {
-    let (high, low) = (n / EIGHT_DIGITS, n % EIGHT_DIGITS);
-    let to = if high < EIGHT_DIGITS {
-        leading(out, to, high)
+/// Writes a number; where it ends. Two digits are taken from its end at a time.
+#[inline(always)]
+pub fn decimal(out: &mut [u8], to: usize, mut n: u64) -> usize {
+    let count = 1 + n.checked_ilog10().unwrap_or(0) as usize;
+    let digits = &mut out[to..to + count];
+    let mut left = count;
+    while n >= 100 {
+        digits[left - 2..left].copy_from_slice(&PAIRS[n as usize % 100]);
+        n /= 100;
+        left -= 2;
+    }
+    if n >= 10 {
+        digits[..2].copy_from_slice(&PAIRS[n as usize]);
     } else {
-        let to = leading(out, to, high / EIGHT_DIGITS);
-        eight(out, to, digits(high % EIGHT_DIGITS))
-    };
-    eight(out, to, digits(low))
-}
-
-/// Writes a number of at most eight digits. The length comes from the digits, not from a loop.
-#[inline(always)]
-fn leading(out: &mut [u8], to: usize, n: u64) -> usize {
-    let digits = digits(n);
-    // the last digit is written even if it is a zero
-    let zeros = (digits | 1 << 56).trailing_zeros() as usize / 8;
-    eight(out, to, digits >> (8 * zeros)) - zeros
-}
-
-#[inline(always)]
-fn eight(out: &mut [u8], to: usize, digits: u64) -> usize {
-    out[to..to + 8].copy_from_slice(&(digits | ZEROS).to_le_bytes());
-    to + 8
-}
-
-/// Eight digits, the first in the lowest byte: fours are parted, then pairs, then single digits, all at once.
-#[inline(always)]
-fn digits(n: u64) -> u64 {
-    let fours = (n / 10_000) | ((n % 10_000) << 32);
-    let hundreds = (fours * 10_486) >> 20 & 0x0000_007f_0000_007f;
-    let pairs = hundreds | (fours - 100 * hundreds) << 16;
-    let tens = (pairs * 103) >> 10 & 0x000f_000f_000f_000f;
-    tens | (pairs - 10 * tens) << 8
+        digits[0] = b'0' + n as u8;
+    }
+    to + count
 }

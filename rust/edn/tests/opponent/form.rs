@@ -1,14 +1,14 @@
 //! Items in items: one loop over the tokens, with what is open around them on a stack.
 use super::base64::base64;
 use super::chunks::chunks;
-use super::head::{self, indicator, Indicator, NEGATIVE, TAG, UNSIGNED};
+use super::head::{self, indicator, Indicator, TAG};
 use super::hexadecimal::hexadecimal;
 use super::level::{Form, Level, Levels};
-use super::number::{number, short_decimal};
+use super::number::number;
 use super::quoted::quoted;
 use super::refusal::{refuse, Answer, INDICATOR, NO_TOKEN, TOO_DEEP};
 use super::scan::skip;
-use super::table::{byte, is, GAP};
+use super::table::byte;
 use super::unexpected::{unexpected, wrong_gap};
 use super::word::word;
 use super::Cursor;
@@ -41,132 +41,95 @@ struct Reading<'a> {
     top: usize,
 }
 
-/// What stood where an item is wanted.
-enum Begun {
-    /// An item without parts, which is passed.
-    Leaf,
-    /// The opening token of an item with parts.
-    Open(Level),
-    /// A blank or a comment.
-    Gap,
-}
-
 impl Reading<'_> {
     /// The items of the level at the top, and all that stand in them.
     #[inline(always)]
     fn items(mut self) -> Answer<usize> {
         loop {
-            match self.begin()? {
-                Begun::Leaf => {}
-                Begun::Gap => continue,
-                Begun::Open(level) => {
-                    if self.enter(level)? {
-                        continue;
-                    }
-                }
-            }
-            if !self.follow()? {
+            if self.begin()? && !self.follow()? {
                 return Ok(self.c.to);
             }
         }
     }
 
-    /// The token that is to begin an item. The byte itself tells them apart in one jump.
+    /// The token that is to begin an item; whether the item ends with it. If not, the first item inside is to come.
     #[inline(always)]
-    fn begin(&mut self) -> Answer<Begun> {
+    fn begin(&mut self) -> Answer<bool> {
         let at = self.c.at;
         let b = byte(self.text, at);
         let leaf = match b {
-            b'0'..=b'9' => return self.unsigned(),
+            b'0'..=b'9' => return self.number(false),
+            b'-' => return self.number(true),
             b'"' | b'\'' => quoted(self.text, self.out, self.c),
-            b'-' => return self.negative(),
             b'h' if byte(self.text, at + 1) == b'\'' => hexadecimal(self.text, self.out, self.c),
             b'b' if self.text[at..].starts_with(b"b64'") => base64(self.text, self.out, self.c),
             b'a'..=b'z' | b'A'..=b'Z' => word(self.text, self.out, self.c),
             b'[' => return self.bracket(Level::array),
             b'{' => return self.bracket(Level::map),
-            b'\t' | b'\n' | b'\r' | b' ' | b'/' | b'#' => {
-                self.c.at = passed(self.text, at)?;
-                return Ok(Begun::Gap);
-            }
-            b'<' if byte(self.text, at + 1) == b'<' => {
-                let level = Level::embedded(at, self.c.to);
-                self.c = Cursor { at: at + 2, to: self.c.to + 1 };
-                return Ok(Begun::Open(level));
-            }
-            b'(' if byte(self.text, at + 1) == b'_' => {
-                self.c = chunks(self.text, self.out, self.c, self.depth)?;
-                return Ok(Begun::Leaf);
-            }
+            b'<' => return self.embedded(),
+            b'(' => return self.chunks(),
             _ => return self.unexpected(),
         };
         self.c = leaf.or_else(|number| refuse(number, at))?;
-        Ok(Begun::Leaf)
+        Ok(true)
     }
 
+    /// An integer, or the opening of a tag.
     #[inline(always)]
-    fn unsigned(&mut self) -> Answer<Begun> {
-        let at = self.c.at;
-        let Some((value, end, opens_tag)) = short_decimal(self.text, at) else { return self.number() };
-        if opens_tag {
-            self.c = Cursor { at: end + 1, to: head::put_shortest(self.out, self.c.to, TAG, value) };
-            return Ok(Begun::Open(Level::tag(value, at, self.c.to)));
-        }
-        self.c = Cursor { at: end, to: head::put_shortest(self.out, self.c.to, UNSIGNED, value) };
-        Ok(Begun::Leaf)
-    }
-
-    #[inline(always)]
-    fn negative(&mut self) -> Answer<Begun> {
-        match short_decimal(self.text, self.c.at + 1) {
-            Some((value, at, false)) if value > 0 => {
-                self.c = Cursor { at, to: head::put_shortest(self.out, self.c.to, NEGATIVE, value - 1) };
-                Ok(Begun::Leaf)
-            }
-            _ => self.number(),
-        }
-    }
-
-    /// A number of any shape.
-    #[inline(always)]
-    fn number(&mut self) -> Answer<Begun> {
+    fn number(&mut self, negative: bool) -> Answer<bool> {
         let opening = self.c.at;
-        let n = number(self.text, opening).or_else(|number| refuse(number, opening))?;
-        let major = match n.opens_tag {
-            true => TAG,
-            false if n.negative => NEGATIVE,
-            false => UNSIGNED,
-        };
-        self.c = Cursor { at: n.end, to: head::put(self.out, self.c.to, major, n.size, n.argument) };
-        Ok(if n.opens_tag { Begun::Open(Level::tag(n.argument, opening, self.c.to)) } else { Begun::Leaf })
+        let n = number(self.text, opening, negative).or_else(|number| refuse(number, opening))?;
+        self.c = Cursor { at: n.end, to: head::put(self.out, self.c.to, n.major, n.size, n.argument) };
+        if n.major == TAG {
+            return self.enter(Level::tag(n.argument, opening, self.c.to));
+        }
+        Ok(true)
     }
 
     /// The opening of an array or a map. One byte is kept for its head.
     #[inline(always)]
-    fn bracket(&mut self, level: impl Fn(Indicator, usize, usize) -> Level) -> Answer<Begun> {
+    fn bracket(&mut self, level: impl Fn(Indicator, usize, usize) -> Level) -> Answer<bool> {
         let c = self.c;
         let (indicator, at) = indicator(self.text, c.at + 1);
         if indicator == Indicator::Unknown {
             return refuse(INDICATOR, c.at);
         }
         self.c = Cursor { at, to: c.to + 1 };
-        Ok(Begun::Open(level(indicator, c.at, c.to)))
+        self.enter(level(indicator, c.at, c.to))
     }
 
-    /// Enters what was opened; whether an item is to stand there. If not, it is closed again.
+    /// The opening of a `<<`. One byte is kept for its head.
+    #[inline(always)]
+    fn embedded(&mut self) -> Answer<bool> {
+        let c = self.c;
+        if byte(self.text, c.at + 1) != b'<' {
+            return self.unexpected();
+        }
+        self.c = Cursor { at: c.at + 2, to: c.to + 1 };
+        self.enter(Level::embedded(c.at, c.to))
+    }
+
+    #[inline(always)]
+    fn chunks(&mut self) -> Answer<bool> {
+        if byte(self.text, self.c.at + 1) != b'_' {
+            return self.unexpected();
+        }
+        self.c = chunks(self.text, self.out, self.c, self.depth)?;
+        Ok(true)
+    }
+
+    /// Enters what was opened; whether it is empty and closed again.
     #[inline(always)]
     fn enter(&mut self, level: Level) -> Answer<bool> {
         self.depth += 1;
         let Some(here) = self.levels.get_mut(self.depth) else { return refuse(TOO_DEEP, level.opening as usize) };
         *here = level;
-        if is(byte(self.text, self.c.at), GAP) {
-            self.c.at = passed(self.text, self.c.at)?;
-        }
+        self.c.at = passed(self.text, self.c.at)?;
         if byte(self.text, self.c.at) != level.closer || level.form == Form::Tag {
-            return Ok(true);
+            return Ok(false);
         }
         self.close()?;
-        Ok(false)
+        Ok(true)
     }
 
     /// Behind an item: passes what stands between it and the next one, closing tokens too; whether there is one.
@@ -175,27 +138,19 @@ impl Reading<'_> {
         loop {
             let here = &mut self.levels[self.depth];
             here.count += 1;
-            if two(self.text, self.c.at) == Some(here.separator) {
-                self.c.at += 2;
-                here.separator ^= here.turn;
-                return Ok(true);
+            if here.form == Form::Alone {
+                wrong_gap(self.text, self.c.at)?;
             }
-            if byte(self.text, self.c.at) != here.closer {
-                if here.form == Form::Alone {
-                    wrong_gap(self.text, self.c.at)?;
-                }
-                self.c.at = passed(self.text, self.c.at)?;
-                if byte(self.text, self.c.at) == here.separator as u8 {
-                    self.c.at += 1;
-                    here.separator ^= here.turn;
-                    return Ok(true);
-                }
+            self.c.at = passed(self.text, self.c.at)?;
+            let next = byte(self.text, self.c.at);
+            if next == here.separator() {
+                self.c.at = passed(self.text, self.c.at + 1)?;
+                return Ok(true);
             }
             if self.c.at == self.text.len() && self.depth == self.top {
                 return Ok(false);
             }
-            let odd = here.count & 1 == 1 && here.form == Form::Map;
-            if byte(self.text, self.c.at) != here.closer || odd {
+            if next != here.closer || here.half() {
                 return self.unexpected();
             }
             self.close()?;
@@ -231,9 +186,4 @@ impl Reading<'_> {
 #[inline(always)]
 pub fn passed(text: &[u8], at: usize) -> Answer<usize> {
     skip(text, at).or_else(|place| refuse(NO_TOKEN, place))
-}
-
-#[inline(always)]
-fn two(text: &[u8], at: usize) -> Option<u16> {
-    Some(u16::from_le_bytes(text.get(at..at + 2)?.try_into().ok()?))
 }

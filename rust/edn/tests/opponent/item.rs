@@ -1,5 +1,5 @@
 //! Heads as they stand in bytes, and what is wrong with those that are none.
-use super::head::{following, BREAK, BYTES, MAP, ONE_BYTE, OPEN, TEXT};
+use super::head::{BREAK, BYTES, EIGHT_BYTES, FOUR_BYTES, MAP, ONE_BYTE, OPEN, TEXT, TWO_BYTES};
 use super::refusal::{Answer, Refusal, FLOAT, NOT_UTF8, NOT_WELL_FORMED, TOO_DEEP, TOO_SHORT};
 use super::LEVELS;
 use std::str::from_utf8;
@@ -7,24 +7,28 @@ use std::str::from_utf8;
 /// The argument of the head at a place, and where the head ends; nothing where the bytes end before.
 #[inline(always)]
 pub fn argument(bytes: &[u8], at: usize) -> Option<(u64, usize)> {
-    let information = bytes[at] & 31;
-    if information < ONE_BYTE {
-        return Some((information as u64, at + 1));
-    }
-    let count = following(information);
-    let end = at + 1 + count;
-    match bytes.get(at + 1..at + 9) {
-        Some(eight) => Some((u64::from_be_bytes(eight.try_into().ok()?) >> (64 - 8 * count), end)),
-        None => Some((bytes.get(at + 1..end)?.iter().fold(0, |n, &b| n << 8 | b as u64), end)),
+    let (&initial, rest) = bytes[at..].split_first()?;
+    match initial & 31 {
+        ONE_BYTE => Some((*rest.first()? as u64, at + 2)),
+        TWO_BYTES => Some((u16::from_be_bytes(*rest.first_chunk()?) as u64, at + 3)),
+        FOUR_BYTES => Some((u32::from_be_bytes(*rest.first_chunk()?) as u64, at + 5)),
+        EIGHT_BYTES => Some((u64::from_be_bytes(*rest.first_chunk()?), at + 9)),
+        information => Some((information as u64, at + 1)),
     }
 }
 
-/// The content of the string with a definite length at a place, if it is all there.
+/// The content of the string with a definite length at a place, if it is all there, and where it ends.
 #[inline(always)]
-pub fn content(bytes: &[u8], at: usize) -> Option<&[u8]> {
+pub fn content(bytes: &[u8], at: usize) -> Option<(&[u8], usize)> {
     let (length, from) = argument(bytes, at)?;
-    let rest = &bytes[from..];
-    (length <= rest.len() as u64).then(|| &rest[..length as usize])
+    let content = bytes[from..].get(..usize::try_from(length).ok()?)?;
+    Some((content, from + content.len()))
+}
+
+/// Whether a content is UTF-8. Most texts are short and ASCII, which is seen sooner.
+#[inline(always)]
+pub fn is_text(content: &[u8]) -> bool {
+    content.is_ascii() || from_utf8(content).is_ok()
 }
 
 /// The refusal of the head at a place, which is no right one. `chunk_of` is the major type that a chunk is to have.
@@ -66,25 +70,19 @@ pub fn chunks(bytes: &[u8], at: usize, mut each: impl FnMut(usize, &[u8])) -> An
     let major = bytes[at] >> 5;
     let mut at = at + 1;
     loop {
-        let b = bytes.get(at).copied();
-        if b == Some(BREAK) {
-            return Ok(at + 1);
-        }
-        let right = b.is_some_and(|b| b >> 5 == major && b & 31 < 28);
-        let chunk = if right { content(bytes, at) } else { None };
-        match chunk {
-            Some(chunk) if major == BYTES || from_utf8(chunk).is_ok() => {
+        let found = match bytes.get(at) {
+            Some(&BREAK) => return Ok(at + 1),
+            Some(&b) if b >> 5 == major && b & 31 <= EIGHT_BYTES => content(bytes, at),
+            _ => None,
+        };
+        match found {
+            Some((chunk, end)) if major == BYTES || is_text(chunk) => {
                 each(at, chunk);
-                at = chunk_end(bytes, at, chunk);
+                at = end;
             }
             _ => return Err(fault(bytes, at, Some(major))),
         }
     }
-}
-
-#[inline(always)]
-fn chunk_end(bytes: &[u8], at: usize, chunk: &[u8]) -> usize {
-    at + 1 + following(bytes[at] & 31) + chunk.len()
 }
 
 /// Whether one more level may be opened.

@@ -5,7 +5,6 @@ use super::typed::{self, UNTYPED};
 use super::LEVELS;
 
 #[derive(Clone, Copy, PartialEq, Eq)]
-#[repr(u8)]
 pub enum Form {
     Sheet,
     /// The text of one item and nothing else.
@@ -16,10 +15,8 @@ pub enum Form {
     Embedded,
 }
 
-/// `, ` and `: ` as they stand in a text, and a pair of bytes that no UTF-8 has.
-const COMMA: u16 = u16::from_le_bytes(*b", ");
-const COLON: u16 = u16::from_le_bytes(*b": ");
-const NEVER: u16 = 0xffff;
+/// Bytes that no UTF-8 has.
+const NEVER: [u8; 2] = [0xff; 2];
 
 /// What is open, the outermost first.
 pub type Levels = [Level; LEVELS + 1];
@@ -32,10 +29,8 @@ pub struct Level {
     pub closer: u8,
     /// Of a tag: the size that divides the length of its content.
     element: u8,
-    /// What is to stand between this item and the next, with a blank, as it mostly does.
-    pub separator: u16,
-    /// What turns the separator into the one after: `:` and `,` take turns in a map.
-    pub turn: u16,
+    /// What stands behind an even number of items, and behind an odd one.
+    separators: [u8; 2],
     /// The place of the opening token.
     pub opening: u32,
     /// The reserved byte of the head; in a tag, the first byte of the content.
@@ -50,13 +45,12 @@ impl Level {
         indicator: Indicator::Absent,
         closer: 0,
         element: UNTYPED,
-        separator: COMMA,
-        turn: 0,
+        separators: *b",,",
         opening: 0,
         head: 0,
         count: 0,
     };
-    pub const ALONE: Level = Level { form: Form::Alone, separator: NEVER, ..Level::SHEET };
+    pub const ALONE: Level = Level { form: Form::Alone, separators: NEVER, ..Level::SHEET };
 
     #[inline(always)]
     pub fn array(indicator: Indicator, opening: usize, head: usize) -> Level {
@@ -65,19 +59,30 @@ impl Level {
 
     #[inline(always)]
     pub fn map(indicator: Indicator, opening: usize, head: usize) -> Level {
-        let (separator, turn) = (COLON, COLON ^ COMMA);
-        Level { form: Form::Map, closer: b'}', separator, turn, ..Level::array(indicator, opening, head) }
+        Level { form: Form::Map, closer: b'}', separators: *b",:", ..Level::array(indicator, opening, head) }
     }
 
     #[inline(always)]
     pub fn tag(number: u64, opening: usize, content: usize) -> Level {
         let element = typed::element(number);
-        Level { form: Form::Tag, closer: b')', separator: NEVER, element, ..Level::array(Indicator::Absent, opening, content) }
+        Level { form: Form::Tag, closer: b')', element, separators: NEVER, ..Level::array(Indicator::Absent, opening, content) }
     }
 
     #[inline(always)]
     pub fn embedded(opening: usize, head: usize) -> Level {
         Level { form: Form::Embedded, closer: b'>', ..Level::array(Indicator::Absent, opening, head) }
+    }
+
+    /// What is to stand between the item that was finished last and the next one.
+    #[inline(always)]
+    pub fn separator(&self) -> u8 {
+        self.separators[self.count as usize % 2]
+    }
+
+    /// Whether a key is finished, and its value is not.
+    #[inline(always)]
+    pub fn half(&self) -> bool {
+        self.form == Form::Map && self.count % 2 == 1
     }
 
     /// Closes an array or a map: the end of its bytes.

@@ -1,48 +1,76 @@
 //! Integers and the openings of tags.
-use super::head::{indicator, Size};
+use super::head::{indicator, Size, NEGATIVE, TAG, UNSIGNED};
 use super::refusal::{FLOAT, INDICATOR, NO_TOKEN, TOO_LARGE};
-use super::scan::{first, word, HIGHS, WORD};
-use super::table::{byte, is, AFTER_DECIMAL, HEX};
+use super::table::{byte, HEX};
 
-const ZEROS: u64 = 0x3030_3030_3030_3030;
-/// Added to a byte, sets its high bit if it is over nine.
-const PAST_NINE: u64 = 0x7676_7676_7676_7676;
-const POWERS: [u64; WORD + 1] = [1, 10, 100, 1_000, 10_000, 100_000, 1_000_000, 10_000_000, 100_000_000];
+/// So many decimal digits are under 2^64, whichever they are.
+const SAFE: usize = 19;
 /// What any number over -2^64 .. 2^64 - 1 is taken for.
 const TOO_MUCH: u128 = 1 << 66;
 
-/// A decimal of at most seven digits with no leading zero and no indicator: its value, its end, and whether `(` makes a tag of it. Most
-/// numbers are such, and no loop is run for them.
-#[inline(always)]
-pub fn short_decimal(text: &[u8], at: usize) -> Option<(u64, usize, bool)> {
-    let digits = word(text, at)? ^ ZEROS;
-    let others = (digits.wrapping_add(PAST_NINE) | digits) & HIGHS;
-    let count = first(others);
-    let zero_first = digits & 0xff == 0 && count > 1;
-    if count == 0 || count == WORD || zero_first {
-        return None;
-    }
-    let next = text[at + count];
-    if is(next, AFTER_DECIMAL) && next != b'(' {
-        return None;
-    }
-    Some((eight_digits(digits << (64 - 8 * count)), at + count, next == b'('))
-}
-
-/// The value of eight digits, the first in the lowest byte: pairs are put together, then fours, then all.
-#[inline(always)]
-fn eight_digits(digits: u64) -> u64 {
-    let pairs = digits.wrapping_mul(1 + (10 << 8)) >> 8 & 0x00ff_00ff_00ff_00ff;
-    let fours = pairs.wrapping_mul(1 + (100 << 16)) >> 16 & 0x0000_ffff_0000_ffff;
-    fours.wrapping_mul(1 + (10_000 << 32)) >> 32
-}
-
 pub struct Number {
     pub end: usize,
-    pub negative: bool,
+    pub major: u8,
     pub argument: u64,
     pub size: Size,
-    pub opens_tag: bool,
+}
+
+/// An integer or the opening of a tag; or the number of its refusal.
+#[inline(always)]
+pub fn number(text: &[u8], start: usize, negative: bool) -> Result<Number, u8> {
+    let from = start + negative as usize;
+    let (value, end) = decimal(text, from);
+    // the rare ones: none at all, a zero with what may follow it, and those that may be over 64 bits
+    if end == from || text[from] == b'0' || end - from == SAFE {
+        return rare(text, from, end, value, negative);
+    }
+    let major = if negative { NEGATIVE } else { UNSIGNED };
+    let argument = value - negative as u64;
+    match byte(text, end) {
+        b'.' | b'e' | b'E' => Err(FLOAT),
+        b'_' => marked(text, end, major, argument, true),
+        b'(' if !negative => Ok(Number { end: end + 1, major: TAG, argument, size: Size::shortest(argument) }),
+        _ => Ok(Number { end, major, argument, size: Size::shortest(argument) }),
+    }
+}
+
+/// The value and the end of the decimal digits that stand here, as many as are safe.
+#[inline(always)]
+fn decimal(text: &[u8], from: usize) -> (u64, usize) {
+    let mut value = 0;
+    let mut end = from;
+    for b in text[from..].iter().take(SAFE) {
+        if !b.is_ascii_digit() {
+            break;
+        }
+        value = value * 10 + (b - b'0') as u64;
+        end += 1;
+    }
+    (value, end)
+}
+
+/// A number that begins with a zero, is very long or is none, its first decimal digits being passed.
+#[inline(never)]
+fn rare(text: &[u8], from: usize, mut end: usize, value: u64, negative: bool) -> Result<Number, u8> {
+    if end == from {
+        let infinity = negative && text[from..].starts_with(b"Infinity");
+        return Err(if infinity { FLOAT } else { NO_TOKEN });
+    }
+    let mut value = value as u128;
+    while let Some(b @ b'0'..=b'9') = text.get(end) {
+        value = (value * 10 + (b - b'0') as u128).min(TOO_MUCH);
+        end += 1;
+    }
+    if matches!(byte(text, end), b'.' | b'e' | b'E') {
+        return Err(FLOAT);
+    }
+    let digits = if text[from] == b'0' { zero(text, from, end)? } else { Digits { base: 10, end, value } };
+    if negative && digits.value == 0 {
+        return Err(NO_TOKEN);
+    }
+    let major = if negative { NEGATIVE } else { UNSIGNED };
+    let argument = u64::try_from(digits.value - negative as u128).map_err(|_| TOO_LARGE)?;
+    marked(text, digits.end, major, argument, digits.base == 10)
 }
 
 /// The digits of a number.
@@ -52,40 +80,9 @@ struct Digits {
     value: u128,
 }
 
-/// An integer or the opening of a tag, of any shape; or the number of its refusal.
-#[inline(never)]
-pub fn number(text: &[u8], start: usize) -> Result<Number, u8> {
-    let negative = text[start] == b'-';
-    let digits = digits(text, start + negative as usize)?;
-    if negative && digits.value == 0 {
-        return Err(NO_TOKEN);
-    }
-    let (indicator, end) = indicator(text, digits.end);
-    let argument = u64::try_from(digits.value - negative as u128).map_err(|_| TOO_LARGE)?;
-    let size = Size::marked(indicator, argument).ok_or(INDICATOR)?;
-    let opens_tag = !negative && digits.base == 10 && byte(text, end) == b'(';
-    Ok(Number { end: end + opens_tag as usize, negative, argument, size, opens_tag })
-}
-
-/// The digits from here on, or why there are none.
-#[inline(always)]
-fn digits(text: &[u8], from: usize) -> Result<Digits, u8> {
-    let (value, end) = decimal(text, from);
-    if end == from {
-        let infinity = text[from - 1] == b'-' && text[from..].starts_with(b"Infinity");
-        return Err(if infinity { FLOAT } else { NO_TOKEN });
-    }
-    let next = byte(text, end);
-    if matches!(next, b'.' | b'e' | b'E') {
-        return Err(FLOAT);
-    }
-    if text[from] != b'0' {
-        // nineteen nines are under 2^64
-        let value = if end - from > 19 { long_value(&text[from..end], 10) } else { value as u128 };
-        return Ok(Digits { base: 10, end, value });
-    }
-    // a zero stands alone, unless it and a letter begin a number in another base
-    let other = match next {
+/// A zero stands alone, unless it and a letter begin a number in another base.
+fn zero(text: &[u8], from: usize, end: usize) -> Result<Digits, u8> {
+    let other = match byte(text, end) {
         b'x' if end == from + 1 => based::<4>(text, from + 2)?,
         b'o' if end == from + 1 => based::<3>(text, from + 2)?,
         b'b' if end == from + 1 => based::<1>(text, from + 2)?,
@@ -94,39 +91,18 @@ fn digits(text: &[u8], from: usize) -> Result<Digits, u8> {
     Ok(other.unwrap_or(Digits { base: 10, end: from + 1, value: 0 }))
 }
 
-/// The end of a run of decimal digits, and its value modulo 2^64.
-#[inline(always)]
-fn decimal(text: &[u8], from: usize) -> (u64, usize) {
-    let mut value = 0u64;
-    let mut end = from;
-    while let Some(w) = word(text, end) {
-        let digits = w ^ ZEROS;
-        let count = first((digits.wrapping_add(PAST_NINE) | digits) & HIGHS);
-        if count < WORD {
-            let last = if count == 0 { 0 } else { eight_digits(digits << (64 - 8 * count)) };
-            return (value.wrapping_mul(POWERS[count]).wrapping_add(last), end + count);
-        }
-        value = value.wrapping_mul(POWERS[WORD]).wrapping_add(eight_digits(digits));
-        end += WORD;
-    }
-    while byte(text, end).is_ascii_digit() {
-        value = value.wrapping_mul(10).wrapping_add((text[end] - b'0') as u64);
-        end += 1;
-    }
-    (value, end)
-}
-
 /// The digits of a base that is a power of two, if there are any.
 #[inline(always)]
 fn based<const BITS: usize>(text: &[u8], from: usize) -> Result<Option<Digits>, u8> {
+    let base = 1 << BITS;
     let mut value = 0u64;
     let mut end = from;
     loop {
-        let digit = HEX[byte(text, end) as usize];
-        if digit >= 1 << BITS {
+        let digit = HEX[byte(text, end) as usize] as u64;
+        if digit >= base {
             break;
         }
-        value = value << BITS | digit as u64;
+        value = value << BITS | digit;
         end += 1;
     }
     if end == from {
@@ -135,13 +111,22 @@ fn based<const BITS: usize>(text: &[u8], from: usize) -> Result<Option<Digits>, 
     if BITS == 4 && matches!(byte(text, end), b'.' | b'p' | b'P') {
         return Err(FLOAT);
     }
-    let base = 1 << BITS;
     let value = if end - from > 64 / BITS { long_value(&text[from..end], base) } else { value as u128 };
     Ok(Some(Digits { base, end, value }))
 }
 
 /// The value of many digits, `TOO_MUCH` for all that are over the limits.
-#[cold]
 fn long_value(digits: &[u8], base: u64) -> u128 {
     digits.iter().fold(0, |n, &d| (n * base as u128 + HEX[d as usize] as u128).min(TOO_MUCH))
+}
+
+/// A number with its indicator, if there is one; only a decimal can open a tag.
+#[inline(never)]
+fn marked(text: &[u8], end: usize, major: u8, argument: u64, decimal: bool) -> Result<Number, u8> {
+    let (indicator, end) = indicator(text, end);
+    let size = Size::marked(indicator, argument).ok_or(INDICATOR)?;
+    if decimal && major == UNSIGNED && byte(text, end) == b'(' {
+        return Ok(Number { end: end + 1, major: TAG, argument, size });
+    }
+    Ok(Number { end, major, argument, size })
 }

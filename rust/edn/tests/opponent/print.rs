@@ -1,33 +1,26 @@
 //! Bytes to text: one walk that checks and writes.
 use super::decimal::decimal;
-use super::head::{BREAK, BYTES, ONE_BYTE, OPEN, TEXT};
-use super::item::{argument, chunks, content, fault, may_open};
+use super::head::{BREAK, BYTES, EIGHT_BYTES, FOUR_BYTES, ONE_BYTE, OPEN, TWO_BYTES};
+use super::item::{argument, chunks, content, fault, is_text, may_open};
 use super::refusal::{refuse, Answer, TYPED_ARRAY};
-use super::show::{hex, short_text, text};
+use super::show::{hex, text};
 use super::stage::Stage;
 use super::typed;
-use super::walk::is_ascii_text;
 use super::{LEVELS, MOST};
-use std::str::from_utf8;
-
-/// What is written between items, and what turns `, ` into `: ` in a map.
-const COMMA: u16 = u16::from_le_bytes(*b", ");
-const LINE: u16 = u16::from_le_bytes(*b",\n");
-const TURN: u16 = COMMA ^ u16::from_le_bytes(*b": ");
 
 /// What is open, with what is written in it.
 #[derive(Clone, Copy)]
 pub struct Page {
     stage: Stage,
-    /// Written before the next item, and how much of it: nothing before the first.
-    lead: u16,
-    lead_length: u8,
-    turn: u16,
+    /// Whether nothing is written in it yet.
+    fresh: bool,
+    /// Behind each item but the last; in a map, behind each value.
+    separator: &'static [u8; 2],
     closer: u8,
 }
 
 impl Page {
-    pub const TOP: Page = Page { stage: Stage::TOP, lead: LINE, lead_length: 0, turn: 0, closer: 0 };
+    pub const TOP: Page = Page { stage: Stage::TOP, fresh: true, separator: b",\n", closer: 0 };
 }
 
 pub type Pages = [Page; LEVELS + 1];
@@ -61,21 +54,32 @@ impl Printing<'_> {
                     self.at += 1;
                     break;
                 }
-                page.stage.left -= 1;
-                if self.to > MOST {
-                    self.over = true;
-                    self.to = 0;
-                }
-                self.out[self.to..self.to + 2].copy_from_slice(&page.lead.to_le_bytes());
-                self.to += page.lead_length as usize;
-                page.lead_length = 2;
-                page.lead ^= page.turn;
+                self.separate();
                 self.item(b)?;
             }
             self.close()?;
         }
     }
 
+    /// Writes what stands before an item, and counts it.
+    #[inline(always)]
+    fn separate(&mut self) {
+        if self.to > MOST {
+            self.over = true;
+            self.to = 0;
+        }
+        let page = &mut self.pages[self.depth];
+        let value = page.stage.map && page.stage.left % 2 == 1;
+        page.stage.left -= 1;
+        if page.fresh {
+            page.fresh = false;
+            return;
+        }
+        let separator = if value { b": " } else { page.separator };
+        self.say(separator);
+    }
+
+    #[inline(always)]
     fn ended(mut self) -> Answer<usize> {
         if self.depth > 0 {
             return self.fault();
@@ -86,6 +90,7 @@ impl Printing<'_> {
         Ok(if self.over { MOST + 1 } else { self.to })
     }
 
+    #[inline(always)]
     fn fault<T>(&self) -> Answer<T> {
         Err(fault(self.bytes, self.at, None))
     }
@@ -107,9 +112,7 @@ impl Printing<'_> {
         match b {
             0x00..=0x1b => self.integer(b, false),
             0x20..=0x3b => self.integer(b, true),
-            0x40..=0x57 => self.short_bytes(b),
-            0x60..=0x77 => self.short_text(b),
-            0x58..=0x5b | 0x78..=0x7b => self.string(b),
+            0x40..=0x5b | 0x60..=0x7b => self.string(b),
             0x80..=0x9b | 0x9f => self.counted(b, b'[', b']'),
             0xa0..=0xbb | 0xbf => self.counted(b, b'{', b'}'),
             0xc0..=0xdb => self.tag(),
@@ -138,63 +141,39 @@ impl Printing<'_> {
     /// The indicator of a head, where it is not the shortest.
     #[inline(always)]
     fn mark(&mut self, initial: u8, argument: u64) {
-        const LEAST: [u64; 4] = [24, 1 << 8, 1 << 16, 1 << 32];
-        let information = initial & 31;
-        if information == OPEN {
-            self.put(b'_');
-        } else if information >= ONE_BYTE && argument < LEAST[information as usize & 3] {
-            self.say(&[b'_', b'0' + information - ONE_BYTE]);
+        match initial & 31 {
+            OPEN => self.put(b'_'),
+            ONE_BYTE if argument < 24 => self.say(b"_0"),
+            TWO_BYTES if argument <= 0xff => self.say(b"_1"),
+            FOUR_BYTES if argument <= 0xffff => self.say(b"_2"),
+            EIGHT_BYTES if argument <= 0xffff_ffff => self.say(b"_3"),
+            _ => {}
         }
     }
 
     #[inline(always)]
-    fn short_bytes(&mut self, b: u8) -> Answer<()> {
-        let from = self.at + 1;
-        let end = from + (b as usize & 31);
-        if end > self.bytes.len() {
-            return self.fault();
-        }
-        self.to = hex(self.bytes, from, end, self.out, self.to);
-        self.at = end;
-        Ok(())
-    }
-
-    #[inline(always)]
-    fn short_text(&mut self, b: u8) -> Answer<()> {
-        let length = b as usize & 31;
-        let from = self.at + 1;
-        let room = &self.bytes[from..];
-        if !is_ascii_text(room, length) && room.get(..length).is_none_or(|t| from_utf8(t).is_err()) {
-            return self.fault();
-        }
-        self.to = short_text(room, length, self.out, self.to);
-        self.at = from + length;
-        Ok(())
-    }
-
-    #[inline(never)]
     fn string(&mut self, b: u8) -> Answer<()> {
-        let Some(content) = content(self.bytes, self.at) else { return self.fault() };
-        if b >> 5 == TEXT && from_utf8(content).is_err() {
-            return self.fault();
+        match content(self.bytes, self.at) {
+            Some((content, end)) if b >> 5 == BYTES || is_text(content) => {
+                self.show(b, content);
+                self.at = end;
+                Ok(())
+            }
+            _ => self.fault(),
         }
-        self.show(self.at, content);
-        self.at += 1 + (1 << (b & 3)) + content.len();
-        Ok(())
     }
 
     /// Writes a string, whose head and content are right.
     #[inline(always)]
-    fn show(&mut self, head: usize, content: &[u8]) {
-        let b = self.bytes[head];
+    fn show(&mut self, b: u8, content: &[u8]) {
         self.to = match b >> 5 {
-            BYTES => hex(content, 0, content.len(), self.out, self.to),
+            BYTES => hex(content, self.out, self.to),
             _ => text(content, self.out, self.to),
         };
         self.mark(b, content.len() as u64);
     }
 
-    #[inline(never)]
+    #[inline(always)]
     fn chunked(&mut self, b: u8) -> Answer<()> {
         let bytes = self.bytes;
         if bytes.get(self.at + 1) == Some(&BREAK) {
@@ -209,7 +188,7 @@ impl Printing<'_> {
                 self.say(b", ");
             }
             first = false;
-            self.show(head, chunk);
+            self.show(bytes[head], chunk);
         })?;
         self.put(b')');
         Ok(())
@@ -221,7 +200,6 @@ impl Printing<'_> {
         let found = if b & 31 == OPEN { Some((0, start + 1)) } else { argument(self.bytes, start) };
         let Some((argument, end)) = found.filter(|_| may_open(self.depth)) else { return self.fault() };
         let stage = Stage::counted(b, argument);
-        let turn = if stage.map { TURN } else { 0 };
         self.put(open);
         let bare = self.to;
         self.mark(b, argument);
@@ -229,7 +207,7 @@ impl Printing<'_> {
             self.put(b' ');
         }
         self.depth += 1;
-        self.pages[self.depth] = Page { stage, lead: COMMA, turn, closer, ..Page::TOP };
+        self.pages[self.depth] = Page { stage, fresh: true, separator: b", ", closer };
         self.at = end;
         Ok(())
     }
@@ -275,7 +253,7 @@ impl Printing<'_> {
         Ok(())
     }
 
-    #[inline(never)]
+    #[inline(always)]
     fn numbered(&mut self, b: u8) -> Answer<()> {
         let wide = b == 0xf8;
         let value = if wide { self.bytes.get(self.at + 1).copied().filter(|&v| v >= 0x20) } else { Some(b & 31) };

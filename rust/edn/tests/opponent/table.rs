@@ -4,18 +4,13 @@
 pub const BLANK: u8 = 1;
 /// A letter or a digit.
 pub const NAME: u8 = 2;
-/// Behind a decimal, makes more of it than a bare integer: a base, an indicator, a tag or a float.
-pub const AFTER_DECIMAL: u8 = 4;
-
-/// A blank, or what begins a comment.
-pub const GAP: u8 = 8;
 
 const fn flags(b: u8) -> u8 {
-    let blank = if matches!(b, b'\t' | b'\n' | b'\r' | b' ') { BLANK } else { 0 };
-    let name = if b.is_ascii_alphanumeric() { NAME } else { 0 };
-    let after = if matches!(b, b'_' | b'(' | b'.' | b'e' | b'E' | b'x' | b'o' | b'b') { AFTER_DECIMAL } else { 0 };
-    let gap = if blank != 0 || b == b'/' || b == b'#' { GAP } else { 0 };
-    blank | name | after | gap
+    match b {
+        b'\t' | b'\n' | b'\r' | b' ' => BLANK,
+        b'0'..=b'9' | b'a'..=b'z' | b'A'..=b'Z' => NAME,
+        _ => 0,
+    }
 }
 
 static FLAGS: [u8; 256] = {
@@ -52,9 +47,5 @@ pub static HEX: [u8; 256] = {
 /// The byte at a place, and 0, which is no part of any token, at the end.
 #[inline(always)]
 pub fn byte(text: &[u8], at: usize) -> u8 {
-    if at < text.len() {
-        text[at]
-    } else {
-        0
-    }
+    text.get(at).copied().unwrap_or(0)
 }

@@ -1,5 +1,6 @@
 //! Typed arrays: what tags 64 to 87 ask of their content.
-use super::head::{following, BREAK, BYTES, OPEN};
+use super::head::{BYTES, OPEN};
+use super::item::{chunks, content};
 
 /// The element size of tags that ask nothing, and of the one that is reserved.
 pub const UNTYPED: u8 = 0;
@@ -29,24 +30,12 @@ fn divides(element: u8, item: &[u8]) -> bool {
 /// The length of a byte string, chunks added; nothing for other items.
 fn byte_length(item: &[u8]) -> Option<usize> {
     if item[0] == BYTES << 5 | OPEN {
-        let mut at = 1;
         let mut sum = 0;
-        while item[at] != BREAK {
-            let (length, head) = definite(&item[at..]);
-            sum += length;
-            at += head + length;
-        }
+        chunks(item, 0, |_, chunk| sum += chunk.len()).ok()?;
         return Some(sum);
     }
-    (item[0] >> 5 == BYTES).then(|| definite(item).0)
-}
-
-/// The length of a string with a definite one, and that of its head.
-fn definite(item: &[u8]) -> (usize, usize) {
-    let information = item[0] & 31;
-    let bytes = following(information);
-    match bytes {
-        0 => (information as usize, 1),
-        _ => (item[1..1 + bytes].iter().fold(0, |n, &b| n << 8 | b as usize), 1 + bytes),
+    if item[0] >> 5 != BYTES {
+        return None;
     }
+    content(item, 0).map(|(content, _)| content.len())
 }

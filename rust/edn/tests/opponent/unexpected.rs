@@ -1,5 +1,5 @@
 //! The refusal of a token that the form does not allow: what the token earns by itself comes first.
-use super::head::{indicator, Indicator};
+use super::head::{indicator, Indicator, TAG};
 use super::number::number;
 use super::prefixed::prefixed;
 use super::quoted::quoted;
@@ -25,9 +25,9 @@ fn earned(text: &[u8], out: &mut [u8], c: Cursor, depth: usize) -> Option<u8> {
     match b {
         b'"' | b'\'' => quoted(text, out, c).err(),
         b'a'..=b'z' | b'A'..=b'Z' => lettered(text, out, c).err(),
-        b'-' | b'0'..=b'9' => match number(text, c.at) {
+        b'-' | b'0'..=b'9' => match number(text, c.at, b == b'-') {
             Err(number) => Some(number),
-            Ok(n) if n.opens_tag => too_deep,
+            Ok(n) if n.major == TAG => too_deep,
             Ok(_) => None,
         },
         b'[' | b'{' if indicator(text, c.at + 1).0 == Indicator::Unknown => Some(INDICATOR),

@@ -1,21 +1,22 @@
 //! Bytes walked over head by head, and checked.
-use super::head::{BREAK, OPEN, TEXT};
-use super::item::{argument, chunks, content, fault, may_open};
+use super::head::{BREAK, BYTES, OPEN};
+use super::item::{argument, chunks, content, fault, is_text, may_open};
 use super::refusal::{refuse, Answer, TYPED_ARRAY};
 use super::stage::{Stage, Stages};
 use super::typed;
-use std::str::from_utf8;
 
-/// The length of items of which the initial byte says all; 0 for the others.
-static WHOLE: [u8; 256] = {
+/// The length of integers, short byte strings and simple values, by their initial byte; 0 for all others.
+static LENGTHS: [u8; 256] = {
     let mut table = [0; 256];
     let mut b = 0;
     while b < 256 {
-        let information = b as u8 & 31;
-        table[b] = match (b >> 5, information) {
-            (0 | 1, ..=23) | (7, ..=23) => 1,
-            (0 | 1, 24..=27) => 1 + (1 << (information - 24)),
-            (2 | 3, ..=23) => 1 + information,
+        table[b] = match b as u8 {
+            0x00..=0x17 | 0x20..=0x37 | 0xe0..=0xf7 => 1,
+            0x18 | 0x38 => 2,
+            0x19 | 0x39 => 3,
+            0x1a | 0x3a => 5,
+            0x1b | 0x3b => 9,
+            b @ 0x40..=0x57 => 1 + b - 0x40,
             _ => 0,
         };
         b += 1;
@@ -59,18 +60,10 @@ impl<'a> Walk<'a> {
         loop {
             while left > 0 {
                 let Some(&b) = self.bytes.get(self.at) else { return self.ended() };
-                let whole = WHOLE[b as usize] as usize;
-                if whole == 0 {
-                    left = self.other(b, left)?;
-                    continue;
-                }
-                // texts and others alike: which of them it is cannot be foretold
-                let text = if b >> 5 == TEXT { whole - 1 } else { 0 };
-                if !is_ascii_text(&self.bytes[self.at + 1..], text) || whole > self.bytes.len() - self.at {
-                    self.seldom(b, whole)?;
-                }
-                self.at += whole;
-                left -= 1;
+                left = match LENGTHS[b as usize] {
+                    0 => self.other(b, left)?,
+                    length => self.whole(length as usize, left)?,
+                };
             }
             if self.stages[self.depth].pauses {
                 return Ok(Stop::Paused);
@@ -90,10 +83,21 @@ impl<'a> Walk<'a> {
         Err(fault(self.bytes, self.at, None))
     }
 
-    /// An item that takes more than its initial byte to pass; how many are left where it leads to.
+    /// Passes an item of which the initial byte says all; how many are left.
+    #[inline(always)]
+    fn whole(&mut self, length: usize, left: u32) -> Answer<u32> {
+        if length > self.bytes.len() - self.at {
+            return self.fault();
+        }
+        self.at += length;
+        Ok(left - 1)
+    }
+
+    /// Passes another item, or enters it; how many are left where this leads to.
     #[inline(always)]
     fn other(&mut self, b: u8, left: u32) -> Answer<u32> {
         match b {
+            0x60..=0x77 => self.short_text((b - 0x60) as usize)?,
             0x58..=0x5b | 0x78..=0x7b => self.string(b)?,
             0x80..=0x9b | 0x9f | 0xa0..=0xbb | 0xbf | 0xc0..=0xdb => return self.open(b, left - 1),
             0x5f | 0x7f => self.at = chunks(self.bytes, self.at, |_, _| {})?,
@@ -108,22 +112,21 @@ impl<'a> Walk<'a> {
         Ok(left - 1)
     }
 
-    /// An item near the end of the bytes, or a text that is not ASCII.
-    #[cold]
-    fn seldom(&self, b: u8, whole: usize) -> Answer<()> {
-        match self.bytes[self.at..].get(1..whole) {
-            Some(content) if b >> 5 != TEXT || from_utf8(content).is_ok() => Ok(()),
-            _ => self.fault(),
+    #[inline(always)]
+    fn short_text(&mut self, length: usize) -> Answer<()> {
+        match self.bytes[self.at + 1..].get(..length) {
+            Some(text) if is_text(text) => self.at += 1 + length,
+            _ => return self.fault(),
         }
+        Ok(())
     }
 
     #[inline(always)]
     fn string(&mut self, b: u8) -> Answer<()> {
-        let Some(content) = content(self.bytes, self.at) else { return self.fault() };
-        if b >> 5 == TEXT && from_utf8(content).is_err() {
-            return self.fault();
+        match content(self.bytes, self.at) {
+            Some((content, end)) if b >> 5 == BYTES || is_text(content) => self.at = end,
+            _ => return self.fault(),
         }
-        self.at += 1 + (1 << (b & 3)) + content.len();
         Ok(())
     }
 
@@ -151,36 +154,4 @@ impl<'a> Walk<'a> {
         self.depth -= 1;
         Ok(self.stages[self.depth].left)
     }
-}
-
-/// The content of short texts is looked at in so many bytes.
-const SHORT: usize = 24;
-
-/// For each length, what of three words belongs to a text.
-static WORDS: [[u64; 3]; 32] = {
-    let mut table = [[0; 3]; 32];
-    let mut length = 0;
-    while length < 24 {
-        let mut i = 0;
-        while i < length {
-            table[length][i / 8] |= 0x80 << (i % 8 * 8);
-            i += 1;
-        }
-        length += 1;
-    }
-    table
-};
-
-/// The high bits of those bytes of a word that belong to a text of this length, under twenty-four.
-#[inline(always)]
-pub fn belonging(length: usize, word: usize) -> u64 {
-    WORDS[length & 31][word]
-}
-
-/// Whether the first bytes are seen to be ASCII: those of a short text with as many bytes behind it as are looked at.
-#[inline(always)]
-pub fn is_ascii_text(room: &[u8], length: usize) -> bool {
-    let Some(block) = room.first_chunk::<SHORT>() else { return false };
-    let word = |i: usize| u64::from_le_bytes(block[8 * i..8 * i + 8].try_into().unwrap()) & belonging(length, i);
-    word(0) | word(1) | word(2) == 0
 }
