@@ -67,15 +67,7 @@ fn correct(rng: &mut Rng, bytes: Vec<u8>) -> u8 {
         }
         path = gen::path(rng);
     }
-    let mut text = if rng.once(6) { gen::soup(rng) } else { gen::item_text(rng, false, 3) };
-    if rng.once(6) {
-        gen::damage(rng, &mut text, true);
-    }
-    let used = match rng.below(30) {
-        0 => rng.below(bytes.len() + 1),
-        1 => bytes.len() + 1 + rng.below(40),
-        _ => bytes.len(),
-    };
+    let (text, used) = gen::correction(rng, bytes.len());
     let mut buffer = bytes;
     for _ in 0..if rng.once(3) { 0 } else { rng.below(40) } {
         buffer.push(rng.next() as u8);

@@ -112,15 +112,7 @@ impl Pair {
     fn correct_about(&mut self, bytes: &[u8]) {
         let path = self.path(bytes);
         let rng = &mut self.rng;
-        let mut text = if rng.once(6) { gen::soup(rng) } else { gen::item_text(rng, false, 3) };
-        if rng.once(6) {
-            gen::damage(rng, &mut text, true);
-        }
-        let used = match rng.below(30) {
-            0 => rng.below(bytes.len() + 1),
-            1 => bytes.len() + 1 + rng.below(40),
-            _ => bytes.len(),
-        };
+        let (text, used) = gen::correction(rng, bytes.len());
         let more = if rng.once(3) { 0 } else { rng.below(40) };
         let mut buffer = bytes.to_vec();
         buffer.resize(bytes.len() + more, 0xa5);

@@ -431,6 +431,20 @@ pub fn item_text(rng: &mut Rng, clean: bool, levels: usize) -> Vec<u8> {
     t.out
 }
 
+/// The text of a correction of bytes, and how many of them are said to be used; good or bad.
+pub fn correction(rng: &mut Rng, length: usize) -> (Vec<u8>, usize) {
+    let mut text = if rng.once(6) { soup(rng) } else { item_text(rng, false, 3) };
+    if rng.once(6) {
+        damage(rng, &mut text, true);
+    }
+    let used = match rng.below(30) {
+        0 => rng.below(length + 1),
+        1 => length + 1 + rng.below(40),
+        _ => length,
+    };
+    (text, used)
+}
+
 /// Pieces of tokens in any order, or in the places of a frame.
 pub fn soup(rng: &mut Rng) -> Vec<u8> {
     #[rustfmt::skip]
