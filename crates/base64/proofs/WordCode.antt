@@ -3,7 +3,7 @@
 use mathlib.Core.Path.{_≡_, refl, sym, ap, _∙_}
 use mathlib.Core.List.{List, [], _∷_}
 use mathlib.Core.Bool.{Bool, true, false, _||_}
-use Prim.Native.Nat.{ℕ, zero, suc, _+_, _-_, _*_, _/_, _%_, _≤_, _<_}
+use Prim.Native.Nat.{ℕ, zero, suc, _+_, _-_, _*_, _/_, _%_, _≤_, _<_, _^_}
 use native.Mathlib.Omega.{arith}
 use lib.Dec.{T, leb, eqb, leb→le}
 use lib.ListN.{length, set, getD, length-set}
@@ -14,24 +14,25 @@ use borrow.Author.Tests.{leb-true, leb-false, ne-eqb}
 use Rattle.cbor.specs.Utf8.{isIn}
 use Rattle.cbor.proofs.Table.{byte}
 use Rattle.notation.specs.Classes.{blank, classNumber, classRows, classIn, classOf, is}
-use Rattle.notation.specs.Literals.{after, Sextet, sextet, padding, nonAlphabet, sextetAt, sextets, valued, isPadding, fullFour, base64From, base64Content}
+use Rattle.notation.specs.Literals.{Content, after, Sextet, sextet, padding, nonAlphabet, sextetAt, sextets, valued, isPadding, fullFour, base64From, base64Content}
 use Rattle.scanning.specs.Stands.{span}
 use Rattle.literal_body.specs.LiteralAnswers.{Put}
 use Rattle.literal_body.specs.LiteralReading.{Within, Yields, Progressed}
-use Rattle.base64.specs.Base64Answers.{sextetNumber, sextetWeight, Weighs, wordAt, WordThere}
+use Rattle.literal_body.specs.declared.Progress.{Progress}
+use Rattle.base64.specs.Base64Answers.{sextetNumber, sextetWeight, Weighs, wordAt, WordThere, TooLate}
 use Rattle.notation.proofs.SoundContent.{Fits, sextet-fits}
 use Rattle.literal_body.proofs.LiteralCode.{put-one, put-more}
 use Rattle.literal_body.proofs.MatchCode.{arm, range-above}
-use Rattle.literal_body.proofs.ReadingCode.{span-step, progress-more}
+use Rattle.literal_body.proofs.ReadingCode.{span-step, progress-start, progress-more}
 
 -- WORDS
 
 unfoldable pub weighs : ℕ → ℕ → Bool
-weighs k x = eqb x (sextetWeight k)
+weighs k x = eqb x (sextetWeight (k - 0x100))
 
-pub weight-key : {b r k : ℕ} → b ≡ k → T (weighs k r) → T (leb r 63) → Weighs b r
+pub weight-key : {row r k : ℕ} → row ≡ k → T (weighs k r) → T (leb r 63) → Weighs (row - 0x100) r
 unfolding weighs
-weight-key {r = r} e t l = let m = leb→le r 63 l in record { is = λ h. arm sextetWeight e t; most = omega arith }
+weight-key {r = r} e t l = let m = leb→le r 63 l in record { is = λ h. arm (λ (k : ℕ). sextetWeight (k - 0x100)) e t; most = omega arith }
 
 pub weight-none : {b : ℕ} → Weighs b 0x200_0000
 weight-none = record { is = λ h. absurd (omega arith); most = omega arith }
@@ -124,7 +125,10 @@ module _ {s : List ℕ} {at k w : ℕ} (inv : Weighed s at k w) where
     pub weighed-high : Bits.Fits bits64 (w * 64)
     weighed-high = record { fits = omega (arith, weighed-most) }
 
-    module _ {v : ℕ} (x : Weighs (getD s (at + k) 0) v) where
+    module _ {row v : ℕ} (e : row ≡ getD s (at + k) 0 + 0x100) (y : Weighs (row - 0x100) v) where
+      x : Weighs (getD s (at + k) 0) v
+      x = let f : row - 0x100 ≡ getD s (at + k) 0 = omega arith in rw f at y
+
       pub weighed-sum : Bits.Fits bits64 (w * 64 + v)
       weighed-sum = record { fits = omega (arith, weighed-most, x .most) }
 
@@ -195,15 +199,27 @@ word-yields s at stop w h l e g =
       short = omega arith;
     }
 
-module _ (b : List ℕ) (p x y z : ℕ) where
-  pub word-short : length b < 3 → Put b b p p (x ∷ y ∷ z ∷ [])
-  word-short h = record { same = refl; is = λ l. absurd (omega arith); next = λ l. absurd (omega arith) }
+-- PLACES THAT ARE TOO LATE
 
-  pub word-past : 3 ≤ length b → length b - 3 < p → Put b b p p (x ∷ y ∷ z ∷ [])
-  word-past g h = record { same = refl; is = λ l. absurd (omega arith); next = λ l. absurd (omega arith) }
+module _ {from stop n : ℕ} where
+  pub late-from : stop - from < n → TooLate from stop n from
+  late-from h = record { early = λ k l g. absurd (omega arith); late = λ k l. omega arith }
 
-  pub word-put : 3 ≤ length b → p ≤ length b - 3 → Put b (set (set (set b p x) (p + 1) y) (p + 2) z) p (p + 3) (x ∷ y ∷ z ∷ [])
-  word-put g h =
+  pub late-stop : 0 < n → n ≤ stop - from → TooLate from stop n (stop - (n - 1))
+  late-stop g h = record { early = λ k l q. omega arith; late = λ k l. omega arith }
+
+pub ruleset late-ways = (late-from, late-stop)
+
+pub late-same : {content : List ℕ → Content} {s : List ℕ} {stop from : ℕ} {b b′ : List ℕ} {pos n late : ℕ} {r : Progress} → Progressed content s stop from b b′ pos r → TooLate 0 (length b) n late → TooLate 0 (length b′) n late
+late-same {n = n} {late = late} x h = rw (x .same) h
+
+module _ (b : List ℕ) (p x y z : ℕ) {late : ℕ} (h : TooLate 0 (length b) 3 late) where
+  pub word-past : late ≤ p → Put b b p p (x ∷ y ∷ z ∷ [])
+  word-past g = record { same = refl; is = λ l. absurd (omega (arith, h .late p g)); next = λ l. absurd (omega (arith, h .late p g)) }
+
+  pub word-put : p < late → Put b (set (set (set b p x) (p + 1) y) (p + 2) z) p (p + 3) (x ∷ y ∷ z ∷ [])
+  word-put g =
+      let q = h .early p (omega arith) g in
       let e₁ : p + 1 + 1 ≡ p + 2 = omega arith in
       let e₂ : p + 2 + 1 ≡ p + 3 = omega arith in
       let b₁ = set b p x in
@@ -215,21 +231,48 @@ module _ (b : List ℕ) (p x y z : ℕ) where
       let w : Put b₂ (set b₂ (p + 2) z) (p + 2) (p + 3) (z ∷ []) = rw e₂ at (put-one b₂ (p + 2) z (omega arith)) in
       put-more (put-more u v) w
 
-module _ {n p : ℕ} (g : 3 ≤ n) (h : p ≤ n - 3) where
+module _ {n p late : ℕ} (h : TooLate 0 n 3 late) (g : p < late) where
   pub first-fits : p < n
-  first-fits = omega arith
+  first-fits = omega (arith, h .early p (omega arith) g)
 
   pub second-fits : p + 1 < n
-  second-fits = omega arith
+  second-fits = omega (arith, h .early p (omega arith) g)
 
   pub third-fits : p + 2 < n
-  third-fits = omega arith
+  third-fits = omega (arith, h .early p (omega arith) g)
 
-pub ruleset word-fits = (first-fits, second-fits, third-fits)
+  module _ (k : n < 2 ^ 64) where
+    pub third-adds : Bits.Fits bits64 (p + 2)
+    third-adds = record { fits = omega (arith, h .early p (omega arith) g) }
 
-pub ruleset word-ways = (word-short, word-past, word-put)
+    pub word-adds : Bits.Fits bits64 (p + 3)
+    word-adds = record { fits = omega (arith, h .early p (omega arith) g) }
 
-pub fours-on : {s : List ℕ} {stop from : ℕ} {b b₁ b₂ : List ℕ} {pos at p size w p′ : ℕ} → Within s from stop → Progressed base64Content s stop from b b₁ pos (record { next = at; pos = p; size = size })
-    → 4 ≤ stop - at → WordThere s at w → w < 0x100_0000 → Put b₁ b₂ p p′ (w / 0x1_0000 ∷ w / 0x100 % 0x100 ∷ w % 0x100 ∷ [])
-    → Progressed base64Content s stop from b b₂ pos (record { next = at + 4; pos = p′; size = size + 3 })
-fours-on {s} {stop} {at = at} {w = w} i inv h e g x = progress-more inv (word-yields s at stop w (omega arith) (i .inside) (e .is g) g) x refl
+pub ruleset word-fits = (first-fits, second-fits, third-fits, third-adds, word-adds)
+
+pub ruleset word-ways = (word-past, word-put)
+
+-- THE LOOP
+
+pub four-fits : {s : List ℕ} {from stop last at : ℕ} → Within s from stop → TooLate from stop 4 last → from ≤ at → at < last → at + 4 ≤ length s
+four-fits {at = at} i h l g = omega (arith, h .early at l g, i .inside)
+
+abbrev pub FoursRead : List ℕ → ℕ → ℕ → List ℕ → List ℕ → ℕ → ℕ → ℕ → Type 0
+FoursRead s stop from b b₁ pos at p = Progressed base64Content s stop from b b₁ pos (record { next = at; pos = p; size = (at - from) / 4 * 3 })
+
+module _ {s : List ℕ} {stop from : ℕ} {b : List ℕ} {pos : ℕ} where
+  pub fours-start : FoursRead s stop from b b pos from pos
+  fours-start =
+      let e : 0 ≡ (from - from) / 4 * 3 = omega arith in
+      let x : Progressed base64Content s stop from b b pos (record { next = from; pos = pos; size = 0 }) = progress-start in
+      rw e at x
+
+  pub fours-on : {b₁ b₂ : List ℕ} {at p w p′ last : ℕ} → Within s from stop → FoursRead s stop from b b₁ pos at p → TooLate from stop 4 last → at < last → WordThere s at w → w < 0x100_0000
+      → Put b₁ b₂ p p′ (w / 0x1_0000 ∷ w / 0x100 % 0x100 ∷ w % 0x100 ∷ []) → FoursRead s stop from b b₂ pos (at + 4) p′
+  fours-on {at = at} {w = w} i inv h g e k x =
+      let l = inv .ahead in
+      let z : (at - from) / 4 * 3 + 3 ≡ (at + 4 - from) / 4 * 3 = omega arith in
+      rw z at (progress-more inv (word-yields s at stop w (h .early at l g) (i .inside) (e .is k) k) x refl)
+
+  pub fours-end : {b₁ : List ℕ} {at p : ℕ} {r : Progress} → FoursRead s stop from b b₁ pos at p → r ≡ record { next = at; pos = p; size = (at - from) / 4 * 3 } → Progressed base64Content s stop from b b₁ pos r
+  fours-end inv e = rw e inv

@@ -36,6 +36,11 @@ wordAt s at (suc k) = wordAt s at k * 64 + sextetWeight (getD s (at + k) 0)
 pub record WordThere (s : List ℕ) (at r : ℕ) : Type 0 where
   pub is : r < 0x100_0000 → r ≡ wordAt s at 4
 
+-- r is the first place, from `from` on, from which n bytes do not end before `stop`
+pub record TooLate (from stop n r : ℕ) : Type 0 where
+  pub early : (k : ℕ) → from ≤ k → k < r → k + n ≤ stop
+  pub late : (k : ℕ) → r ≤ k → stop < k + n
+
 -- nothing but blanks stands between two places
 pub record Blanks (s : List ℕ) (stop from r : ℕ) : Type 0 where
   pub same : sextets (span from stop s) ≡ sextets (span r stop s)

@@ -1,137 +1,149 @@
 // Letters of base64 text that stand four by four without a blank.
 use literal_body::Progress;
+ghost use mathlib.Core.Path.{_≡_};
 ghost use mathlib.Core.List.{_∷_, []};
-ghost use Prim.Native.Nat.{_+_, _/_, _%_, _≤_, _<_};
+ghost use Prim.Native.Nat.{_+_, _-_, _*_, _/_, _%_, _≤_, _<_};
 ghost use lib.ListN.{length};
 ghost use Rattle.notation.specs.Literals.{base64Content};
 ghost use Rattle.literal_body.specs.LiteralAnswers.{Put};
 ghost use Rattle.literal_body.specs.LiteralReading.{Within, Progressed};
-ghost use Rattle.base64.specs.Base64Answers.{Weighs, WordThere};
+ghost use Rattle.base64.specs.Base64Answers.{Weighs, WordThere, TooLate};
 
 // What four letters weigh at least of which one has no value.
 const NO_WORD: u64 = 0x100_0000;
 
-// What some bytes weigh that have no value. With so many arms the table has a row for every byte, and none is tested before it is looked up.
+// What some bytes weigh that have no value: rows of the table that differ from the others are what makes it one.
 const NO_LETTER: u64 = 0x200_0000;
+
+// A bit above those of a byte.
+const ABOVE: u64 = 0x100;
+
+const LETTERS: usize = 4;
 
 const WORD_BYTES: usize = 3;
 
-// What a letter adds to a word. It is called in one place, so that it is inlined there and becomes a table.
-fn weight(b: u8) -> u64
-    ensures { λ r. ⌜ Weighs b r ⌝ }
+// The number of a byte in the table. With the bit above it, and with so many arms, the table begins at the first byte and has a row for each: none is tested or changed before it is looked up.
+fn row_of(b: u8) -> u64
+    ensures { λ r. ⌜ r ≡ b + 0x100 ⌝ }
 {
-    match b {
-        0x41 => 0,
-        0x42 => 1,
-        0x43 => 2,
-        0x44 => 3,
-        0x45 => 4,
-        0x46 => 5,
-        0x47 => 6,
-        0x48 => 7,
-        0x49 => 8,
-        0x4a => 9,
-        0x4b => 10,
-        0x4c => 11,
-        0x4d => 12,
-        0x4e => 13,
-        0x4f => 14,
-        0x50 => 15,
-        0x51 => 16,
-        0x52 => 17,
-        0x53 => 18,
-        0x54 => 19,
-        0x55 => 20,
-        0x56 => 21,
-        0x57 => 22,
-        0x58 => 23,
-        0x59 => 24,
-        0x5a => 25,
-        0x61 => 26,
-        0x62 => 27,
-        0x63 => 28,
-        0x64 => 29,
-        0x65 => 30,
-        0x66 => 31,
-        0x67 => 32,
-        0x68 => 33,
-        0x69 => 34,
-        0x6a => 35,
-        0x6b => 36,
-        0x6c => 37,
-        0x6d => 38,
-        0x6e => 39,
-        0x6f => 40,
-        0x70 => 41,
-        0x71 => 42,
-        0x72 => 43,
-        0x73 => 44,
-        0x74 => 45,
-        0x75 => 46,
-        0x76 => 47,
-        0x77 => 48,
-        0x78 => 49,
-        0x79 => 50,
-        0x7a => 51,
-        0x30 => 52,
-        0x31 => 53,
-        0x32 => 54,
-        0x33 => 55,
-        0x34 => 56,
-        0x35 => 57,
-        0x36 => 58,
-        0x37 => 59,
-        0x38 => 60,
-        0x39 => 61,
-        0x2b => 62,
-        0x2d => 62,
-        0x2f => 63,
-        0x5f => 63,
-        0x00 => NO_LETTER,
-        0x01 => NO_LETTER,
-        0x02 => NO_LETTER,
-        0x03 => NO_LETTER,
-        0x04 => NO_LETTER,
-        0x05 => NO_LETTER,
-        0x06 => NO_LETTER,
-        0x07 => NO_LETTER,
-        0x08 => NO_LETTER,
-        0x09 => NO_LETTER,
-        0x0a => NO_LETTER,
-        0x0b => NO_LETTER,
-        0x0c => NO_LETTER,
-        0x0d => NO_LETTER,
-        0x0e => NO_LETTER,
-        0x0f => NO_LETTER,
-        0x10 => NO_LETTER,
-        0x11 => NO_LETTER,
-        0x12 => NO_LETTER,
-        0x13 => NO_LETTER,
-        0x14 => NO_LETTER,
-        0x15 => NO_LETTER,
-        0x16 => NO_LETTER,
-        0x17 => NO_LETTER,
-        0x18 => NO_LETTER,
-        0x19 => NO_LETTER,
-        0x1a => NO_LETTER,
-        0x1b => NO_LETTER,
-        0x1c => NO_LETTER,
-        0x1d => NO_LETTER,
-        0x1e => NO_LETTER,
-        0x1f => NO_LETTER,
-        0x20 => NO_LETTER,
-        0x21 => NO_LETTER,
-        0x22 => NO_LETTER,
-        0x23 => NO_LETTER,
-        0x24 => NO_LETTER,
-        0x25 => NO_LETTER,
-        0x26 => NO_LETTER,
-        0x27 => NO_LETTER,
-        0x28 => NO_LETTER,
-        0x29 => NO_LETTER,
-        0x2a => NO_LETTER,
-        0x7f => NO_LETTER,
-        0x80 => NO_LETTER,
+    b as u64 + ABOVE
+}
+
+// What a letter adds to a word. It is called in one place, so that it is inlined there and becomes a table.
+fn weight(row: u64) -> u64
+    ensures { λ r. ⌜ Weighs (row - 0x100) r ⌝ }
+{
+    match row {
+        0x141 => 0,
+        0x142 => 1,
+        0x143 => 2,
+        0x144 => 3,
+        0x145 => 4,
+        0x146 => 5,
+        0x147 => 6,
+        0x148 => 7,
+        0x149 => 8,
+        0x14a => 9,
+        0x14b => 10,
+        0x14c => 11,
+        0x14d => 12,
+        0x14e => 13,
+        0x14f => 14,
+        0x150 => 15,
+        0x151 => 16,
+        0x152 => 17,
+        0x153 => 18,
+        0x154 => 19,
+        0x155 => 20,
+        0x156 => 21,
+        0x157 => 22,
+        0x158 => 23,
+        0x159 => 24,
+        0x15a => 25,
+        0x161 => 26,
+        0x162 => 27,
+        0x163 => 28,
+        0x164 => 29,
+        0x165 => 30,
+        0x166 => 31,
+        0x167 => 32,
+        0x168 => 33,
+        0x169 => 34,
+        0x16a => 35,
+        0x16b => 36,
+        0x16c => 37,
+        0x16d => 38,
+        0x16e => 39,
+        0x16f => 40,
+        0x170 => 41,
+        0x171 => 42,
+        0x172 => 43,
+        0x173 => 44,
+        0x174 => 45,
+        0x175 => 46,
+        0x176 => 47,
+        0x177 => 48,
+        0x178 => 49,
+        0x179 => 50,
+        0x17a => 51,
+        0x130 => 52,
+        0x131 => 53,
+        0x132 => 54,
+        0x133 => 55,
+        0x134 => 56,
+        0x135 => 57,
+        0x136 => 58,
+        0x137 => 59,
+        0x138 => 60,
+        0x139 => 61,
+        0x12b => 62,
+        0x12d => 62,
+        0x12f => 63,
+        0x15f => 63,
+        0x100 => NO_LETTER,
+        0x101 => NO_LETTER,
+        0x102 => NO_LETTER,
+        0x103 => NO_LETTER,
+        0x104 => NO_LETTER,
+        0x105 => NO_LETTER,
+        0x106 => NO_LETTER,
+        0x107 => NO_LETTER,
+        0x108 => NO_LETTER,
+        0x109 => NO_LETTER,
+        0x10a => NO_LETTER,
+        0x10b => NO_LETTER,
+        0x10c => NO_LETTER,
+        0x10d => NO_LETTER,
+        0x10e => NO_LETTER,
+        0x10f => NO_LETTER,
+        0x110 => NO_LETTER,
+        0x111 => NO_LETTER,
+        0x112 => NO_LETTER,
+        0x113 => NO_LETTER,
+        0x114 => NO_LETTER,
+        0x115 => NO_LETTER,
+        0x116 => NO_LETTER,
+        0x117 => NO_LETTER,
+        0x118 => NO_LETTER,
+        0x119 => NO_LETTER,
+        0x11a => NO_LETTER,
+        0x11b => NO_LETTER,
+        0x11c => NO_LETTER,
+        0x11d => NO_LETTER,
+        0x11e => NO_LETTER,
+        0x11f => NO_LETTER,
+        0x120 => NO_LETTER,
+        0x121 => NO_LETTER,
+        0x122 => NO_LETTER,
+        0x123 => NO_LETTER,
+        0x124 => NO_LETTER,
+        0x125 => NO_LETTER,
+        0x126 => NO_LETTER,
+        0x127 => NO_LETTER,
+        0x128 => NO_LETTER,
+        0x129 => NO_LETTER,
+        0x12a => NO_LETTER,
+        0x1ff => NO_LETTER,
         _ => NO_WORD,
     }
 }
@@ -144,27 +156,49 @@ fn word(text: &[u8], at: usize) -> u64
     let mut w: u64 = 0;
     let mut k: usize = 0;
     while k < 4 {
-        w = w * 64 + weight(text[at + k]);
+        w = w * 64 + weight(row_of(text[at + k]));
         k += 1;
     }
     w
 }
 
+// From this place on, n bytes do not end before `stop`.
+fn too_late(from: usize, stop: usize, n: usize) -> usize
+    requires { ⌜ from ≤ stop ⌝ }
+    requires { ⌜ 0 < n ⌝ }
+    ensures { λ r. ⌜ TooLate from stop n r ⌝ }
+{
+    if stop - from < n {
+        return from;
+    }
+    stop - (n - 1)
+}
+
 // Writes the three bytes of a word, if they fit, and answers the place behind them.
-fn put_word(out: &mut [u8], p: usize, w: u64) -> usize
+fn put_word(out: &mut [u8], p: usize, late: usize, w: u64) -> usize
     requires { ⌜ w < 0x100_0000 ⌝ }
+    requires { ⌜ TooLate 0 (length (now out)) 3 late ⌝ }
     ensures { λ r. ⌜ Put (now (out .entry)) (now (out .exit)) p r (w / 0x1_0000 ∷ w / 0x100 % 0x100 ∷ w % 0x100 ∷ []) ⌝ }
 {
-    if out.len() < WORD_BYTES {
-        return p;
-    }
-    if out.len() - WORD_BYTES < p {
+    if late <= p {
         return p;
     }
     out[p] = (w / 0x1_0000) as u8;
     out[p + 1] = (w / 0x100 % 0x100) as u8;
     out[p + 2] = (w % 0x100) as u8;
     p + WORD_BYTES
+}
+
+// Letters from one place to another were read.
+fn fours_read(from: usize, at: usize, pos: usize) -> Progress
+    requires { ⌜ from ≤ at ⌝ }
+    ensures { λ r. ⌜ r ≡ record { next = at; pos = pos; size = (at - from) / 4 * 3 } ⌝ }
+{
+    Progress {
+        next: at,
+        pos,
+        size: (at - from) / LETTERS * WORD_BYTES,
+    }
 }
 
 // Writes the bytes of letters that stand four by four without a blank, whatever follows them.
@@ -180,23 +214,15 @@ pub(crate) fn put_fours(
 {
     let mut at = from;
     let mut p = pos;
-    let mut size: usize = 0;
-    while 4 <= stop - at {
+    let last = too_late(from, stop, LETTERS);
+    let late = too_late(0, out.len(), WORD_BYTES);
+    while at < last {
         let w = word(text, at);
         if NO_WORD <= w {
-            return Progress {
-                next: at,
-                pos: p,
-                size,
-            };
+            return fours_read(from, at, p);
         }
-        p = put_word(out, p, w);
-        size += WORD_BYTES;
-        at += 4;
+        p = put_word(out, p, late, w);
+        at += LETTERS;
     }
-    Progress {
-        next: at,
-        pos: p,
-        size,
-    }
+    fours_read(from, at, p)
 }

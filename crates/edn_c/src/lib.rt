@@ -1,10 +1,8 @@
 // The operations on numbers and slices alone, for programs in C, Rust and other languages (include/edn.h). Each returns 0, or the number
 // of its refusal; what goes with that is written into `value`, as far as it reaches.
-use c_reply::put;
-use c_reply::refused;
+use c_reply::check_reply;
+use c_reply::part_reply;
 use c_reply::reply;
-use edn::Checked;
-use edn::Located;
 ghost use mathlib.Core.Path.{_≡_};
 ghost use lib.Dec.{eqb};
 ghost use Rattle.operations.specs.Operations.{read, print, correct, lookUp, itemsOf};
@@ -60,17 +58,7 @@ pub extern "C" fn edn_look_up(bytes: &[u8], path: &[u16], value: &mut [u64]) -> 
     ensures { λ r. ⌜ eqb r 0 ≡ succeeds (lookUp (now (bytes .entry)) (now (path .entry))) ⌝ }
     ensures { λ _. ⌜ now (value .exit) ≡ spotIn (now (value .entry)) (lookUp (now (bytes .entry)) (now (path .entry))) ⌝ }
 {
-    let found = edn::locate(bytes, path);
-    match found {
-        Located::Refused(e) => refused(e, value),
-        Located::Part(p) => {
-            let start = p.start as u64;
-            let end = p.end as u64;
-            put(value, 0, start);
-            put(value, 1, end);
-            0
-        }
-    }
+    part_reply(edn::locate(bytes, path), value)
 }
 
 // Whether bytes are items, and nothing else; 0, or the place of the refusal, in value[0].
@@ -80,12 +68,5 @@ pub extern "C" fn edn_check(bytes: &[u8], value: &mut [u64]) -> u8
     ensures { λ r. ⌜ eqb r 0 ≡ succeeds (itemsOf (now (bytes .entry))) ⌝ }
     ensures { λ _. ⌜ now (value .exit) ≡ placeIn (now (value .entry)) (itemsOf (now (bytes .entry))) ⌝ }
 {
-    let checked = edn::check(bytes);
-    match checked {
-        Checked::Refused(e) => refused(e, value),
-        Checked::Accepted => {
-            put(value, 0, 0);
-            0
-        }
-    }
+    check_reply(edn::check(bytes), value)
 }

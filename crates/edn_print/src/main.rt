@@ -5,8 +5,8 @@ use libc::STDOUT_FILENO;
 
 fn answer(bytes: &[u8]) {
     let mut out = [0u8; 65535];
-    let size = reporting::report_print(bytes, &mut out);
-    let is_written = streams::write_all(STDOUT_FILENO, reporting::front(&out, size));
+    let size = print_report::report_print(bytes, &mut out);
+    let is_written = streams::write_all(STDOUT_FILENO, report_lines::front(&out, size));
     if !is_written {
         os::fail(b"edn_print: standard output cannot be written");
     }

@@ -5,8 +5,8 @@ use libc::STDOUT_FILENO;
 
 fn answer(text: &[u8]) {
     let mut out = [0u8; 131090];
-    let size = reporting::report_read(text, &mut out);
-    let is_written = streams::write_all(STDOUT_FILENO, reporting::front(&out, size));
+    let size = read_report::report_read(text, &mut out);
+    let is_written = streams::write_all(STDOUT_FILENO, report_lines::front(&out, size));
     if !is_written {
         os::fail(b"edn_read: standard output cannot be written");
     }

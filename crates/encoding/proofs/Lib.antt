@@ -1,3 +1,4 @@
+pub mod Cuts
 pub mod ReadRules
 pub mod Wrote
 pub mod ReadSmall

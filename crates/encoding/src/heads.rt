@@ -2,6 +2,10 @@
 use crate::answer::ReadAnswer;
 use crate::answer::done;
 use crate::major::BYTE_STRING;
+use crate::major::IN_EIGHT_BYTES;
+use crate::major::IN_FOUR_BYTES;
+use crate::major::IN_ONE_BYTE;
+use crate::major::IN_TWO_BYTES;
 use crate::major::INDEFINITE_LENGTH;
 use crate::major::NEGATIVE_INTEGER;
 use crate::major::SIMPLE_VALUE;
@@ -31,10 +35,10 @@ pub fn info_by(width: u8, n: u64) -> u8
         NONE => head::shortest_info(n),
         INDEFINITE => INDEFINITE_LENGTH,
         IMMEDIATE => (n % 32) as u8,
-        ONE_BYTE => 24,
-        TWO_BYTES => 25,
-        FOUR_BYTES => 26,
-        _ => 27,
+        ONE_BYTE => IN_ONE_BYTE,
+        TWO_BYTES => IN_TWO_BYTES,
+        FOUR_BYTES => IN_FOUR_BYTES,
+        _ => IN_EIGHT_BYTES,
     }
 }
 

@@ -20,3 +20,12 @@ pub const ENDLESS_ARRAY: u8 = 0x9f;
 pub const ENDLESS_MAP: u8 = 0xbf;
 // The additional information of an indefinite length.
 pub const INDEFINITE_LENGTH: u8 = 31;
+
+// The additional information of an argument in the bytes behind the initial one.
+pub(crate) const IN_ONE_BYTE: u8 = 24;
+
+pub(crate) const IN_TWO_BYTES: u8 = 25;
+
+pub(crate) const IN_FOUR_BYTES: u8 = 26;
+
+pub(crate) const IN_EIGHT_BYTES: u8 = 27;

@@ -1,4 +1,1 @@
-pub mod DigitCode
-pub mod PairsCode
-pub mod BlankCode
 pub mod HexCode

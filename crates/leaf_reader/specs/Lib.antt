@@ -1,5 +1,1 @@
-pub mod LeafAnswers
-pub mod LeafParts
-pub mod BlockParts
-pub mod LiteralParts
-pub mod TokenParts
+pub mod Starts

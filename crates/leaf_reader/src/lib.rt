@@ -1,47 +1,22 @@
 // Leaves, read and written at once: first as they are mostly written, then as they seldom are. What is neither is left to the token cutter.
-mod answer;
-mod block;
-mod heads;
-mod integer;
-mod literal;
-mod string;
-mod token_leaf;
-mod word;
-
-use crate::answer::nothing;
-use crate::answer::odd;
-use crate::integer::signed;
-use crate::literal::base64_literal;
-use crate::literal::hex_literal;
-use crate::literal::is_quote;
-use crate::literal::quoted_literal;
-use crate::string::hexadecimal;
-use crate::string::quoted;
-use crate::token_leaf::other_integer;
-use crate::token_leaf::simple_value;
-use crate::word::word;
+use leaf_answer::Found;
+use leaf_answer::LeafRead;
+use leaf_answer::again;
+use leaf_answer::nothing;
+use leaf_answer::odd;
+use literal_leaf::base64_literal;
+use literal_leaf::hex_literal;
+use literal_leaf::is_quote;
+use literal_leaf::quoted_literal;
+use plain_leaf::integer::signed;
+use plain_leaf::word::word;
+use plain_string::string::hexadecimal;
+use plain_string::string::quoted;
 use scanning::scan::next_is;
-ghost use Rattle.leaf_reader.specs.LeafAnswers.{LeafTold};
-ghost use Rattle.leaf_reader.specs.LeafParts.{StartsAs};
-
-// What was found at a place: a leaf, the opening of a tag, what may be a leaf that is seldom written so, or nothing of these.
-pub enum Found {
-    Leaf,
-    Tag,
-    Odd,
-    Nothing,
-}
-
-// Where the text goes on. Of a leaf: how many bytes were made, whether it is a byte string, and then how long its content is. Of a tag: its
-// number.
-pub struct LeafRead {
-    pub found: Found,
-    pub next: usize,
-    pub size: usize,
-    pub binary: bool,
-    pub length: usize,
-    pub number: u64,
-}
+use token_leaf::other_integer;
+use token_leaf::simple_value;
+ghost use Rattle.leaf_answer.specs.LeafAnswers.{LeafTold};
+ghost use Rattle.leaf_reader.specs.Starts.{StartsAs};
 
 // What a leaf may begin with.
 enum Start {
@@ -108,13 +83,13 @@ pub fn read_odd(text: &[u8], at: usize, buf: &mut [u8], pos: usize) -> LeafRead
     }
     let b = text[at];
     if is_quote(b) {
-        return quoted_literal(text, at, b, buf, pos);
+        return again(quoted_literal(text, at, b, buf, pos));
     }
     match b {
-        b'h' => hex_literal(text, at, buf, pos),
-        b'b' => base64_literal(text, at, buf, pos),
-        b's' => simple_value(text, at, buf, pos),
-        _ => other_integer(text, at, b == b'-', buf, pos),
+        b'h' => again(hex_literal(text, at, buf, pos)),
+        b'b' => again(base64_literal(text, at, buf, pos)),
+        b's' => again(simple_value(text, at, buf, pos)),
+        _ => again(other_integer(text, at, b == b'-', buf, pos)),
     }
 }
 

@@ -1,5 +1,4 @@
-// The byte side: check bytes, find the part at a path, scan one item.
-use head::HeadRead;
+// The part of bytes at a path.
 use path::Trace;
 use path::follow_from;
 use path::guided::Guided;
@@ -10,14 +9,8 @@ use walk::Passed;
 use walk::Walked;
 ghost use mathlib.Core.Path.{_≡_};
 ghost use mathlib.Core.List.{[]};
-ghost use lib.ListN.{length, drop};
-ghost use Rattle.operations.specs.Operations.{itemsOf, lookUp, partOf};
-ghost use Rattle.looking.specs.Answers.{checkTold, checkOf, Checks, TooLarge, AllNoted, NotedAs, Begun, locateTold, locateOf, Parts, scanTold, scanFrom, scanned};
-
-pub enum Checked {
-    Accepted,
-    Refused(Refusal),
-}
+ghost use Rattle.operations.specs.Operations.{lookUp, partOf};
+ghost use Rattle.looking.specs.Answers.{Checks, TooLarge, AllNoted, NotedAs, Begun, locateTold, locateOf, Parts};
 
 // The bytes of an item: they start at `start` and end before `end`.
 pub struct Part {
@@ -28,31 +21,6 @@ pub struct Part {
 pub enum Located {
     Part(Part),
     Refused(Refusal),
-}
-
-// One item: its major type, the rest of its head as read; where the head ends and its content begins; where the item ends.
-pub struct ItemAt {
-    pub major: u8,
-    pub info: u8,
-    pub argument: u64,
-    pub content: usize,
-    pub end: usize,
-}
-
-pub enum Scanned {
-    Item(ItemAt),
-    Refused(Refusal),
-}
-
-// Whether bytes are items, and nothing else.
-pub fn check(bytes: &[u8]) -> Checked
-    ensures { λ r. ⌜ checkTold r ≡ checkOf (itemsOf (now (bytes .entry))) ⌝ }
-{
-    let all = walk::walk_all(bytes);
-    match all {
-        Passed::Refused(e) => Checked::Refused(e),
-        Passed::Span(_m) => Checked::Accepted,
-    }
 }
 
 fn between(start: usize, end: usize) -> Located
@@ -203,29 +171,6 @@ pub fn look_up<'a, 'b>(bytes: &'a [u8], path: &'b [u16]) -> &'a [u8]
             let start = p.start;
             let end = p.end;
             &bytes[start..end]
-        }
-    }
-}
-
-// The item at an offset, with 16 levels left.
-pub fn scan(bytes: &[u8], at: usize) -> Scanned
-    ensures { λ r. ⌜ scanTold r ≡ scanFrom (length (now (bytes .entry))) (scanned (drop at (now (bytes .entry)))) ⌝ }
-{
-    let read = head::read_head(bytes, at);
-    match read {
-        HeadRead::Refused(e) => Scanned::Refused(e),
-        HeadRead::Head(h) => {
-            let walked = walk::item_after(at, walk::item(&bytes[at..], 16));
-            match walked {
-                Walked::Refused(e) => Scanned::Refused(e),
-                Walked::Made(m) => Scanned::Item(ItemAt {
-                    major: m.major,
-                    info: h.info,
-                    argument: h.argument,
-                    content: h.end,
-                    end: m.end,
-                }),
-            }
         }
     }
 }

@@ -7,7 +7,7 @@ use Prim.Native.Nat.{ℕ, zero, suc, _+_, _-_, _*_, _≤_, _<_, min}
 use native.Mathlib.Omega.{arith}
 use lib.Dec.{leb, eqb}
 use lib.ListN.{length, drop, getD}
-use borrow.Author.Tests.{le-leb, lt-leb, ne-eqb, leb-true, leb-false}
+use borrow.Author.Tests.{le-leb, lt-leb, ne-eqb, eqb-true, eqb-false, leb-true, leb-false}
 use Rattle.cbor.specs.Refusals.{Result, ok, refuse, bind, float}
 use Rattle.cbor.specs.Widths.{Width, w8, limit}
 use Rattle.cbor.specs.Items.{Sign, unsigned, negative}
@@ -20,7 +20,7 @@ use Rattle.scanning.specs.Stands.{span}
 use Rattle.scanning.specs.ScanAnswers.{Peeked}
 use Rattle.literal_body.specs.LiteralAnswers.{digitNumber}
 use Rattle.token.specs.TokenAnswers.{indicatorNumber, itemCode, openCode, beginCode, codeOf, itemMark, openMark, beginMark, markOf, itemNumber, openNumber, beginNumber, numberOf, BeginsAs, Written, Shown, Says, Refused, TokenMade}
-use Rattle.numbers.specs.NumberAnswers.{heavy, Counts, floatAt, ScansDigits, Counted, Indicated, chooseBy, chosenNumber, Limited, Makes, Judging, Integral, Decimals, DigitAt, radixNumber, Prefixed}
+use Rattle.numbers.specs.NumberAnswers.{heavy, Counts, floatAt, ScansDigits, Counted, Indicated, chooseBy, chosenNumber, Limited, Makes, Judging, Integral, Decimals, DigitAt, radixNumber, Prefixed, BasedAt, Leading}
 use Rattle.cbor.specs.Flags.{signOf}
 use Rattle.numbers.specs.declared.amount.Amount.{Amount}
 use Rattle.numbers.specs.declared.amount.Digits.{Digits}
@@ -309,7 +309,7 @@ zero-is {s} {at} {radix} minus b p n e c f =
     p .some n (signOf minus) ∙ (ap (λ (k : ℕ). based (signOf minus) radix k (drop (at + 2) (marked s))) (sym e) ∙ rw (c .floats ∙ sym f, based))
 
 module _ {s : List ℕ} {at place radix : ℕ} {t : Cut} (minus : Bool) (p : Prefixed s at radix) where
-  pub zero-decimal : radix ≡ 0 → Decimals s place at minus (record { value = 0; over = false }) t → Says s place t (afterZero (signOf minus) (drop at (marked s)))
+  zero-decimal : radix ≡ 0 → Decimals s place at minus (record { value = 0; over = false }) t → Says s place t (afterZero (signOf minus) (drop at (marked s)))
   unfolding heavy
   zero-decimal e h = says-as (p .none e (signOf minus)) (h .is 0 (record { is = omega arith; small = omega arith }))
 
@@ -321,7 +321,7 @@ module _ {s : List ℕ} {at place radix : ℕ} {t : Cut} (minus : Bool) (p : Pre
     unfolding otherInteger bind
     zero-integer {m} g x h = says-as (zero-is minus b p n e c f ∙ rw g (rw (digits-is c) (rw (x .is)))) (h .is s (d .next) (value-of c) (c .counts) x)
 
-pub ruleset zero-ways = (zero-decimal, zero-float, zero-integer)
+pub ruleset zero-ways = (zero-float, zero-integer)
 
 -- NUMBERS
 pub number-scans : (s : List ℕ) (at : ℕ) {v : ℕ} → v ≡ digitNumber (getD s at 0) → DigitAt s at → ScansDigits s (at + 1) 10 v
@@ -333,14 +333,54 @@ module _ {s : List ℕ} (at : ℕ) {place : ℕ} {t : Cut} (minus : Bool) {v : �
     unfolding number
     number-float g r = says-as (rw (c .floats ∙ (sym f ∙ g), number)) (says-refuse 0 r)
 
-    pub number-zero : b ≡ false → getD s at 0 ≡ 0x30 → Says s place t (afterZero (signOf minus) (drop (at + 1) (marked s))) → Says s place t (number (signOf minus) (getD s at 0) (drop (at + 1) (marked s)))
+    number-zero : b ≡ false → getD s at 0 ≡ 0x30 → Says s place t (afterZero (signOf minus) (drop (at + 1) (marked s))) → Says s place t (number (signOf minus) (getD s at 0) (drop (at + 1) (marked s)))
     unfolding number
     number-zero g z h = says-as (rw (c .floats ∙ (sym f ∙ g), number) (rw z)) h
 
-    pub number-decimal : DigitAt s at → b ≡ false → (getD s at 0 ≡ 0x30 → ⊥) → Decimals s place (d .next) minus (d .amount) t → Says s place t (number (signOf minus) (getD s at 0) (drop (at + 1) (marked s)))
+    number-decimal : DigitAt s at → b ≡ false → (getD s at 0 ≡ 0x30 → ⊥) → Decimals s place (d .next) minus (d .amount) t → Says s place t (number (signOf minus) (getD s at 0) (drop (at + 1) (marked s)))
     unfolding number bind
     number-decimal x g z h =
         let i : digitValue (getD s at 0) ≡ v = sym (e ∙ digit-number 10 (getD s at 0) (x .digit)) in
         says-as (rw (c .floats ∙ (sym f ∙ g), number) (rw (ne-eqb (getD s at 0) 0x30 z) (rw i (rw (digits-is c))))) (h .is (value-of c) (c .counts))
 
-pub ruleset number-ways = (number-float, number-zero, number-decimal)
+    module _ (x : DigitAt s at) (g : b ≡ false) {radix : ℕ} (p : BasedAt s (at + 1) (getD s at 0) radix) {t′ : Cut} (w : t′ ≡ t) where
+      pub number-based : (radix ≡ 0 → ⊥) → Says s place t (afterZero (signOf minus) (drop (at + 1) (marked s))) → Says s place t′ (number (signOf minus) (getD s at 0) (drop (at + 1) (marked s)))
+      number-based n h = rw w (number-zero g (p .some n) h)
+
+      pub number-plain : {l : Digits} → radix ≡ 0 → Leading (getD s at 0) (at + 1) d l → Decimals s place (l .next) minus (l .amount) t → Says s place t′ (number (signOf minus) (getD s at 0) (drop (at + 1) (marked s)))
+      number-plain {l} n y h = rw w (go (eqb (getD s at 0) 0x30) refl)
+        where
+          go : (q : Bool) → eqb (getD s at 0) 0x30 ≡ q → Says s place t (number (signOf minus) (getD s at 0) (drop (at + 1) (marked s)))
+          go true q =
+              let z = eqb-true (getD s at 0) 0x30 q in
+              let k : Decimals s place (at + 1) minus (record { value = 0; over = false }) t = rw (y .zero z) at h in
+              number-zero g z (zero-decimal minus (p .zero z) n k)
+          go false q =
+              let z = eqb-false (getD s at 0) 0x30 q in
+              let k : Decimals s place (d .next) minus (d .amount) t = rw (y .other z) at h in
+              number-decimal x g z k
+
+-- the parts of a number
+module _ {s : List ℕ} {at b : ℕ} where
+  pub base-zero : {radix : ℕ} → b ≡ 0x30 → Prefixed s at radix → BasedAt s at b radix
+  base-zero e p = record { zero = λ z. p; some = λ n. e }
+
+  pub base-none : (b ≡ 0x30 → ⊥) → BasedAt s at b 0
+  base-none n = record { zero = λ z. absurd (n z); some = λ k. absurd (k refl) }
+
+pub ruleset base-ways = (base-zero, base-none)
+
+module _ {b at : ℕ} {d : Digits} where
+  pub leading-zero : b ≡ 0x30 → Leading b at d (record { amount = record { value = 0; over = false }; next = at })
+  leading-zero e = record { zero = λ z. refl; other = λ n. absurd (n e); inside = λ n h k. h }
+
+  pub leading-other : (b ≡ 0x30 → ⊥) → Leading b at d d
+  leading-other n = record { zero = λ z. absurd (n z); other = λ z. refl; inside = λ n h k. k }
+
+pub ruleset leading-ways = (leading-zero, leading-other)
+
+pub leading-inside : {s : List ℕ} {at b radix v : ℕ} {d l : Digits} → at < length s → Counted s (at + 1) radix v d → Leading b (at + 1) d l → l .next ≤ length s
+leading-inside {s} h c y = y .inside (length s) (omega arith) (c .ran .inside)
+
+pub based-prefixed : {s : List ℕ} {at b radix : ℕ} → BasedAt s at b radix → (radix ≡ 0 → ⊥) → Prefixed s at radix
+based-prefixed p n = p .zero (p .some n)

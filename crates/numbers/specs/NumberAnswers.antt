@@ -116,3 +116,14 @@ pub record Prefixed (s : List ℕ) (at radix : ℕ) : Type 0 where
   pub inside : (radix ≡ 0 → ⊥) → at + 2 ≤ length s
   pub least : (radix ≡ 0 → ⊥) → 2 ≤ radix
   pub most : radix ≤ 16
+
+-- the same behind a first digit b, which is then a zero
+pub record BasedAt (s : List ℕ) (at b radix : ℕ) : Type 0 where
+  pub zero : b ≡ 0x30 → Prefixed s at radix
+  pub some : (radix ≡ 0 → ⊥) → b ≡ 0x30
+
+-- the decimal digits of a number whose first digit is b: behind a zero none of those that stand there
+pub record Leading (b at : ℕ) (d r : Digits) : Type 0 where
+  pub zero : b ≡ 0x30 → r ≡ record { amount = record { value = 0; over = false }; next = at }
+  pub other : (b ≡ 0x30 → ⊥) → r ≡ d
+  pub inside : (n : ℕ) → at ≤ n → d .next ≤ n → r .next ≤ n

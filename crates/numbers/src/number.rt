@@ -1,5 +1,6 @@
 // Integers and tag openings.
 use crate::amount::Amount;
+use crate::amount::Digits;
 use crate::amount::count_digits;
 use crate::amount::digit_value;
 use crate::amount::floats;
@@ -25,7 +26,7 @@ ghost use lib.ListN.{length, drop, getD};
 ghost use Rattle.notation.specs.Numbers.{afterZero, number, radixOf};
 ghost use Rattle.notation.specs.Reading.{marked};
 ghost use Rattle.token.specs.TokenAnswers.{Says};
-ghost use Rattle.numbers.specs.NumberAnswers.{Judging, Integral, Decimals, DigitAt, radixNumber, Prefixed};
+ghost use Rattle.numbers.specs.NumberAnswers.{Judging, Integral, Decimals, DigitAt, radixNumber, Prefixed, BasedAt, Leading};
 ghost use Rattle.cbor.specs.Flags.{signOf};
 
 // An argument and its indicator: 7, then 9, else the token of a kind.
@@ -123,23 +124,23 @@ fn prefix(text: &[u8], at: usize) -> u64
     NO_RADIX
 }
 
-fn after_zero(text: &[u8], place: usize, at: usize, minus: bool) -> Token
+// The same behind a first digit, which must be a zero.
+fn base_of(text: &[u8], b: u8, at: usize) -> u64
+    ensures { λ r. ⌜ BasedAt (now (text .entry)) at b r ⌝ }
+{
+    if b == b'0' {
+        return prefix(text, at);
+    }
+    NO_RADIX
+}
+
+// An integer in another base, whose letter stands at a place.
+fn based(text: &[u8], place: usize, at: usize, radix: u64, minus: bool) -> Token
     requires { ⌜ at ≤ length (now text) ⌝ }
+    requires { ⌜ Prefixed (now text) at radix ⌝ }
+    requires { ⌜ (radix ≡ 0 → ⊥) ⌝ }
     ensures { λ r. ⌜ Says (now (text .entry)) place r (afterZero (signOf minus) (drop at (marked (now (text .entry))))) ⌝ }
 {
-    let radix = prefix(text, at);
-    if radix == NO_RADIX {
-        return decimal(
-            text,
-            place,
-            at,
-            minus,
-            Amount {
-                value: 0,
-                over: false,
-            },
-        );
-    }
     let d = count_digits(text, at + 2, radix, digit_value(text[at + 1]));
     let next = d.next;
     if floats(text, next, radix) {
@@ -150,6 +151,39 @@ fn after_zero(text: &[u8], place: usize, at: usize, minus: bool) -> Token
     integer(minus, a, m, place)
 }
 
+// The decimal digits that are part of a number: behind a zero there are none.
+fn leading(b: u8, at: usize, d: Digits) -> Digits
+    ensures { λ r. ⌜ Leading b at d r ⌝ }
+{
+    if b == b'0' {
+        return Digits {
+            amount: Amount {
+                value: 0,
+                over: false,
+            },
+            next: at,
+        };
+    }
+    d
+}
+
+// The same token, made anew: one that is handed on whole is copied, and the copy waits for it.
+fn again(t: Token) -> Token
+    ensures { λ r. ⌜ r ≡ t ⌝ }
+{
+    Token {
+        kind: t.kind,
+        refusal: t.refusal,
+        indicator: t.indicator,
+        argument: t.argument,
+        form: t.form,
+        start: t.start,
+        stop: t.stop,
+        place: t.place,
+        next: t.next,
+    }
+}
+
 // The integer, or the opening of a tag, whose first digit stands at a place.
 pub fn number(text: &[u8], place: usize, at: usize, minus: bool) -> Token
     requires { ⌜ DigitAt (now text) at ⌝ }
@@ -157,13 +191,16 @@ pub fn number(text: &[u8], place: usize, at: usize, minus: bool) -> Token
 {
     let b = text[at];
     let d = count_digits(text, at + 1, 10, digit_value(b));
-    let next = d.next;
-    if floats(text, next, 10) {
+    let end = d.next;
+    if floats(text, end, 10) {
         return refuse(FLOAT, place);
     }
-    if b == b'0' {
-        return after_zero(text, place, at + 1, minus);
+    let radix = base_of(text, b, at + 1);
+    if radix == NO_RADIX {
+        let l = leading(b, at + 1, d);
+        let next = l.next;
+        let a = l.amount;
+        return again(decimal(text, place, next, minus, a));
     }
-    let a = d.amount;
-    decimal(text, place, next, minus, a)
+    again(based(text, place, at + 1, radix, minus))
 }

@@ -1,6 +1,6 @@
 -- A walk that a path guides: what its functions find is so.
 -- Assumes nothing.
-use Prim.Native.Nat.{ℕ, zero, suc, _+_, _-_, _*_, _^_, _≤_, _<_}
+use Prim.Native.Nat.{ℕ, zero, suc, _+_, _-_, _*_, _/_, _%_, _^_, _≤_, _<_, min}
 use native.Mathlib.Omega.{arith}
 use mathlib.Core.Path.{_≡_, refl, sym, ap, _∙_}
 use mathlib.Core.Bool.{Bool, true, false}
@@ -18,7 +18,8 @@ use Rattle.head.specs.HeadAnswers.{headTold, headAt}
 use Rattle.head.specs.declared.HeadAt.{HeadAt}
 use Rattle.head.specs.declared.HeadRead.{HeadRead}
 use Rattle.head.specs.declared.HeadRead.the-variants.{Head as HeadV}
-use Rattle.walk.specs.WalkAnswers.{passTold, toldOf, oneOf, allOf, untilBy, modeBy, behindBy, stepBy, Turned, afterTold}
+use Rattle.walk.specs.WalkAnswers.{passed, passTold, toldOf, oneOf, allOf, untilBy, modeBy, behindBy, stepBy, Turned, afterTold}
+use Rattle.walk.specs.QuickAnswers.{Quick}
 use Rattle.walk.specs.declared.Passage.{Passage}
 use Rattle.walk.specs.declared.Passed.{Passed}
 use Rattle.walk.specs.declared.Passed.the-variants.{Span as SpanV}
@@ -72,7 +73,15 @@ module _ {s : List ℕ} {from d : ℕ} (b : Below s from d) (g : (i : ℕ) → F
         let r : q .rest ≡ drop (m .end) s = left-of 0 s from (q .rest) (b .inside) l .drops ∙ ap (λ (x : ℕ). drop x s) (sym (q .ends)) in
         record { is = λ h. record { size = m .size; is = q .is ∙ ap (ok (m .size)) r }; bytes = bytes-of s g }
 
-pub ruleset pass-ways = (pass-over, pass-not, pass-made)
+  pub pass-quick : {r x y : ℕ} → length s * 1 < 2 ^ 63 → Quick (toldOf (length (take (length s - from) (drop from s))) (allOf 4 (suc d) (untilBy mode count) (take (length s - from) (drop from s)))) r
+      → (r ≡ 0xffffffffffffffff → ⊥) → r < 2 ^ 64 → x ≡ r % 4294967296 → y ≡ from + x → Passes s from d (untilBy mode count) y
+  unfolding passTold afterTold
+  pass-quick {r} {x} {y} long q n l e f =
+      let a : y ≡ min (from + r % 4294967296) (2 ^ 64 - 1) = omega (arith, b .inside) in
+      let z : r / 4294967296 ≡ min (0 + r / 4294967296) (2 ^ 64 - 1) = omega arith in
+      pass-made (SpanV (record { end = r % 4294967296; size = r / 4294967296 })) long (q .is n) (SpanV (record { end = y; size = r / 4294967296 })) (λ j. passed (a j) (z j)) refl
+
+pub ruleset pass-ways = (pass-over, pass-not, pass-quick)
 
 -- THE ITEM AT THE END OF THE PATH
 

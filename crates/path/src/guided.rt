@@ -5,8 +5,10 @@ use crate::wide;
 use head::HeadRead;
 use walk::COUNTED;
 use walk::ENDED;
-use walk::Passed;
 use walk::is_over;
+use walk::quick::UNKNOWN;
+use walk::quick::end_in;
+use walk::quick::passed;
 ghost use mathlib.Core.List.{[], _∷_};
 ghost use Prim.Native.Nat.{_≤_};
 ghost use lib.ListN.{length};
@@ -50,11 +52,11 @@ fn past_items(bytes: &[u8], from: usize, mode: u8, count: u64, levels: usize) ->
     if is_over(bytes, from, mode, count) {
         return walk::past(from, mode);
     }
-    let part = walk::after(from, 0, walk::elements(&bytes[from..], mode, count, levels));
-    match part {
-        Passed::Refused(_e) => OUTSIDE,
-        Passed::Span(m) => m.end,
+    let r = passed(&bytes[from..], mode, count, levels);
+    if r == UNKNOWN {
+        return OUTSIDE;
     }
+    from + end_in(r)
 }
 
 // The item at the end of the path.

@@ -27,7 +27,7 @@ limit-below w2 = omega arith
 limit-below w4 = omega arith
 limit-below w8 = omega arith
 
-indicator-length : (w : Width) (n : ℕ) → length (indicatorOf w n) ≤ 2
+pub indicator-length : (w : Width) (n : ℕ) → length (indicatorOf w n) ≤ 2
 unfolding indicatorOf
 indicator-length w n = go (eqb (argumentBytes w) (argumentBytes (shortest n)))
   where
@@ -35,7 +35,7 @@ indicator-length w n = go (eqb (argumentBytes w) (argumentBytes (shortest n)))
     go true = omega arith
     go false = omega arith
 
-size-length : (z : Size) (n : ℕ) → length (sizeOf z n) ≤ 3
+pub size-length : (z : Size) (n : ℕ) → length (sizeOf z n) ≤ 3
 unfolding sizeOf indicatorOf blankBehind
 size-length indefinite n = omega arith
 size-length (definite w) n = go (eqb (argumentBytes w) (argumentBytes (shortest n)))

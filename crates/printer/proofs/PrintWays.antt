@@ -156,7 +156,7 @@ module _ (s : List ℕ) (at : ℕ) {x : HeadRead} (f : headTold x ≡ headAt s a
       go (suc d) g = lost s at f e (bind-ok (nextHead (drop at s)) _ g .first)
 
 -- an array's or a map's elements, as texts
-until-is : (i n : ℕ) → untilBy (modeBy i) n ≡ extent (sizeBy i) n
+pub until-is : (i n : ℕ) → untilBy (modeBy i) n ≡ extent (sizeBy i) n
 unfolding untilBy modeBy extent sizeBy
 until-is i n = go (eqb i 31)
   where

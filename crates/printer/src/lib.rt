@@ -42,9 +42,9 @@ const BREAK: u8 = 0xff;
 // The levels of items: 16 inside each other, and the text around them.
 const LEVELS: usize = 17;
 
-struct Printed {
-    end: usize,
-    pos: usize,
+pub struct Printed {
+    pub end: usize,
+    pub pos: usize,
 }
 
 // Whether a part that starts at a place ends behind it, and within the bytes.
@@ -122,7 +122,7 @@ fn chunk(bytes: &[u8], at: usize, text: bool, out: &mut [u8], pos: usize) -> Pri
 // THE CYCLE
 
 // The item at a place, with levels left.
-fn print_item(bytes: &[u8], at: usize, levels: usize, out: &mut [u8], pos: usize) -> Printed
+pub fn print_item(bytes: &[u8], at: usize, levels: usize, out: &mut [u8], pos: usize) -> Printed
     ensures { λ r. ⌜ PrintTold (now (bytes .entry)) (at + 1) (now (out .entry)) (now (out .exit)) pos r (mapped printItem (item levels (drop at (now (bytes .entry))))) ⌝ }
 {
     let read = head::read_head(bytes, at);

@@ -21,11 +21,12 @@ use Rattle.scanning.proofs.Marked.{tail-is}
 use Rattle.scanning.proofs.ScanCode.{peeked-yes}
 use Rattle.literal_body.specs.LiteralAnswers.{scannedBy, Scans, Put, Quotes}
 use Rattle.literal_body.specs.declared.LiteralScan.{LiteralScan}
-use Rattle.quoted.specs.QuotedAnswers.{onward, EscapesUnquoted, Part, AtPiece, AtPlain, Pieced}
-use Rattle.quoted.specs.declared.ReadEscape.{ReadEscape}
+use Rattle.escapes.specs.EscapeAnswers.{onward, EscapesUnquoted}
+use Rattle.quoted.specs.QuotedAnswers.{Part, AtPiece, AtPlain, Pieced}
+use Rattle.escapes.specs.declared.ReadEscape.{ReadEscape}
 use Rattle.quoted.specs.declared.ReadPiece.{ReadPiece}
 use Rattle.literal_body.proofs.LiteralCode.{true-false, pre-pre, ok-content, put-none, put-more}
-use Rattle.quoted.proofs.QuotedCode.{unquote-next, unquote-by, unquote-end, onward-on}
+use Rattle.escapes.proofs.EscapeCode.{unquote-next, unquote-by, unquote-end, onward-on}
 
 -- WRITING A PART
 

@@ -1,5 +1,3 @@
-pub mod Closers
-pub mod Openers
 pub mod Machine
 pub mod ReadItems
 pub mod ReadContainers

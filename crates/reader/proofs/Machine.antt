@@ -20,10 +20,11 @@ use Rattle.notation.proofs.Equations.{bind-same, bind-assoc, obey-if}
 use Rattle.token.specs.TokenAnswers.{indicatorNumber, shapeCode, codeOf, markOf}
 use Rattle.encoding.specs.ReadAnswers.{View, Held, unsaid, ofItem, ofClosed, ofPairs, followBy, followed}
 use Rattle.encoding.proofs.ReadRules.{opensBy, begin-not, begin-close, shape-low, code-some, indicatorOf, step, step-close, step-comma, step-stray, items-more, items-end, items-start, lastItem, follow-yes, follow-no, pairs-more, pairs-end, pairs-start}
-use Rattle.reader.proofs.Closers.{closing-is}
-use Rattle.reader.specs.Several.{shapeOf, isSingle, mayBeEmpty, starts, turned, counted, commaCode, colonCode, separatorCode, closerCode, seen, severalRead, added, shownBy, heldBy, lastOf, stepTo, valueRead, tailRead, onward}
-use Rattle.reader.specs.declared.closer.Closer.{Closer}
-use Rattle.reader.specs.declared.closer.Closer.the-variants.{Square, Curly, Round, Angle, Whole, Nothing}
+use Rattle.closing.proofs.Closers.{closing-is}
+use Rattle.closers.specs.CloserTables.{shapeOf, isSingle, mayBeEmpty, starts, turned, counted, commaCode, colonCode, separatorCode, closerCode, shownBy}
+use Rattle.reader.specs.Several.{seen, severalRead, added, heldBy, lastOf, stepTo, valueRead, tailRead, onward}
+use Rattle.closers.specs.declared.Closer.{Closer}
+use Rattle.closers.specs.declared.Closer.the-variants.{Square, Curly, Round, Angle, Whole, Nothing}
 
 seen-bind : {A B : Type 0} (v : B → View) (u : Result A) (f : A → List ℕ → Result B) → seen v (bind u f) ≡ bind u (λ x r. seen v (f x r))
 unfolding seen

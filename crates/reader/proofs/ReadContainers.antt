@@ -30,8 +30,8 @@ use Rattle.token.specs.TokenAnswers.{widthNumber, indicatorNumber, shapeCode, c
 use Rattle.numbers.specs.NumberAnswers.{chooseBy, chosenNumber}
 use Rattle.numbers.proofs.IndicatorCode.{choose-is}
 use Rattle.scanning.proofs.Marked.{stands-left, length-marked}
-use Rattle.leaf_reader.specs.LeafAnswers.{LeafTold}
-use Rattle.leaf_reader.specs.declared.LeafRead.{LeafRead}
+use Rattle.leaf_answer.specs.LeafAnswers.{LeafTold}
+use Rattle.leaf_answer.specs.declared.LeafRead.{LeafRead}
 use Rattle.encoding.specs.ReadAnswers.{View, Held, unsaid, noBytes, bytesOf, heldOf, Tells, ofItem, ofClosed, ofPairs, ofTagged, followBy, followed, behindOpener, taggedRead, indicatorFor, infoBy, HeadSize, HeadWritten, Room, Opened, Bracketed, Light, Heavy, Wrote, MovedOn, After, ReadTold, Finished, Ended}
 use Rattle.encoding.specs.declared.answer.MadeItem.{MadeItem as MadeS}
 use Rattle.encoding.specs.declared.answer.ReadAnswer.{ReadAnswer}
@@ -44,10 +44,11 @@ use Rattle.encoding.proofs.Telling.{bind-yes, bind-no, told-no, told-ok, told-l
 use Rattle.encoding.proofs.ReadRules.{begin-not, opensBy, follow-yes, follow-no, one-is}
 use Rattle.reader.proofs.ReadItems.{told-from}
 use Rattle.reader.specs.Several.{asSeen, seen, severalRead}
-use Rattle.reader.specs.Openings.{LevelAt, OpensAs, Bracketing, Tagging, OpeningTold, TagMade, bracketByte, OpensBare}
-use Rattle.reader.specs.declared.closer.Closer.the-variants.{Square, Curly, Round, Angle, Whole, Nothing}
-use Rattle.reader.specs.declared.opening.Opener.the-variants.{Array, Map, Tag, Embedded}
-use Rattle.reader.specs.declared.opening.Opening.{Opening}
+use Rattle.opening.specs.Openings.{OpensAs, Bracketing, Tagging, OpeningTold, bracketByte, OpensBare}
+use Rattle.reader.specs.OneItem.{LevelAt, TagMade}
+use Rattle.closers.specs.declared.Closer.the-variants.{Square, Curly, Round, Angle, Whole, Nothing}
+use Rattle.opening.specs.declared.Opener.the-variants.{Array, Map, Tag, Embedded}
+use Rattle.opening.specs.declared.Opening.{Opening}
 
 -- WHAT IS SEEN of what is read
 after-seen : {A : Type 0} (v : A → View) (s b b′ : List ℕ) (most pos : ℕ) (a : ReadAnswer) (res : Result A) → After asSeen s b b′ most pos a (seen v res) → After v s b b′ most pos a res

@@ -27,10 +27,10 @@ use Rattle.scanning.specs.ScanAnswers.{Skips}
 use Rattle.scanning.proofs.Marked.{stands-left, length-marked}
 use Rattle.token.specs.TokenAnswers.{itemCode, openCode, kindCode, beginCode, shapeCode, codeOf, markOf, beginMark, numberOf, beginNumber, Seen, Took}
 use Rattle.token.specs.declared.Token.{Token as Cut}
-use Rattle.leaf_reader.specs.LeafAnswers.{LeafTold}
-use Rattle.leaf_reader.specs.declared.LeafRead.{LeafRead}
-use Rattle.leaf_reader.specs.declared.Found.{Found}
-use Rattle.leaf_reader.specs.declared.Found.the-variants.{Leaf, Tag as TagFound, Odd, Nothing as NoLeaf}
+use Rattle.leaf_answer.specs.LeafAnswers.{LeafTold}
+use Rattle.leaf_answer.specs.declared.LeafRead.{LeafRead}
+use Rattle.leaf_answer.specs.declared.Found.{Found}
+use Rattle.leaf_answer.specs.declared.Found.the-variants.{Leaf, Tag as TagFound, Odd, Nothing as NoLeaf}
 use Rattle.encoding.specs.ReadAnswers.{View, Held, heldOf, Tells, noBytes, ofItem, ofTagged, followBy, followed, chunkedRead, behindOpener, taggedRead, indicatorFor, initialBy, Room, Opened, Bracketed, Wrote, MovedOn, After, ReadTold, Strayed, Leafed, Denies}
 use Rattle.encoding.specs.declared.answer.MadeItem.{MadeItem as MadeS}
 use Rattle.encoding.specs.declared.answer.ReadAnswer.{ReadAnswer}
@@ -40,11 +40,12 @@ use Rattle.encoding.proofs.ReadSmall.{head-short, head-some}
 use Rattle.encoding.proofs.Telling.{bind-yes, bind-no, told-ok, told-more, told-map, told-stop, token, past}
 use Rattle.encoding.proofs.ReadRules.{one-is, begin-not, shape-low, shape-shuts, opensBy, follow-yes, follow-no, code-some}
 use Rattle.string_reader.proofs.ReadStrings.{item-literal}
-use Rattle.reader.proofs.Closers.{next-cut}
-use Rattle.reader.proofs.Openers.{leaf-bytes, thirteen}
-use Rattle.reader.specs.Openings.{LevelAt, isLeaf, OpensAs, OpeningTold, Opened as LeafOpened, Flat, TagMade}
-use Rattle.reader.specs.declared.opening.Opener.the-variants.{Array, Map, Tag, Embedded, Nothing}
-use Rattle.reader.specs.declared.opening.Opening.{Opening}
+use Rattle.encoding.proofs.Cuts.{next-cut}
+use Rattle.opening.proofs.Openers.{leaf-bytes, thirteen}
+use Rattle.opening.specs.Openings.{OpensAs, OpeningTold, Opened as LeafOpened}
+use Rattle.reader.specs.OneItem.{LevelAt, isLeaf, Flat, TagMade}
+use Rattle.opening.specs.declared.Opener.the-variants.{Array, Map, Tag, Embedded, Nothing}
+use Rattle.opening.specs.declared.Opening.{Opening}
 
 -- THE SAME ANSWER
 module _ {a : ReadAnswer} where

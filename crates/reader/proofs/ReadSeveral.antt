@@ -29,14 +29,16 @@ use Rattle.encoding.specs.declared.answer.ReadAnswer.the-variants.{Made, Refuse
 use Rattle.encoding.proofs.Wrote.{wrote-nothing, wrote-more}
 use Rattle.encoding.proofs.Telling.{bind-yes, told-ok, told-lost, told-stop, Got, got, lost}
 use Rattle.encoding.proofs.ReadRules.{shape-low}
-use Rattle.reader.proofs.Closers.{shown-zero}
+use Rattle.closing.proofs.Closers.{shown-zero}
 use Rattle.reader.proofs.Machine.{to-next, to-last, to-stray, tail-is, start-is, emptyView, empty-is}
-use Rattle.reader.specs.Several.{shapeOf, isSingle, mayBeEmpty, starts, turned, counted, commaCode, colonCode, separatorCode, closerCode, asSeen, severalRead, added, shownBy, heldBy, lastOf, stepTo, tailRead, onward, StartsAt, OnAt, OverAt, StrayAt, Follows, StrayTold}
-use Rattle.reader.specs.declared.closer.Closer.{Closer}
-use Rattle.reader.specs.declared.closer.Closer.the-variants.{Square, Curly, Round, Angle, Whole, Nothing}
-use Rattle.reader.specs.declared.closer.Closing.{Closing}
-use Rattle.reader.specs.declared.closer.Follow.the-variants.{On, Over, Stray}
-use Rattle.reader.specs.declared.closer.Follower.{Follower}
+use Rattle.closers.specs.CloserTables.{shapeOf, isSingle, mayBeEmpty, starts, turned, counted, commaCode, colonCode, separatorCode, closerCode, shownBy}
+use Rattle.closing.specs.Closings.{StartsAt, OnAt, OverAt, StrayAt, Follows}
+use Rattle.reader.specs.Several.{asSeen, severalRead, added, heldBy, lastOf, stepTo, tailRead, onward, StrayTold}
+use Rattle.closers.specs.declared.Closer.{Closer}
+use Rattle.closers.specs.declared.Closer.the-variants.{Square, Curly, Round, Angle, Whole, Nothing}
+use Rattle.closing.specs.declared.Closing.{Closing}
+use Rattle.closing.specs.declared.Follow.the-variants.{On, Over, Stray}
+use Rattle.closing.specs.declared.Follower.{Follower}
 
 -- what was read before others
 unfoldable pub before : List ℕ → ℕ → View → View

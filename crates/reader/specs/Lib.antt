@@ -1,2 +1,2 @@
 pub mod Several
-pub mod Openings
+pub mod OneItem

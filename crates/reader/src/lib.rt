@@ -1,18 +1,12 @@
 // From text to the bytes of the items that it spells, in one pass. Where bytes no longer fit into the buffer it goes on without
 // writing, so that sizes stay exact.
-pub mod closer;
-pub mod opening;
-
-use crate::closer::Closer;
-use crate::closer::Follow;
-use crate::closer::counted;
-use crate::closer::first;
-use crate::closer::followed;
-use crate::closer::starts;
-use crate::closer::turned;
-use crate::opening::Opener;
-use crate::opening::opening_at;
-use crate::opening::opens_bare;
+use closers::Closer;
+use closers::counted;
+use closers::starts;
+use closers::turned;
+use closing::Follow;
+use closing::first;
+use closing::followed;
 use encoding::answer::MadeItem;
 use encoding::answer::ReadAnswer;
 use encoding::answer::done;
@@ -28,11 +22,14 @@ use encoding::major::BYTE_STRING;
 use encoding::major::ENDLESS_ARRAY;
 use encoding::major::ENDLESS_MAP;
 use encoding::major::MAP;
-use leaf_reader::Found;
-use leaf_reader::LeafRead;
+use leaf_answer::Found;
+use leaf_answer::LeafRead;
 use leaf_reader::odd_leaf;
 use leaf_reader::read_leaf;
 use leaf_reader::read_odd;
+use opening::Opener;
+use opening::opening_at;
+use opening::opens_bare;
 use refusal::Refusal;
 use refusal::RefusalKind;
 use saturating::sum;
@@ -54,7 +51,7 @@ ghost use Rattle.notation.specs.Tokens.{bracket, brace, embedding};
 ghost use Rattle.notation.specs.Form.{one, reads};
 ghost use Rattle.notation.specs.Reading.{marked, sequence};
 ghost use Rattle.encoding.specs.ReadAnswers.{behindOpener, taggedRead, indicatorFor, Room, Opened, Bracketed, ReadTold, ofItem, ofClosed, ofTagged};
-ghost use Rattle.reader.specs.Openings.{isLeaf, LevelAt, Flat, TagMade};
+ghost use Rattle.reader.specs.OneItem.{isLeaf, LevelAt, Flat, TagMade};
 ghost use Rattle.reader.specs.Several.{asSeen, severalRead, StrayTold};
 
 // Document 01's 16 levels.

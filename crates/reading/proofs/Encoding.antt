@@ -1,21 +1,15 @@
 -- Reading: what is asked of all of a text, and the bytes that were made of it.
 -- Assumes nothing.
-use Prim.Native.Nat.{ℕ, suc, _+_, _-_, _*_, _≤_, _<_, min}
+use Prim.Native.Nat.{ℕ, suc, _-_, _*_, _≤_}
 use native.Mathlib.Omega.{arith}
-use mathlib.Core.Path.{_≡_, refl, sym, ap, _∙_}
-use mathlib.Core.Bool.{Bool, true, false}
-use mathlib.Core.List.{List, [], _∷_, _++_}
-use lib.Dec.{leb, eqb}
-use lib.ListN.{length, take, drop, length-append, length-take}
-use borrow.Author.Tests.{le-leb, lt-leb, leb-true, leb-false, eq-eqb, ne-eqb}
+use mathlib.Core.Path.{_≡_, refl, sym, _∙_}
+use mathlib.Core.List.{List, [], _∷_}
+use lib.ListN.{length, take, length-append}
 use Rattle.cbor.specs.Refusals.{Result, ok, refuse, bind, accepted, refused, verdictOf}
 use Rattle.cbor.specs.Encode.{encodeAll}
 use Rattle.cbor.specs.Decode.{mostBytes}
-use Rattle.memory.specs.Buffer.{over, overIfFits as writtenAt, copied}
 use Rattle.refusal.specs.RefusalKinds.{kindNumber}
 use Rattle.refusal.specs.declared.Refusal.{Refusal}
-use Rattle.refusal.specs.declared.RefusalKind.the-variants.{NoRoom}
-use Rattle.memory.proofs.Buffer.{written-fits, copied-yes}
 use Rattle.notation.specs.Form.{Closed}
 use Rattle.notation.specs.Reading.{marked, sequence, readText}
 use Rattle.encoding.specs.ReadAnswers.{ReadTold, After, ofClosed}
@@ -23,37 +17,21 @@ use Rattle.encoding.specs.declared.answer.MadeItem.{MadeItem as MadeS}
 use Rattle.encoding.specs.declared.answer.ReadAnswer.{ReadAnswer}
 use Rattle.encoding.specs.declared.answer.ReadAnswer.the-variants.{Made as ReadMade, Refused as ReadRefused}
 use Rattle.operations.specs.Operations.{andThen, room, written, bytesOf, read}
-use Rattle.outcome.specs.Outcomes.{outcomeOf, laid, Refuses}
-use Rattle.reading.specs.ReadOutcomes.{Delivered, itemsRead, Ready, Encodes}
+use Rattle.outcome.specs.Outcomes.{outcomeOf, laid}
+use Rattle.delivery.specs.Deliveries.{Delivered}
+use Rattle.reading.specs.ReadOutcomes.{itemsRead, Ready, Encodes}
 use Rattle.text_check.specs.TextAnswers.{textTold, passing}
 use Rattle.outcome.specs.declared.Answer.{Answer}
-use Rattle.outcome.specs.declared.Answer.the-variants.{Written, Refused}
+use Rattle.outcome.specs.declared.Answer.the-variants.{Refused}
 use Rattle.text_check.specs.declared.Text.{Text}
 use Rattle.text_check.specs.declared.Text.the-variants.{Good, Refused as TextRefused}
-use Rattle.outcome.proofs.Room.{laid-room, laid-yes, laid-no, roomy-small, roomy-large}
+use Rattle.outcome.proofs.Room.{roomy-small, roomy-large}
 use Rattle.encoding.proofs.Wrote.{wrote-held}
 use Rattle.text_check.proofs.Texts.{passes, fails, passed-short}
 
 marked-length : (s : List ℕ) → length (marked s) ≡ suc (length s)
 unfolding marked
 marked-length s = omega (arith, length-append s (256 ∷ []))
-
--- WHAT WAS MADE, DELIVERED
-module _ {m : List ℕ} {n : ℕ} (b : List ℕ) {v : Bool} (f : v ≡ leb n (min (length b) 65535)) where
-  pub deliver-done : {b′ : List ℕ} → v ≡ true → b′ ≡ copied b 0 m n → Delivered m n b b′ (Written n)
-  deliver-done t e = record {
-    is = λ w x.
-        let l : n ≤ min (length b) 65535 = laid-room b f t in
-        let h : take n m ≡ w = x .held (omega arith) in
-        let k : min n (length m) ≡ n = sym (length-take n m) ∙ (ap length h ∙ sym (x .sized)) in
-        let c : copied b 0 m n ≡ over b 0 w = copied-yes b 0 m n (omega arith) ∙ (ap (writtenAt b 0) h ∙ written-fits b 0 w (omega (arith, x .sized))) in
-        rw (e, c) (laid-yes b f w (x .sized) t);
-  }
-
-  pub deliver-refused : {r : Answer} → v ≡ false → Refuses NoRoom 0 r → Delivered m n b b r
-  deliver-refused t x = record { is = λ w y. laid-no b f w (y .sized) t x }
-
-pub ruleset deliver-ways = (deliver-done, deliver-refused)
 
 -- ENCODING
 encode-yes : (s b b′ made made′ : List ℕ) (most : ℕ) {r : Answer} {a : ReadAnswer} {k : MadeS} (res : Result Closed) → sequence s ≡ res → most ≡ suc (length s) → Ready s made

@@ -9,11 +9,8 @@ use Rattle.cbor.specs.Encode.{encodeAll}
 use Rattle.cbor.specs.Decode.{mostBytes}
 use Rattle.notation.specs.Reading.{sequence}
 use Rattle.operations.specs.Operations.{andThen, fitting, written}
-use Rattle.outcome.specs.Outcomes.{outcomeOf, laid, Holds, Roomy}
+use Rattle.outcome.specs.Outcomes.{outcomeOf, Roomy}
 use Rattle.outcome.specs.declared.Answer.{Answer}
-
-pub record Delivered (m : List ℕ) (n : ℕ) (b b′ : List ℕ) (r : Answer) : Type 0 where
-  pub is : (w : List ℕ) → Holds m n w → outcomeOf r b′ ≡ laid b w
 
 -- the tokens of a text that passed, and their items
 unfoldable pub itemsRead : List ℕ → Verdict Items

@@ -1,10 +1,8 @@
 // A text in diagnostic notation as the bytes of its items, in a lent buffer.
+use delivery::deliver;
 use encoding::answer::ReadAnswer;
 use outcome::Answer;
-use outcome::fits;
-use outcome::refuse;
 use outcome::turns_for;
-use refusal::RefusalKind;
 use text_check::Text;
 use text_check::check_text;
 ghost use mathlib.Core.Path.{_≡_};
@@ -13,18 +11,7 @@ ghost use lib.ListN.{length};
 ghost use Rattle.cbor.specs.Decode.{mostBytes};
 ghost use Rattle.operations.specs.Operations.{read};
 ghost use Rattle.outcome.specs.Outcomes.{outcomeOf};
-ghost use Rattle.reading.specs.ReadOutcomes.{Ready, Delivered, Encodes};
-
-// The first `size` bytes of what was made, if that is all of them and they have room.
-fn deliver(made: &[u8], size: usize, out: &mut [u8]) -> Answer
-    ensures { λ r. ⌜ Delivered (now (made .entry)) size (now (out .entry)) (now (out .exit)) r ⌝ }
-{
-    if fits(size, out.len()) {
-        buffer::copy(made, size, out);
-        return Answer::Written(size);
-    }
-    refuse(RefusalKind::NoRoom, 0)
-}
+ghost use Rattle.reading.specs.ReadOutcomes.{Ready, Encodes};
 
 // The bytes are made in a buffer of our own: nothing is written to the lent one before it is known that all is right and has room.
 fn encode(text: &[u8], made: &mut [u8], out: &mut [u8]) -> Answer

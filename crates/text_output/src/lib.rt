@@ -231,7 +231,7 @@ fn more_at(b: u8, c: u8) -> u8
 }
 
 // How many bytes more than one a byte takes between quotes.
-fn more(b: u8) -> u8
+pub fn more(b: u8) -> u8
     ensures { λ r. ⌜ More b r ⌝ }
 {
     more_below(b) + more_at(b, b'"') + more_at(b, b'\\')
@@ -492,7 +492,7 @@ fn low_added(b: u8) -> u8
 }
 
 // A byte string in hexadecimal, for which there is room.
-fn hex_pairs(bytes: &[u8], out: &mut [u8], pos: usize) -> usize
+pub fn hex_pairs(bytes: &[u8], out: &mut [u8], pos: usize) -> usize
     requires { ⌜ pos + 2 * length (now bytes) ≤ length (now out) ⌝ }
     ensures { λ r. ⌜ Prints (now (out .entry)) (now (out .exit)) pos (contentOf false (now (bytes .entry))) r ⌝ }
 {

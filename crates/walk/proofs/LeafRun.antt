@@ -46,7 +46,7 @@ kind b e = first (eqb (b / 64) 0) refl e
     first true f e = number (eqb-true (b / 64) 0 f) (ltb-true (b % 32) 28 e)
     first false f e = second (ltb (b % 32) 24) refl e
 
-short-none : (i : ℕ) → i < 24 → 0 ≡ argumentSize i
+pub short-none : (i : ℕ) → i < 24 → 0 ≡ argumentSize i
 short-none i h = size-none i (omega arith) (omega arith) (omega arith) (omega arith)
 
 content-none : (b : ℕ) → (b / 64 ≡ 1 → ⊥) → leafContent b ≡ 0

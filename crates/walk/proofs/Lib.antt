@@ -6,3 +6,4 @@ pub mod WalkParts
 pub mod WalkCycle
 pub mod WalkItems
 pub mod LeafRun
+pub mod QuickWays

@@ -178,7 +178,7 @@ tag-told n size m j v (ok x r) h i e = ap (tagTold size m) may ∙ by (mayTag n 
 tag-told n size m j v (refuse k l) h i e = let z : _≡_ {A = ℕ} 0 1 = cc in absurd (omega arith)
 
 -- the item at the front, as the only one of several
-only-one : (d : ℕ) (s : List ℕ) → allOf 4 (suc d) (untilBy 0 1) s ≡ mapResult contents (item d s)
+pub only-one : (d : ℕ) (s : List ℕ) → allOf 4 (suc d) (untilBy 0 1) s ≡ mapResult contents (item d s)
 unfolding untilBy oneOf below
 only-one d s = all-one 4 (suc d) s
 
@@ -409,7 +409,7 @@ module _ {s : List ℕ} {h : HeadAt} (hd : Headed s h) where
               several-in (length s) d (g .head .major) z (g .head .argument) (g .rest) p (omega (arith, g .major)) (λ x. q (g .major ∙ x)) (λ x. o (g .major ∙ x))
               (e ∙ got-both g (λ n r. toldOf (length s) (allOf (h .major) d (extent z n) r)) ∙ ap (λ (m : ℕ). toldOf (length s) (allOf m d (extent z (g .head .argument)) (g .rest))) (g .major))
 
-          inside : t ≡ toldOf (length s) (allOf (h .major) (suc (d - 1)) (untilBy (modeBy (h .info)) (h .argument)) (drop (h .end) s)) → t ≡ passOf (length s) (item d s)
+          pub inside : t ≡ toldOf (length s) (allOf (h .major) (suc (d - 1)) (untilBy (modeBy (h .info)) (h .argument)) (drop (h .end) s)) → t ≡ passOf (length s) (item d s)
           inside e =
               let k : suc (d - 1) ≡ d = omega arith in
               known (several-at (g .head .size) (e ∙ (λ z. toldOf (length s) (allOf (h .major) (k z) (until-is z) (drop (h .end) s)))))

@@ -1,2 +1,3 @@
 pub mod WalkAnswers
 pub mod WalkLeaves
+pub mod QuickAnswers

@@ -1,5 +1,7 @@
 // A walk over items (RFC 8949), one behind the other and one inside the other: where each ends, or why it is refused.
 // An item walker gets a slice that starts at its item, and hands the part that starts at the next item on.
+pub mod quick;
+
 use head::HeadRead;
 use refusal::Refusal;
 use refusal::RefusalKind;
@@ -446,20 +448,13 @@ fn is_right(bytes: &[u8], at: usize, n: u8) -> bool
 // THE CYCLE
 
 // Items, one behind the other.
-pub fn elements(bytes: &[u8], mode: u8, count: u64, levels: usize) -> Passed
+fn slowly(bytes: &[u8], mode: u8, count: u64, levels: usize) -> Passed
     ensures { λ r. ⌜ passTold r ≡ toldOf (length (now (bytes .entry))) (allOf 4 (suc levels) (untilBy mode count) (now (bytes .entry))) ⌝ }
 {
     let mut at = 0;
     let mut size: usize = 0;
     let mut left = count;
     while !is_over(bytes, at, mode, left) {
-        let n = leaf_at(bytes, at);
-        if is_right(bytes, at, n) {
-            size += leaf_content(bytes[at]) as usize;
-            at += n as usize;
-            left = less(left);
-            continue;
-        }
         let part = after(at, size, one(&bytes[at..], levels));
         match part {
             Passed::Refused(e) => return Passed::Refused(e),
@@ -524,7 +519,7 @@ fn behind(bytes: &[u8], major: u8, info: u8, argument: u64, end: usize, levels: 
         return after(
             end,
             0,
-            elements(&bytes[end..], mode_of(info), argument, levels - 1),
+            slowly(&bytes[end..], mode_of(info), argument, levels - 1),
         );
     }
     map(bytes, end, mode_of(info), argument, levels - 1)
@@ -535,7 +530,7 @@ fn tag(bytes: &[u8], from: usize, n: u64, levels: usize) -> Passed
     requires { ⌜ Within (now bytes) from ⌝ }
     ensures { λ r. ⌜ passTold r ≡ toldOf (length (now (bytes .entry))) (tagOf n levels (length (now (bytes .entry))) (drop from (now (bytes .entry)))) ⌝ }
 {
-    let inner = after(from, 0, elements(&bytes[from..], COUNTED, 1, levels));
+    let inner = after(from, 0, slowly(&bytes[from..], COUNTED, 1, levels));
     match inner {
         Passed::Refused(e) => Passed::Refused(e),
         Passed::Span(m) => {
@@ -554,11 +549,7 @@ fn map(bytes: &[u8], from: usize, mode: u8, count: u64, levels: usize) -> Passed
 {
     if mode == COUNTED {
         if count <= 0xffff_ffff {
-            return after(
-                from,
-                0,
-                elements(&bytes[from..], COUNTED, count * 2, levels),
-            );
+            return after(from, 0, slowly(&bytes[from..], COUNTED, count * 2, levels));
         }
     }
     after(from, 0, several(&bytes[from..], mode, count, 5, levels))
@@ -592,12 +583,23 @@ fn other(bytes: &[u8], major: u8, levels: usize) -> Passed
     ensures { λ r. ⌜ passTold r ≡ toldOf (length (now (bytes .entry))) (oneOf major (suc levels) (now (bytes .entry))) ⌝ }
 {
     if major == 5 {
-        return elements(bytes, COUNTED, 2, levels);
+        return slowly(bytes, COUNTED, 2, levels);
     }
     chunk(bytes, major == 3)
 }
 
 // THE WHOLE
+
+// Items, one behind the other: by the quick way, if that passes over them, else by the whole way, which tells a refusal.
+pub fn elements(bytes: &[u8], mode: u8, count: u64, levels: usize) -> Passed
+    ensures { λ r. ⌜ passTold r ≡ toldOf (length (now (bytes .entry))) (allOf 4 (suc levels) (untilBy mode count) (now (bytes .entry))) ⌝ }
+{
+    let r = quick::passed(bytes, mode, count, levels);
+    if r == quick::UNKNOWN {
+        return slowly(bytes, mode, count, levels);
+    }
+    reached(quick::end_in(r), quick::size_in(r))
+}
 
 // The item at the front, with levels left.
 pub fn item(bytes: &[u8], levels: usize) -> Walked

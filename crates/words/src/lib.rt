@@ -131,6 +131,13 @@ fn plain_decimal(text: &[u8], from: usize, end: usize) -> bool
     b'1' <= text[from]
 }
 
+// The simple values are two stretches of numbers (RFC 8949, section 3.3).
+const LAST_LOW: u64 = 23;
+
+const FIRST_HIGH: u64 = 32;
+
+const LAST_HIGH: u64 = 255;
+
 fn is_simple(a: Amount) -> bool
     ensures { λ r. ⌜ Simples a r ⌝ }
 {
@@ -139,13 +146,13 @@ fn is_simple(a: Amount) -> bool
     if over {
         return false;
     }
-    if value <= 23 {
+    if value <= LAST_LOW {
         return true;
     }
-    if value < 32 {
+    if value < FIRST_HIGH {
         return false;
     }
-    value <= 255
+    value <= LAST_HIGH
 }
 
 // The digits in `simple(..)`.

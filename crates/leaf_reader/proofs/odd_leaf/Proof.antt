@@ -1,7 +1,7 @@
 -- `leaf_reader::odd_leaf` meets its contract.
 -- Assumes nothing.
 use borrow.Author.Needs.{needs}
-use Rattle.leaf_reader.proofs.LeafCode.{leaf-none}
+use Rattle.leaf_answer.proofs.LeafCode.{leaf-none}
 use Rattle.leaf_reader.proofs.odd_leaf.Statement.{statement}
 use Rattle.leaf_reader.proofs.odd_leaf.Tie as tie
 

@@ -1,10 +1,10 @@
 -- `leaf_reader::read_leaf` meets its contract.
 -- Assumes nothing.
 use borrow.Author.Needs.{needs}
-use Rattle.leaf_reader.proofs.LeafCode.{leaf-none, leaf-odd}
+use Rattle.leaf_answer.proofs.LeafCode.{leaf-none, leaf-odd}
 use Rattle.leaf_reader.proofs.read_leaf.Statement.{statement}
 use Rattle.leaf_reader.proofs.read_leaf.Tie as tie
-use Rattle.leaf_reader.proofs.StringCode.{quoted-at, hex-at}
+use Rattle.leaf_reader.proofs.StartCode.{quoted-at, hex-at}
 
 pub read-leaf-spec : {M : Type 1} → statement M
 read-leaf-spec =

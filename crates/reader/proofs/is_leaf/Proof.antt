@@ -3,7 +3,7 @@
 use borrow.Author.Needs.{needs}
 use Rattle.reader.proofs.is_leaf.Statement.{statement}
 use Rattle.reader.proofs.is_leaf.Tie as tie
-use Rattle.reader.specs.Openings.{isLeaf}
+use Rattle.reader.specs.OneItem.{isLeaf}
 
 pub is-leaf-spec : {M : Type 1} → statement M
 unfolding isLeaf

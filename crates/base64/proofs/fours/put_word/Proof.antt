@@ -1,25 +1,23 @@
 -- `base64::fours::put_word` meets its contract.
 -- Assumes nothing.
+use borrow.Author.Needs.{needs}
 use Rattle.base64.proofs.fours.put_word.Statement.{statement}
 use Rattle.base64.proofs.fours.put_word.Tie as tie
 use Rattle.base64.proofs.WordCode.{word-fits, word-ways}
-use borrow.Author.Needs.{needs}
 
 pub put-word-spec : {M : Type 1} → statement M
 put-word-spec =
     tie.close (tie.spec
     (λ c. search word-ways)  -- returns
-    (λ c. search needs)  -- sub-if2
-    (λ c. search word-ways)  -- returns-2
     (λ c. search needs)  -- cast-out
     (λ c. search (word-fits, needs))  -- slice-write-out
     (λ c. search needs)  -- cast-out-2
-    (λ c. search needs)  -- add-out
+    (λ c. search (word-fits, needs))  -- add-out
     (λ c. search (word-fits, needs))  -- slice-write-out-2
     (λ c. search needs)  -- cast-out-3
-    (λ c. search needs)  -- add-out-2
+    (λ c. search (word-fits, needs))  -- add-out-2
     (λ c. search (word-fits, needs))  -- slice-write-out-3
-    (λ c. search needs)  -- add-result
+    (λ c. search (word-fits, needs))  -- add-result
     (λ c. search needs)  -- same-length
-    (λ c. search word-ways)  -- returns-3
+    (λ c. search word-ways)  -- returns-2
     )

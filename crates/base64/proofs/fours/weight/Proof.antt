@@ -1,12 +1,12 @@
 -- `base64::fours::weight` meets its contract.
 -- Assumes nothing.
+use borrow.Author.Needs.{needs}
 use Rattle.base64.proofs.fours.weight.Statement.{statement}
 use Rattle.base64.proofs.fours.weight.Tie as tie
 use Rattle.cbor.specs.Utf8.{isIn}
 use Rattle.notation.specs.Literals.{sextetAt}
 use Rattle.base64.specs.Base64Answers.{sextetWeight}
 use Rattle.base64.proofs.WordCode.{weighs, weight-ways}
-use borrow.Author.Needs.{needs}
 
 pub weight-spec : {M : Type 1} → statement M
 unfolding weighs sextetWeight sextetAt isIn
@@ -123,5 +123,4 @@ weight-spec =
     (λ c. search (weight-ways, needs))  -- returns-109
     (λ c. search (weight-ways, needs))  -- returns-110
     (λ c. search (weight-ways, needs))  -- returns-111
-    (λ c. search (weight-ways, needs))  -- returns-112
     )

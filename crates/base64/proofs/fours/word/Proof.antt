@@ -17,8 +17,9 @@ word-spec =
     tie.close (tie.spec Inv-loop μ-loop
     (λ c. search weighed-start)  -- loop-holds
     (λ c. search weighed-high)  -- mul-w
-    (λ c. search needs)  -- add-weight
-    (λ c. search needs)  -- shared-slice-read-weight
+    (λ c. search needs)  -- add-row-of
+    (λ c. search needs)  -- shared-slice-read-row-of
+    (λ c κs. search needs)  -- row-of-requires
     (λ c κs. search needs)  -- weight-requires
     (λ c. search weighed-sum)  -- add-w
     (λ c. search needs)  -- add-k

@@ -11,13 +11,12 @@ past-items-spec =
     (λ c κs. search needs)  -- is-over-requires
     (λ c κs. search needs)  -- past-requires
     (λ c. search (pass-ways, c .before .before .before .shared-slice-known .given))  -- returns
-    (λ c. search needs)  -- sub-elements
-    (λ c. search needs)  -- part-elements-start
-    (λ c. search needs)  -- part-elements-end
-    (λ c κs. search needs)  -- elements-requires
-    (λ c κs. search needs)  -- after-requires
-    (λ c. search needs)  -- enum-known-part
-    (λ c. search needs)  -- enum-known-part-2
-    (λ c. search (pass-ways, c .before .before .before .before .before .before .before .before .shared-slice-known .given))  -- returns-2
-    (λ c. search (pass-ways, c .before .before .before .before .before .before .before .before .shared-slice-known .given))  -- returns-3
+    (λ c. search needs)  -- sub-passed
+    (λ c. search needs)  -- part-passed-start
+    (λ c. search needs)  -- part-passed-end
+    (λ c κs. search needs)  -- passed-requires
+    (λ c. search (pass-ways, c .before .before .before .before .before .shared-slice-known .given))  -- returns-2
+    (λ c κs. search needs)  -- end-in-requires
+    (λ c. search needs)  -- add-result
+    (λ c. search (pass-ways, c .before .before .before .before .before .before .shared-slice-known .given))  -- returns-3
     )

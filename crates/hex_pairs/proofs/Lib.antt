@@ -1,0 +1,2 @@
+pub mod DigitCode
+pub mod PairsCode

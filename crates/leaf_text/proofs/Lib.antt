@@ -1,0 +1,5 @@
+pub mod LayCode
+pub mod LeafCode
+pub mod KindCode
+pub mod IntegerCode
+pub mod StringCode

@@ -1,0 +1,203 @@
+-- Short strings and words.
+-- Assumes nothing.
+use mathlib.Core.Path.{_≡_, refl, sym, ap, _∙_}
+use mathlib.Core.Bool.{Bool, true, false}
+use mathlib.Core.List.{List, [], _∷_, _++_, append-nil}
+use Prim.Native.Nat.{ℕ, zero, suc, _+_, _-_, _*_, _/_, _%_, _^_, _≤_, _<_, min}
+use native.Mathlib.Omega.{arith}
+use lib.Dec.{eqb, ltb}
+use lib.ListN.{length, take, drop, getD, length-take, length-drop, take-append-drop}
+use lib.Seq.{take-all, take-take, take-add, getD-take, getD-drop, drop-drop}
+use mir.Syntax.{w8 as bits8}
+use mir.Val.{Fits}
+use borrow.Author.Count.{below-more}
+use borrow.Author.Tests.{le-leb, eq-eqb}
+use Rattle.cbor.specs.Ascii.{ascii}
+use Rattle.cbor.specs.Refusals.{Result, ok, refuse, bind}
+use Rattle.cbor.specs.Widths.{w0, argumentBytes, valueFrom}
+use Rattle.cbor.specs.Items.{Kind, byteString, textString, string, simple, definite}
+use Rattle.cbor.specs.Heads.{Major, strings, simples, majorOf, isFloat, isAllowed, started, taking}
+use Rattle.cbor.specs.Utf8.{isUtf8, firstBad}
+use Rattle.cbor.specs.Valid.{isText}
+use Rattle.cbor.specs.Decode.{contentAt, itemBy, item}
+use Rattle.cbor.proofs.DecodeEncode.{enterAt}
+use Rattle.memory.specs.Buffer.{copied}
+use Rattle.memory.proofs.Buffer.{copied-yes, length-part}
+use Rattle.notation.specs.Printing.{escapeOf, escapedOf, hexByteOf, hexOf, indicatorOf, printString, printSimple, printItem}
+use Rattle.utf8.proofs.Runs.{ascii-good}
+use Rattle.text_output.specs.PrintParts.{Prints, contentOf}
+use Rattle.text_output.specs.Runs.{More, AllPlain}
+use Rattle.text_output.proofs.PrintLeaves.{hex-append}
+use Rattle.text_output.proofs.PlainRuns.{content-plain}
+use Rattle.leaf_text.specs.Laying.{Laid}
+use Rattle.leaf_text.specs.LeafKinds.{KindOf}
+use Rattle.leaf_text.specs.LeafTexts.{Room, LeafTold, High, Stop, Stops, quotedHex}
+use Rattle.leaf_text.specs.declared.Written.{Written}
+use Rattle.leaf_text.specs.declared.kind.Kind.the-variants.{Bytes, Text, False, True, Null}
+use Rattle.leaf_text.proofs.LayCode.{laid-written, laid-prints, laid-more, laid-as, laid-front}
+use Rattle.leaf_text.proofs.KindCode.{bytes-is, text-is, false-is, true-is, null-is}
+use Rattle.leaf_text.proofs.LeafCode.{low-information, indicator-none, shortest-0, item-plain, told-leaf}
+
+-- BLOCKS
+
+pub high-no : {b : ℕ} → b < 0x80 → High b 0
+high-no h = record { is = λ e. h; small = omega arith }
+
+pub high-yes : {b : ℕ} → High b 1
+high-yes = record { is = λ e. absurd (omega arith); small = omega arith }
+
+pub ruleset high-ways = (high-no, high-yes)
+
+module _ {b x y : ℕ} (m : More b x) (h : High b y) where
+  pub stop-fits : Fits bits8 (x + y)
+  stop-fits = record { fits = omega (arith, m .small, h .small) }
+
+  pub stop-none : {i : ℕ} → x + y ≡ 0 → Stop b i 32
+  stop-none e = record { is = λ l. (h .is (omega arith), omega (arith, m .is)); most = omega arith }
+
+pub stop-some : {b i : ℕ} → i ≤ 32 → Stop b i i
+stop-some h = record { is = λ l. absurd (omega arith); most = h }
+
+pub ruleset stop-ways = (stop-none, stop-some)
+
+pub stops-start : {s : List ℕ} {from : ℕ} → Stops s from 0 32
+stops-start = record { is = λ j a b. absurd (omega arith); most = omega arith }
+
+pub stops-on : {s : List ℕ} {from i r : ℕ} → Stops s from i r → {x k : ℕ} → Stop (getD s (from + i) 0) i x → k ≡ min r x → Stops s from (i + 1) k
+stops-on {s} {from} {i} {r} inv {x} {k} w e =
+    record {
+      is = λ j a. below-more (λ j. j < k → (getD s (from + j) 0 < 0x80) × (length (escapeOf (getD s (from + j) 0)) ≡ 1)) i (λ j a b. inv .is j a (omega arith)) (λ b. w .is (omega arith)) j a;
+      most = omega (arith, inv .most);
+    }
+
+pub stops-end : {s : List ℕ} {from i r : ℕ} → Stops s from i r → 32 ≤ i → Stops s from 32 r
+stops-end inv h = record { is = λ j a b. inv .is j (omega arith) b; most = inv .most }
+
+-- STRINGS
+
+content-good : (k : Kind) (n left : ℕ) (x : List ℕ) → n ≤ length x → isText k (take n x) ≡ true → contentAt k n left x ≡ ok (take n x) (drop n x)
+unfolding contentAt taking bind
+content-good k n left x h t = rw (le-leb n (length x) h, contentAt, taking, bind) (rw t)
+
+module _ (s : List ℕ) (at : ℕ) (h : at + 33 ≤ length s) where
+  length-content : (n : ℕ) → n ≤ 32 → length (take n (drop (at + 1) s)) ≡ n
+  length-content n l = length-part s (at + 1) n (omega arith)
+
+  string-item : (k : Kind) → majorOf (getD s at 0 / 32) ≡ strings k → getD s at 0 % 32 < 24 → isText k (take (getD s at 0 % 32) (drop (at + 1) s)) ≡ true
+      → (d : ℕ) → item d (drop at s) ≡ ok (string k w0 (take (getD s at 0 % 32) (drop (at + 1) s))) (drop (at + 1 + getD s at 0 % 32) s)
+  unfolding itemBy isFloat isAllowed argumentBytes started valueFrom bind
+  string-item k m l t d =
+      let n = getD s at 0 % 32 in
+      let z : at + 1 + 0 ≡ at + 1 = omega arith in
+      let i : n ≤ length (drop (at + 1) s) = omega (arith, length-drop (at + 1) s) in
+      item-plain s at w0 (omega arith) (low-information n l) (ap (λ (x : Major). isFloat x w0) m) (ap (λ (x : Major). isAllowed x w0 n) m) d
+      ∙ (λ j. itemBy (enterAt d) (m j) (definite w0) n (length (drop at s)) (drop (z j) s))
+      ∙ ap (λ (res : Result (List ℕ)). bind res (λ b r′. ok (string k w0 b) r′)) (content-good k n (length (drop at s)) (drop (at + 1) s) i t) ∙ ap (λ (r : List ℕ). ok (string k w0 (take n (drop (at + 1) s))) r) (drop-drop n (at + 1) s)
+
+hex-length : (s : List ℕ) → length (hexOf s) ≡ 2 * length s
+unfolding hexOf hexByteOf
+hex-length [] = refl
+hex-length (b ∷ s) = let e = hex-length s in omega arith
+
+-- the digits of a front
+front-of : (n k : ℕ) (x : List ℕ) → n ≤ k → take n x ++ drop n (take k x) ≡ take k x
+front-of n k x h = ap (λ (y : List ℕ). y ++ drop n (take k x)) (sym (take-take n k x h)) ∙ take-append-drop n (take k x)
+
+hex-front : {b b′ : List ℕ} {pos : ℕ} (n k : ℕ) (x : List ℕ) {r : ℕ} → n ≤ k → length (take n x) ≡ n → Laid b b′ pos (hexOf (take k x)) r → Laid b b′ pos (hexOf (take n x)) (pos + 2 * n)
+hex-front {b} {b′} {pos} n k x h l y =
+    let e = ap hexOf (sym (front-of n k x h)) ∙ hex-append (take n x) (drop n (take k x)) in
+    let z : pos + length (hexOf (take n x)) ≡ pos + 2 * n = omega (arith, hex-length (take n x)) in
+    rw z at (laid-front (hexOf (take n x)) (hexOf (drop n (take k x))) (laid-as y e))
+
+module _ (s : List ℕ) where
+  half-laid : (at to : ℕ) {b b₁ : List ℕ} {pos r : ℕ} → length b * 1 < 2 ^ 63 → pos + 32 ≤ length b → to ≡ at + 16 → to ≤ length s → Prints b b₁ pos (contentOf false (take (to - at) (drop at s))) r
+      → Laid b b₁ pos (hexOf (take 16 (drop at s))) (pos + 32)
+  unfolding contentOf
+  half-laid at to {b} {b₁} {pos} {r} u l e t p =
+      let z : to - at ≡ 16 = omega arith in
+      let m = length-part s at 16 (omega arith) in
+      let g = hex-length (take 16 (drop at s)) in
+      let p′ : Prints b b₁ pos (hexOf (take 16 (drop at s))) r = rw z at p in
+      let q : r ≡ pos + 32 = omega (arith, p′ .next) in
+      rw q at (laid-prints u (omega arith) p′)
+
+module _ (s : List ℕ) (from : ℕ) (h : from + 32 ≤ length s) {b b₁ : List ℕ} {pos : ℕ} (i : pos + 64 ≤ length b) (u : length b * 1 < 2 ^ 63) where
+  pub half-told : {n r : ℕ} → n ≤ 16 → Prints b b₁ pos (contentOf false (take (from + 16 - from) (drop from s))) r → Laid b b₁ pos (hexOf (take n (drop from s))) (pos + 2 * n)
+  half-told {n} l p = hex-front n 16 (drop from s) l (length-part s from n (omega arith)) (half-laid s from (from + 16) u (omega arith) refl (omega arith) p)
+
+  pub whole-told : {b₂ : List ℕ} {n r r′ : ℕ} → n ≤ 32 → Prints b b₁ pos (contentOf false (take (from + 16 - from) (drop from s))) r
+      → Prints b₁ b₂ (pos + 32) (contentOf false (take (from + 32 - (from + 16)) (drop (from + 16) s))) r′ → Laid b b₂ pos (hexOf (take n (drop from s))) (pos + 2 * n)
+  whole-told {b₂} {n} l p q =
+      let x = drop from s in
+      let e : hexOf (take 16 x) ++ hexOf (take 16 (drop (from + 16) s)) ≡ hexOf (take 32 x)
+      = ap (λ (y : List ℕ). hexOf (take 16 x) ++ hexOf (take 16 y)) (sym (drop-drop 16 from s)) ∙ sym (hex-append (take 16 x) (take 16 (drop 16 x))) ∙ ap hexOf (sym (take-add 16 16 x)) in
+      let v = p .same in
+      hex-front n 32 x l (length-part s from n (omega arith))
+      (laid-as (laid-more (half-laid s from (from + 16) u (omega arith) refl (omega arith) p) (half-laid s (from + 16) (from + 32) (omega arith) (omega arith) (omega arith) (omega arith) q)) e)
+
+pub ruleset digits-ways = (half-told, whole-told)
+
+pub quoted-laid : (x : List ℕ) {b b₁ b₂ b₃ b₄ : List ℕ} {pos p q e o : ℕ} → Laid b b₁ pos (0x68 ∷ []) p → Laid b₁ b₂ p (0x27 ∷ []) q → Laid b₂ b₃ q (hexOf x) e → Laid b₃ b₄ e (0x27 ∷ []) o → Laid b b₄ pos (quotedHex x) o
+unfolding quotedHex
+quoted-laid x y z u v = laid-more y (laid-more z (laid-more u v))
+
+module _ {s : List ℕ} {at : ℕ} {b b₁ : List ℕ} {pos q : ℕ} (rm : Room s at b pos) where
+  pub bytes-told : KindOf (getD s at 0) Bytes → Laid b b₁ pos (quotedHex (take (getD s at 0 % 32) (drop (at + 1) s))) q → {r : Written} → r ≡ record { end = at + 1 + getD s at 0 % 32; pos = q } → LeafTold s at b b₁ pos r
+  unfolding printItem printString isText majorOf quotedHex
+  bytes-told k x e =
+      let f = bytes-is k in
+      let n = getD s at 0 % 32 in
+      let c = take n (drop (at + 1) s) in
+      let l = length-content s at (rm .block) n (omega arith) in
+      let i : indicatorOf w0 (length c) ≡ [] = indicator-none w0 (length c) (shortest-0 (length c) (omega arith)) in
+      rw e (told-leaf (string byteString w0 c) (string-item s at (rm .block) byteString (ap majorOf (f .0)) (f .1) refl) (omega (arith, rm .block))
+      (laid-as x (ap (λ (t : List ℕ). ascii "h'" ++ (hexOf c ++ (0x27 ∷ t))) (sym i))))
+
+  pub text-told : {b₂ b₃ : List ℕ} {p : ℕ} → KindOf (getD s at 0) Text → {x : ℕ} → Stops s (at + 1) 32 x → getD s at 0 % 32 ≤ x → Laid b b₁ pos (0x22 ∷ []) p → b₂ ≡ copied b₁ p (take (length s - (at + 1)) (drop (at + 1) s)) 32
+      → Laid b₂ b₃ (p + getD s at 0 % 32) (0x22 ∷ []) q → {r : Written} → r ≡ record { end = at + 1 + getD s at 0 % 32; pos = q } → LeafTold s at b b₃ pos r
+  unfolding printItem printString isText isUtf8 majorOf contentOf
+  text-told {b₂} {b₃} {p} k {x} st hx y g v e =
+      let f = text-is k in
+      let n = getD s at 0 % 32 in
+      let t = drop (at + 1) s in
+      let c = take n t in
+      let l = length-content s at (rm .block) n (omega arith) in
+      let tail : take (length s - (at + 1)) t ≡ t = take-all (length s - (at + 1)) t (omega (arith, length-drop (at + 1) s)) in
+      let byte : (j : ℕ) → j < length c → (getD c j 0 < 0x80) × (length (escapeOf (getD c j 0)) ≡ 1) = λ j a.
+      let ge : getD c j 0 ≡ getD s (at + 1 + j) 0 = getD-take n t j 0 (omega arith) ∙ getD-drop (at + 1) s j 0 in
+      let w = st .is j (omega arith) (omega arith) in
+      rw ge w in
+      let good = ascii-good c (λ j a. byte j a .0) in
+      let plain : AllPlain c = record { is = λ j a. byte j a .1 } in
+      let i : indicatorOf w0 (length c) ≡ [] = indicator-none w0 (length c) (shortest-0 (length c) (omega arith)) in
+      let whole = laid-written b₁ p (take 32 t) (omega (arith, y .next, y .same, rm .space, length-content s at (rm .block) 32 (omega arith)))
+      (g ∙ ap (λ (u : List ℕ). copied b₁ p u 32) tail ∙ copied-yes b₁ p t 32 (omega (arith, length-drop (at + 1) s, rm .block))) in
+      let z : p + length c ≡ p + n = omega arith in
+      let mid : Laid b₁ b₂ p c (p + n) = rw z at (laid-front c (drop n (take 32 t)) (laid-as whole (sym (front-of n 32 t (omega arith))))) in
+      rw e (told-leaf (string textString w0 c) (string-item s at (rm .block) textString (ap majorOf (f .0)) (f .1) (eq-eqb (firstBad c) (length c) (sym good))) (omega (arith, rm .block))
+      (laid-as (laid-more y (laid-more mid v)) (λ j. 0x22 ∷ (content-plain plain j ++ (0x22 ∷ sym i j)))))
+
+-- WORDS
+
+module _ {s : List ℕ} {at : ℕ} {b b₁ : List ℕ} {pos q : ℕ} (rm : Room s at b pos) where
+  word-told : (v : ℕ) → v < 24 → getD s at 0 ≡ 0xe0 + v → Laid b b₁ pos (printSimple v) q → LeafTold s at b b₁ pos (record { end = at + 1; pos = q })
+  unfolding itemBy isFloat isAllowed argumentBytes started valueFrom printItem majorOf
+  word-told v h e x =
+      let n : getD s at 0 % 32 ≡ v = omega arith in
+      let m : majorOf (getD s at 0 / 32) ≡ simples = let z : getD s at 0 / 32 ≡ 7 = omega arith in ap majorOf z in
+      let z : at + 1 + 0 ≡ at + 1 = omega arith in
+      told-leaf (simple v) (λ d.
+      item-plain s at w0 (omega (arith, rm .block)) (low-information (getD s at 0 % 32) (omega arith)) (ap (λ (y : Major). isFloat y w0) m) (ap (λ (y : Major). isAllowed y w0 (getD s at 0 % 32)) m) d
+      ∙ (λ j. itemBy (enterAt d) (m j) (definite w0) (n j) (length (drop at s)) (drop (z j) s))) (omega (arith, rm .block)) x
+
+  pub false-told : KindOf (getD s at 0) False → Laid b b₁ pos (0x66 ∷ 0x61 ∷ 0x6c ∷ 0x73 ∷ 0x65 ∷ []) q → {r : Written} → r ≡ record { end = at + 1; pos = q } → LeafTold s at b b₁ pos r
+  unfolding printSimple
+  false-told k x e = rw e (word-told 20 (omega arith) (false-is k) x)
+
+  pub true-told : KindOf (getD s at 0) True → Laid b b₁ pos (0x74 ∷ 0x72 ∷ 0x75 ∷ 0x65 ∷ []) q → {r : Written} → r ≡ record { end = at + 1; pos = q } → LeafTold s at b b₁ pos r
+  unfolding printSimple
+  true-told k x e = rw e (word-told 21 (omega arith) (true-is k) x)
+
+  pub null-told : KindOf (getD s at 0) Null → Laid b b₁ pos (0x6e ∷ 0x75 ∷ 0x6c ∷ 0x6c ∷ []) q → {r : Written} → r ≡ record { end = at + 1; pos = q } → LeafTold s at b b₁ pos r
+  unfolding printSimple
+  null-told k x e = rw e (word-told 22 (omega arith) (null-is k) x)

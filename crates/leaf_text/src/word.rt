@@ -1,0 +1,31 @@
+// Words, letter by letter.
+ghost use mathlib.Core.List.{[], _∷_};
+ghost use Prim.Native.Nat.{_+_, _<_, _≤_};
+ghost use lib.ListN.{length};
+ghost use Rattle.leaf_text.specs.Laying.{Laid};
+
+pub fn put(v: u8, out: &mut [u8], pos: usize) -> usize
+    requires { ⌜ pos < length (now out) ⌝ }
+    ensures { λ r. ⌜ Laid (now (out .entry)) (now (out .exit)) pos (v ∷ []) r ⌝ }
+{
+    out[pos] = v;
+    pos + 1
+}
+
+pub(crate) fn four_letters(a: u8, b: u8, c: u8, d: u8, out: &mut [u8], pos: usize) -> usize
+    requires { ⌜ pos + 4 ≤ length (now out) ⌝ }
+    ensures { λ r. ⌜ Laid (now (out .entry)) (now (out .exit)) pos (a ∷ b ∷ c ∷ d ∷ []) r ⌝ }
+{
+    let p = put(a, out, pos);
+    let q = put(b, out, p);
+    let e = put(c, out, q);
+    put(d, out, e)
+}
+
+pub(crate) fn five_letters(a: u8, b: u8, c: u8, d: u8, e: u8, out: &mut [u8], pos: usize) -> usize
+    requires { ⌜ pos + 5 ≤ length (now out) ⌝ }
+    ensures { λ r. ⌜ Laid (now (out .entry)) (now (out .exit)) pos (a ∷ b ∷ c ∷ d ∷ e ∷ []) r ⌝ }
+{
+    let p = four_letters(a, b, c, d, out, pos);
+    put(e, out, p)
+}

@@ -1,0 +1,17 @@
+use borrow.Author.Needs.{needs}
+use Rattle.one_pass.proofs.PartCode.{closed-ways}
+use Rattle.one_pass.proofs.parts.closed.Statement.{statement}
+use Rattle.one_pass.proofs.parts.closed.Tie as tie
+
+pub closed-spec : {M : Type 1} → statement M
+closed-spec =
+    tie.close (tie.spec
+    (λ c κs. search needs)  -- none-requires
+    (λ c. search closed-ways)  -- returns
+    (λ c κs. search needs)  -- none-requires-2
+    (λ c. search closed-ways)  -- returns-2
+    (λ c κs. search needs)  -- put-requires
+    (λ c κs. search needs)  -- up-to-requires
+    (λ c. search needs)  -- same-length
+    (λ c. search closed-ways)  -- returns-3
+    )

@@ -1,0 +1,12 @@
+use Rattle.one_pass.proofs.parts.comma.Statement.{statement}
+use Rattle.one_pass.proofs.parts.comma.Tie as tie
+use borrow.Author.Needs.{needs}
+use Rattle.one_pass.proofs.PartCode.{comma-ways}
+
+pub comma-spec : {M : Type 1} → statement M
+comma-spec =
+    tie.close (tie.spec
+    (λ c. search comma-ways)  -- returns
+    (λ c. search comma-ways)  -- returns-2
+    (λ c. search comma-ways)  -- returns-3
+    )

@@ -1,0 +1,11 @@
+use borrow.Author.Needs.{needs}
+use Rattle.one_pass.proofs.PartCode.{string-ways}
+use Rattle.one_pass.proofs.parts.is_short_string.Statement.{statement}
+use Rattle.one_pass.proofs.parts.is_short_string.Tie as tie
+
+pub is-short-string-spec : {M : Type 1} → statement M
+is-short-string-spec =
+    tie.close (tie.spec
+    (λ c. search string-ways)  -- returns
+    (λ c. search string-ways)  -- returns-2
+    )

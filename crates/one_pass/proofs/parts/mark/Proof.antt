@@ -1,0 +1,19 @@
+use borrow.Author.Needs.{needs}
+use Rattle.printer.proofs.PrintBounds.{size-length}
+use Rattle.one_pass.proofs.PartCode.{mark-none, mark-open, mark-wide}
+use Rattle.one_pass.proofs.parts.mark.Statement.{statement}
+use Rattle.one_pass.proofs.parts.mark.Tie as tie
+
+pub mark-spec : {M : Type 1} → statement M
+mark-spec =
+    tie.close (tie.spec
+    (λ c. search needs)  -- cast-if2
+    (λ c. search mark-none)  -- returns
+    (λ c κs. search needs)  -- put-requires
+    (λ c κs. search needs)  -- put-requires-2
+    (λ c. search needs)  -- same-length
+    (λ c. search mark-open)  -- returns-2
+    (λ c κs. search needs)  -- size-mark-requires
+    (λ c. search needs)  -- same-length-2
+    (λ c. search (mark-wide, size-length))  -- returns-3
+    )

@@ -1,0 +1,2 @@
+pub mod IntegerCode
+pub mod WordCode

@@ -1,0 +1,2 @@
+pub mod BlockCode
+pub mod StringCode

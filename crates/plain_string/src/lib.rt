@@ -1,0 +1,3 @@
+// String literals as they are mostly written.
+mod block;
+pub mod string;

@@ -1,0 +1,56 @@
+// The lines that the programs write.
+use refusal::Refusal;
+ghost use mathlib.Core.Path.{_≡_};
+ghost use lib.ListN.{take};
+ghost use Rattle.refusal.specs.RefusalKinds.{kindNumber};
+ghost use Rattle.text_output.specs.PrintParts.{Prints};
+ghost use Rattle.operations.specs.Programs.{acceptedLine, acceptedLines, atPlace, refusedLine};
+ghost use Rattle.report_lines.specs.Reports.{Reports};
+
+// `accepted N`.
+fn accepted_line(n: u64, out: &mut [u8]) -> usize
+    ensures { λ r. ⌜ Prints (now (out .entry)) (now (out .exit)) 0 (acceptedLine n) r ⌝ }
+{
+    let p = text_output::put_all(b"accepted ", out, 0);
+    let q = text_output::decimal(n, out, p);
+    text_output::put(out, q, 0x0a)
+}
+
+// The same, and the bytes in hexadecimal.
+pub fn accepted(bytes: &[u8], out: &mut [u8]) -> usize
+    ensures { λ r. ⌜ Prints (now (out .entry)) (now (out .exit)) 0 (acceptedLines (now (bytes .entry))) r ⌝ }
+{
+    let p = accepted_line(bytes.len() as u64, out);
+    let q = text_output::content(bytes, false, out, p);
+    text_output::put(out, q, 0x0a)
+}
+
+// ` at P`.
+fn at_place(place: usize, out: &mut [u8], pos: usize) -> usize
+    ensures { λ r. ⌜ Prints (now (out .entry)) (now (out .exit)) pos (atPlace place) r ⌝ }
+{
+    let p = text_output::put_all(b" at ", out, pos);
+    let q = text_output::decimal(place as u64, out, p);
+    text_output::put(out, q, 0x0a)
+}
+
+// `refused C at P`.
+pub fn refused(e: Refusal, out: &mut [u8]) -> usize
+    ensures { λ r. ⌜ Reports (now (out .entry)) (now (out .exit)) (refusedLine (kindNumber (e .kind)) (e .place)) r ⌝ }
+{
+    let kind = e.kind;
+    let n = refusal::number(kind) as u64;
+    let p = text_output::put_all(b"refused ", out, 0);
+    let q = text_output::decimal(n, out, p);
+    at_place(e.place, out, q)
+}
+
+// The first `size` bytes, or all of them if there are no more.
+pub fn front(bytes: &[u8], size: usize) -> &[u8]
+    ensures { λ r. ⌜ now r ≡ take size (now (bytes .entry)) ⌝ }
+{
+    if bytes.len() < size {
+        return bytes;
+    }
+    &bytes[..size]
+}

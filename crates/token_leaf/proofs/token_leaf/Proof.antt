@@ -1,0 +1,21 @@
+-- `token_leaf::token_leaf` meets its contract.
+-- Assumes nothing.
+use borrow.Author.Needs.{needs}
+use Rattle.token_leaf.proofs.TokenCode.{token-ways}
+use Rattle.token_leaf.proofs.token_leaf.Statement.{statement}
+use Rattle.token_leaf.proofs.token_leaf.Tie as tie
+
+pub token-leaf-spec : {M : Type 1} → statement M
+token-leaf-spec =
+    tie.close (tie.spec
+    (λ c κs. search needs)  -- nothing-requires
+    (λ c. search token-ways)  -- returns
+    (λ c κs. search needs)  -- nothing-requires-2
+    (λ c. search token-ways)  -- returns-2
+    (λ c κs. search needs)  -- initial-requires
+    (λ c κs. search needs)  -- write-head-requires
+    (λ c κs. search needs)  -- head-size-requires
+    (λ c κs. search needs)  -- leaf-requires
+    (λ c. search needs)  -- same-length
+    (λ c. search token-ways)  -- returns-3
+    )

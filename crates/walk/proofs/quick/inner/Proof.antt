@@ -1,0 +1,18 @@
+-- `walk::quick::inner` meets its contract.
+-- Assumes nothing.
+use borrow.Author.Needs.{needs}
+use Rattle.walk.proofs.QuickWays.{inner-ways}
+use Rattle.walk.proofs.quick.inner.Statement.{statement}
+use Rattle.walk.proofs.quick.inner.Tie as tie
+
+pub inner-spec : {M : Type 1} → statement M
+inner-spec =
+    tie.close (tie.spec
+    (λ c. search inner-ways)  -- returns
+    (λ c. search inner-ways)  -- returns-2
+    (λ c. search inner-ways)  -- returns-3
+    (λ c. search inner-ways)  -- returns-4
+    (λ c. search inner-ways)  -- returns-5
+    (λ c. search needs)  -- mul-result
+    (λ c. search inner-ways)  -- returns-6
+    )

@@ -1,0 +1,332 @@
+// The quick way over items: where they end and how many bytes of strings they have, in one number, so that nothing goes through memory from level
+// to level. It tells no refusal: of what it does not pass over, nothing is known.
+use crate::COUNTED;
+use crate::Passed;
+use crate::if_below;
+use crate::is_over;
+use crate::is_right;
+use crate::is_text;
+use crate::leaf_at;
+use crate::leaf_content;
+use crate::less;
+use crate::major_at;
+use crate::mode_of;
+use crate::one;
+use crate::past;
+use crate::smaller;
+use head::head_argument;
+use head::head_end;
+ghost use mathlib.Core.Path.{_≡_};
+ghost use Prim.Native.Nat.{suc, _+_, _*_, _/_, _%_, _<_};
+ghost use lib.ListN.{length};
+ghost use Rattle.head.specs.HeadAnswers.{Widened};
+ghost use Rattle.walk.specs.WalkAnswers.{toldOf, oneOf, allOf, untilBy};
+ghost use Rattle.walk.specs.QuickAnswers.{Quick, Halves, Small, Deeper, Shifts, Shifted, Inner, Opens, TwoBytes, Lengthy};
+
+// Nothing is known.
+pub const UNKNOWN: u64 = 0xffff_ffff_ffff_ffff;
+
+// Ends and sizes are below this, so that both are in one number.
+const HALF: u64 = 0x1_0000_0000;
+
+// As many entries at most, and they can be counted as items.
+const MOST_ENTRIES: u64 = 0xffff_ffff;
+
+// Major types.
+const BYTES: u8 = 2;
+
+const TEXT: u8 = 3;
+
+const ARRAY: u8 = 4;
+
+const MAP: u8 = 5;
+
+const TAG: u8 = 6;
+
+// An end and a size in one number.
+fn pack(end: usize, size: usize) -> u64
+    requires { ⌜ Halves end size ⌝ }
+    ensures { λ r. ⌜ r ≡ size * 4294967296 + end ⌝ }
+{
+    size as u64 * HALF + end as u64
+}
+
+pub fn end_in(r: u64) -> usize
+    ensures { λ x. ⌜ x ≡ r % 4294967296 ⌝ }
+{
+    (r % HALF) as usize
+}
+
+pub fn size_in(r: u64) -> usize
+    ensures { λ x. ⌜ x ≡ r / 4294967296 ⌝ }
+{
+    (r / HALF) as usize
+}
+
+// The same answer, counted from `end` places before.
+fn shift(end: usize, r: u64) -> u64
+    requires { ⌜ Shifts end r ⌝ }
+    ensures { λ x. ⌜ Shifted end r x ⌝ }
+{
+    if r == UNKNOWN {
+        return UNKNOWN;
+    }
+    r + end as u64
+}
+
+// SHORT HEADS
+
+// What stands for the number of items behind what is no short head of an array, a map or a tag.
+const NO_HEAD: u8 = 0xff;
+
+// How many items stand behind an initial byte that is all of the head of an array, a map or a tag.
+fn inner(initial: u8) -> u8
+    ensures { λ r. ⌜ Inner initial r ⌝ }
+{
+    if initial < 0x80 {
+        return NO_HEAD;
+    }
+    if 0xd8 <= initial {
+        return NO_HEAD;
+    }
+    if 0xc0 <= initial {
+        return 1;
+    }
+    if 24 <= initial % 32 {
+        return NO_HEAD;
+    }
+    let n = initial % 32;
+    if initial < 0xa0 {
+        return n;
+    }
+    n * 2
+}
+
+// The same of the item at the front, where a level is left for what is inside.
+fn opened(bytes: &[u8], levels: usize) -> u8
+    ensures { λ r. ⌜ Opens (now (bytes .entry)) levels r ⌝ }
+{
+    if levels == 0 {
+        return NO_HEAD;
+    }
+    if bytes.len() == 0 {
+        return NO_HEAD;
+    }
+    inner(bytes[0])
+}
+
+// ITEMS WITHOUT PARTS, AND ALL OTHERS
+
+// Whether the item at a place may be a leaf: it has no parts, and is no string with a long head. This saves the look at the block behind its initial byte, and
+// says no more.
+fn may_be_leaf(bytes: &[u8], at: usize) -> bool {
+    if bytes.len() <= at {
+        return false;
+    }
+    let initial = bytes[at];
+    if 0x80 <= initial {
+        return 0xe0 <= initial;
+    }
+    smaller(initial % 32, if_below(0x3f, initial)) < 24
+}
+
+// The item at the front, by the whole way.
+fn whole(bytes: &[u8], levels: usize) -> u64
+    requires { ⌜ Small (now bytes) ⌝ }
+    ensures { λ r. ⌜ Quick (toldOf (length (now (bytes .entry))) (oneOf 4 (suc levels) (now (bytes .entry)))) r ⌝ }
+{
+    let span = one(bytes, levels);
+    match span {
+        Passed::Refused(_e) => UNKNOWN,
+        Passed::Span(m) => pack(m.end, m.size),
+    }
+}
+
+fn wide(b: u8) -> u64
+    ensures { λ r. ⌜ Widened b r ⌝ }
+{
+    b as u64
+}
+
+// The head of a string whose length is in two bytes ends here.
+const TWO_END: usize = 3;
+
+// What stands for the length of what is no such string. It is above all such lengths.
+const NO_LENGTH: u64 = 0x1_0000;
+
+// The length of a string at the front that is in two bytes: most strings that are no leaves are of this kind.
+fn two_bytes(bytes: &[u8]) -> u64
+    ensures { λ r. ⌜ TwoBytes (now (bytes .entry)) r ⌝ }
+{
+    if bytes.len() < TWO_END {
+        return NO_LENGTH;
+    }
+    let initial = bytes[0];
+    if initial / 64 != 1 {
+        return NO_LENGTH;
+    }
+    if initial % 32 != 25 {
+        return NO_LENGTH;
+    }
+    wide(bytes[1]) * 256 + wide(bytes[2])
+}
+
+// A string at the front, by the end of its head and its length.
+fn string(bytes: &[u8], end: usize, n: u64, levels: usize) -> u64
+    requires { ⌜ Lengthy (now bytes) end n ⌝ }
+    ensures { λ r. ⌜ Quick (toldOf (length (now (bytes .entry))) (oneOf 4 (suc levels) (now (bytes .entry)))) r ⌝ }
+{
+    if ((bytes.len() - end) as u64) < n {
+        return UNKNOWN;
+    }
+    let behind = end + n as usize;
+    if is_text(&bytes[end..behind], bytes[0] / 32 == TEXT) {
+        return pack(behind, behind - end);
+    }
+    UNKNOWN
+}
+
+// A number or a string of a definite length at the front, if it is one.
+fn plain(bytes: &[u8], levels: usize) -> u64
+    requires { ⌜ Small (now bytes) ⌝ }
+    ensures { λ r. ⌜ Quick (toldOf (length (now (bytes .entry))) (oneOf 4 (suc levels) (now (bytes .entry)))) r ⌝ }
+{
+    let two = two_bytes(bytes);
+    if two < NO_LENGTH {
+        return string(bytes, TWO_END, two, levels);
+    }
+    let end = head_end(bytes, 0);
+    if end == 0 {
+        return UNKNOWN;
+    }
+    let initial = bytes[0];
+    let major = initial / 32;
+    if major < BYTES {
+        return pack(end, 0);
+    }
+    if TEXT < major {
+        return whole(bytes, levels);
+    }
+    if initial % 32 == 31 {
+        return whole(bytes, levels);
+    }
+    string(bytes, end, head_argument(bytes, 0), levels)
+}
+
+// THE CYCLE
+
+// Items, one behind the other.
+fn run(bytes: &[u8], mode: u8, count: u64, levels: usize) -> u64
+    requires { ⌜ Small (now bytes) ⌝ }
+    ensures { λ r. ⌜ Quick (toldOf (length (now (bytes .entry))) (allOf 4 (suc levels) (untilBy mode count) (now (bytes .entry)))) r ⌝ }
+{
+    let mut at = 0;
+    let mut size: usize = 0;
+    let mut left = count;
+    while !is_over(bytes, at, mode, left) {
+        if may_be_leaf(bytes, at) {
+            let n = leaf_at(bytes, at);
+            if is_right(bytes, at, n) {
+                size += leaf_content(bytes[at]) as usize;
+                at += n as usize;
+                left = less(left);
+                continue;
+            }
+        }
+        let r = part(&bytes[at..], levels);
+        if r == UNKNOWN {
+            return UNKNOWN;
+        }
+        at += end_in(r);
+        size += size_in(r);
+        left = less(left);
+    }
+    pack(past(at, mode), size)
+}
+
+// The item at the front, with levels left.
+fn part(bytes: &[u8], levels: usize) -> u64
+    requires { ⌜ Small (now bytes) ⌝ }
+    ensures { λ r. ⌜ Quick (toldOf (length (now (bytes .entry))) (oneOf 4 (suc levels) (now (bytes .entry)))) r ⌝ }
+{
+    let major = major_at(bytes, 0);
+    if major <= TEXT {
+        return plain(bytes, levels);
+    }
+    if levels == 0 {
+        return UNKNOWN;
+    }
+    let n = opened(bytes, levels);
+    if n < NO_HEAD {
+        return shift(1, run(&bytes[1..], COUNTED, n as u64, levels - 1));
+    }
+    if major <= MAP {
+        return list(bytes, levels);
+    }
+    tag(bytes, levels)
+}
+
+// An array or a map at the front.
+fn list(bytes: &[u8], levels: usize) -> u64
+    requires { ⌜ Deeper (now bytes) levels ⌝ }
+    ensures { λ r. ⌜ Quick (toldOf (length (now (bytes .entry))) (oneOf 4 (suc levels) (now (bytes .entry)))) r ⌝ }
+{
+    let end = head_end(bytes, 0);
+    if end == 0 {
+        return UNKNOWN;
+    }
+    let major = bytes[0] / 32;
+    let mode = mode_of(bytes[0] % 32);
+    let n = head_argument(bytes, 0);
+    if major == ARRAY {
+        return shift(end, run(&bytes[end..], mode, n, levels - 1));
+    }
+    if major != MAP {
+        return UNKNOWN;
+    }
+    if mode != COUNTED {
+        return whole(bytes, levels);
+    }
+    if MOST_ENTRIES < n {
+        return UNKNOWN;
+    }
+    shift(end, run(&bytes[end..], COUNTED, n * 2, levels - 1))
+}
+
+// A tag at the front.
+fn tag(bytes: &[u8], levels: usize) -> u64
+    requires { ⌜ Deeper (now bytes) levels ⌝ }
+    ensures { λ r. ⌜ Quick (toldOf (length (now (bytes .entry))) (oneOf 4 (suc levels) (now (bytes .entry)))) r ⌝ }
+{
+    let end = head_end(bytes, 0);
+    if end == 0 {
+        return UNKNOWN;
+    }
+    if bytes[0] / 32 != TAG {
+        return whole(bytes, levels);
+    }
+    let n = head_argument(bytes, 0);
+    let r = shift(end, run(&bytes[end..], COUNTED, 1, levels - 1));
+    if r == UNKNOWN {
+        return UNKNOWN;
+    }
+    if typed_array::may_tag(n, major_at(bytes, end) == BYTES, size_in(r)) {
+        return r;
+    }
+    UNKNOWN
+}
+
+// THE WHOLE
+
+// The most bytes whose ends and sizes go into one number.
+const MOST_BYTES: usize = 0xffff_fffe;
+
+// Items, one behind the other, in bytes of any length.
+pub fn passed(bytes: &[u8], mode: u8, count: u64, levels: usize) -> u64
+    ensures { λ r. ⌜ Quick (toldOf (length (now (bytes .entry))) (allOf 4 (suc levels) (untilBy mode count) (now (bytes .entry)))) r ⌝ }
+{
+    if MOST_BYTES < bytes.len() {
+        return UNKNOWN;
+    }
+    run(bytes, mode, count, levels)
+}
