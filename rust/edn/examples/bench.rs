@@ -131,12 +131,13 @@ fn reading(table: &mut Table, o: &mut Opponent) {
     }
 }
 
-/// The bytes of a stored text, a path to an item in the middle, and a buffer with these bytes in it.
+/// The bytes of a stored text, a path to an item in the middle, and a buffer with these bytes in it, of which some are used.
 #[derive(Clone)]
 struct Stored {
     bytes: Vec<u8>,
     path: Vec<u16>,
     buffer: Vec<u8>,
+    used: usize,
 }
 
 impl Stored {
@@ -145,7 +146,8 @@ impl Stored {
         let path = middle(&bytes, if shape == "nested" { vec![0, 0] } else { vec![0] });
         let mut buffer = vec![0; edn::MOST];
         buffer[..bytes.len()].copy_from_slice(&bytes);
-        Stored { bytes, path, buffer }
+        let used = bytes.len();
+        Stored { bytes, path, buffer, used }
     }
 }
 
@@ -163,26 +165,41 @@ fn middle(bytes: &[u8], mut path: Vec<u16>) -> Vec<u16> {
 
 /// How long the texts are whose bytes are printed: byte strings get longer, and what is printed has to find room.
 const PRINTED: usize = 40_000;
-/// An item made longer and then shorter again, so that all that is behind it is moved twice.
+/// An item made longer in all sheets, and then shorter again in all of them, so that all that is behind it is moved twice.
 const CORRECTIONS: [&[u8]; 2] = [b"[1, 1000000]", b"1"];
 
-#[inline(never)]
-fn library_call(operation: &str, s: &mut Stored, out: &mut [u8]) -> usize {
-    match operation {
-        "check" => edn::check(&s.bytes).is_ok() as usize,
-        "look up" => edn::locate(&s.bytes, &s.path).unwrap().end,
-        "print" => edn::print_into(&s.bytes, out).unwrap(),
-        _ => CORRECTIONS.iter().fold(s.bytes.len(), |used, text| edn::correct_in(&mut s.buffer, used, &s.path, text).unwrap()),
+/// How often a sheet is worked on. Not twice in a row: the second time would be foretold.
+fn turns(operation: &str) -> usize {
+    if operation == "correct" {
+        CORRECTIONS.len()
+    } else {
+        1
     }
 }
 
 #[inline(never)]
-fn opponent_call(o: &mut Opponent, operation: &str, s: &mut Stored, out: &mut [u8]) -> usize {
+fn library_call(operation: &str, s: &mut Stored, turn: usize, out: &mut [u8]) -> usize {
+    match operation {
+        "check" => edn::check(&s.bytes).is_ok() as usize,
+        "look up" => edn::locate(&s.bytes, &s.path).unwrap().end,
+        "print" => edn::print_into(&s.bytes, out).unwrap(),
+        _ => {
+            s.used = edn::correct_in(&mut s.buffer, s.used, &s.path, CORRECTIONS[turn]).unwrap();
+            s.used
+        }
+    }
+}
+
+#[inline(never)]
+fn opponent_call(o: &mut Opponent, operation: &str, s: &mut Stored, turn: usize, out: &mut [u8]) -> usize {
     match operation {
         "check" => o.check(&s.bytes).is_ok() as usize,
         "look up" => o.look_up(&s.bytes, &s.path).ok().unwrap().1,
         "print" => o.print(&s.bytes, out).ok().unwrap(),
-        _ => CORRECTIONS.iter().fold(s.bytes.len(), |used, text| o.correct(&mut s.buffer, used, &s.path, text).ok().unwrap()),
+        _ => {
+            s.used = o.correct(&mut s.buffer, s.used, &s.path, CORRECTIONS[turn]).ok().unwrap();
+            s.used
+        }
     }
 }
 
@@ -190,24 +207,20 @@ fn byte_times(o: &mut Opponent, operation: &str, shape: &Shape) -> (f64, f64) {
     let (mut out, mut out2) = (vec![0u8; edn::MOST], vec![0u8; edn::MOST]);
     let mut ours: Vec<Stored> = shape.sheets.iter().map(|sheet| Stored::new(shape.name, &sheet.text)).collect();
     let mut theirs = ours.clone();
-    for (a, b) in ours.iter_mut().zip(&mut theirs) {
-        let result = library_call(operation, a, &mut out);
-        assert_eq!(result, opponent_call(o, operation, b, &mut out2), "{operation} {}", shape.name);
+    let (sheets, turns) = (ours.len(), turns(operation));
+    for i in 0..sheets * turns {
+        let (a, b) = (&mut ours[i % sheets], &mut theirs[i % sheets]);
+        let result = library_call(operation, a, i / sheets, &mut out);
+        assert_eq!(result, opponent_call(o, operation, b, i / sheets, &mut out2), "{operation} {}", shape.name);
         assert!(out == out2 && a.buffer == b.buffer, "{operation} {}: the bytes differ", shape.name);
-        if operation == "correct" {
-            // as long as every further correction leaves it
-            a.bytes.truncate(result);
-            b.bytes.truncate(result);
-            assert_eq!(a.bytes.len(), result);
-        }
     }
     let library = |i: usize| {
-        black_box(library_call(operation, black_box(&mut ours[i]), black_box(&mut out)));
+        black_box(library_call(operation, black_box(&mut ours[i % sheets]), i / sheets, black_box(&mut out)));
     };
     let plain = |i: usize| {
-        black_box(opponent_call(o, operation, black_box(&mut theirs[i]), black_box(&mut out2)));
+        black_box(opponent_call(o, operation, black_box(&mut theirs[i % sheets]), i / sheets, black_box(&mut out2)));
     };
-    least([shape.sheets.len(); 2], library, plain)
+    least([sheets * turns; 2], library, plain)
 }
 
 fn working_on_bytes(table: &mut Table, o: &mut Opponent) {

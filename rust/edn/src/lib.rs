@@ -28,8 +28,8 @@
 //!
 //! # Stack
 //!
-//! A call takes up to about 83 kilobytes of stack where it reads or corrects ([`read_into`], [`correct_in`] and what is over them), since the
-//! result is built there before anything is written, and less than 9 kilobytes otherwise. That is measured: `make stack` in the repository
+//! A call takes up to about 80 kilobytes of stack where it reads, prints or corrects ([`read_into`], [`print_into`], [`correct_in`] and what is over
+//! them), since the result is built there before anything is written, and less than 9 kilobytes otherwise. That is measured: `make stack` in the repository
 //! prints the figures, and `include/edn.h` states them as `EDN_STACK_READ` and so on.
 //!
 //! # Features

@@ -34,7 +34,7 @@ impl Sheet {
 }
 
 /// How many bytes of each shape are stored, in several texts. A processor that meets the same text over and over foretells its branches.
-const STORED: usize = 5 * LONG;
+const STORED: usize = 40 * LONG;
 
 /// A shape: texts that differ in what was drawn, and in nothing else.
 pub struct Shape {
