@@ -14,7 +14,7 @@ unfolding bigEndian
 length-big zero n = refl
 length-big (suc k) n = simp (length-append, length-big k (n / 256)) (omega arith)
 
-value-snoc : (v : ℕ) (s : List ℕ) (b : ℕ) → valueFrom v (s ++ b ∷ []) ≡ valueFrom v s * 256 + b
+pub value-snoc : (v : ℕ) (s : List ℕ) (b : ℕ) → valueFrom v (s ++ b ∷ []) ≡ valueFrom v s * 256 + b
 unfolding valueFrom
 value-snoc v [] b = refl
 value-snoc v (a ∷ s) b = value-snoc (v * 256 + a) s b

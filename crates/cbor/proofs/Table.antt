@@ -1,13 +1,15 @@
 -- A fact of each entry of a table, or of each byte, by one test that antt computes.
 -- Assumes nothing.
-use mathlib.Core.Path.{_≡_}
+use mathlib.Core.Path.{_≡_, refl, sym, subst}
 use mathlib.Core.Bool.{Bool, true, false, _&&_}
 use mathlib.Core.List.{List, [], _∷_}
+use mathlib.Core.Logic.{_⊎_, inl, inr}
 use Prim.Native.Nat.{ℕ, zero, suc, _+_, _-_, _≤_, _<_}
 use native.Mathlib.Nat.{add-zero, zero-add, add-suc, suc-add}
 use native.Mathlib.Omega.{arith}
 use lib.Dec.{T}
 use lib.ListN.{length, getD, replicate, length-replicate}
+use types.Run.{OneOf}
 
 pub both : (a b : Bool) → T (a && b) → T a × T b
 both true b t = (tt, t)
@@ -35,3 +37,18 @@ between f low high t b l h =
 
 pub byte : (f : ℕ → Bool) → T (every (λ k x. f k) 0 (replicate 256 0)) → (b : ℕ) → b < 256 → T (f b)
 byte f t b h = at (λ k x. f k) (replicate 256 0) t b h
+
+-- a test that passes at each of some keys, as the arm of a match has them
+abbrev pub all : (ℕ → Bool) → List ℕ → Bool
+all f [] = true
+all f (k ∷ ks) = f k && all f ks
+
+pub each : (f : ℕ → Bool) (ks : List ℕ) (b : ℕ) → OneOf ks b → T (all f ks) → T (f b)
+each f [] b o t = absurd o
+each f (k ∷ []) b o t = subst (λ (x : ℕ). T (f x)) (sym o) (both (f k) true t .0)
+each f (k ∷ k′ ∷ ks) b (inl e) t = subst (λ (x : ℕ). T (f x)) (sym e) (both (f k) (all f (k′ ∷ ks)) t .0)
+each f (k ∷ k′ ∷ ks) b (inr o) t = each f (k′ ∷ ks) b o (both (f k) (all f (k′ ∷ ks)) t .1)
+
+pub yes : (t : Bool) → T t → t ≡ true
+yes true x = refl
+yes false x = absurd x

@@ -14,6 +14,7 @@ use Rattle.cbor.specs.Items.{int, definite}
 use Rattle.cbor.specs.Flags.{signOf}
 use Rattle.cbor.specs.Heads.{Major, integers, majorOf, argument, informationOf, isFloat, isAllowed, started}
 use Rattle.cbor.specs.Decode.{itemBy, item}
+use Rattle.cbor.proofs.Arguments.{value-snoc}
 use Rattle.cbor.proofs.DecodeEncode.{enterAt}
 use Rattle.notation.specs.Printing.{decimalOf, indicatorOf, printInt, printItem}
 use Rattle.leaf_text.specs.Laying.{Laid, tailOf, minusOf}
@@ -26,11 +27,6 @@ use Rattle.leaf_text.proofs.KindCode.{small-is, one-is, two-is, four-is
 use Rattle.leaf_text.proofs.LeafCode.{low-information, indicator-none, shortest-0, shortest-1, shortest-2, shortest-4, argumentIn, item-plain, told-leaf}
 
 -- NUMBERS IN BYTES
-
-value-snoc : (v : ℕ) (s : List ℕ) (b : ℕ) → valueFrom v (s ++ b ∷ []) ≡ valueFrom v s * 256 + b
-unfolding valueFrom
-value-snoc v [] b = refl
-value-snoc v (x ∷ s) b = value-snoc (v * 256 + x) s b
 
 value-none : {s : List ℕ} {from : ℕ} → Valued s from 0 0
 unfolding valueFrom

@@ -1,31 +1,16 @@
 -- Kinds: each row of the table is tested at each of its bytes.
 -- Assumes nothing.
-use mathlib.Core.Path.{_≡_, refl, sym, ap, subst}
+use mathlib.Core.Path.{_≡_, refl}
 use mathlib.Core.Bool.{Bool, true, false, _&&_, false≢true}
 use mathlib.Core.List.{List, [], _∷_}
-use mathlib.Core.Logic.{_⊎_, inl, inr}
 use Prim.Native.Nat.{ℕ, _/_, _%_, _<_}
 use lib.Dec.{T, ltb, eqb}
 use types.Run.{OneOf}
 use borrow.Author.Tests.{eqb-true, ltb-true}
-use Rattle.cbor.proofs.Table.{both}
+use Rattle.cbor.proofs.Table.{all, each, yes}
 use Rattle.leaf_text.specs.LeafKinds.{begins, KindOf}
 use Rattle.leaf_text.specs.declared.kind.Kind.{Kind}
 use Rattle.leaf_text.specs.declared.kind.Kind.the-variants.{Small, One, Two, Four, Bytes, Text, False, True, Null, Other}
-
-abbrev pub all : (ℕ → Bool) → List ℕ → Bool
-all f [] = true
-all f (k ∷ ks) = f k && all f ks
-
-each : (f : ℕ → Bool) (ks : List ℕ) (b : ℕ) → OneOf ks b → T (all f ks) → T (f b)
-each f [] b o t = absurd o
-each f (k ∷ []) b o t = subst (λ (x : ℕ). T (f x)) (sym o) (both (f k) true t .0)
-each f (k ∷ k′ ∷ ks) b (inl e) t = subst (λ (x : ℕ). T (f x)) (sym e) (both (f k) (all f (k′ ∷ ks)) t .0)
-each f (k ∷ k′ ∷ ks) b (inr o) t = each f (k′ ∷ ks) b o (both (f k) (all f (k′ ∷ ks)) t .1)
-
-yes : (t : Bool) → T t → t ≡ true
-yes true x = refl
-yes false x = absurd x
 
 pub kind-keys : (ks : List ℕ) (k : Kind) {b : ℕ} → OneOf ks b → T (all (λ j. begins j k) ks) → b < 256 → KindOf b k
 kind-keys ks k {b} o t h = record { is = yes (begins b k) (each (λ j. begins j k) ks b o t); byte = h }

@@ -28,7 +28,7 @@ use Rattle.utf8.proofs.Runs.{ascii-good}
 use Rattle.text_output.specs.PrintParts.{Prints, contentOf}
 use Rattle.text_output.specs.Runs.{More, AllPlain}
 use Rattle.text_output.proofs.PrintLeaves.{hex-append}
-use Rattle.text_output.proofs.PlainRuns.{content-plain}
+use Rattle.text_output.proofs.PlainRuns.{hex-length, content-plain}
 use Rattle.leaf_text.specs.Laying.{Laid}
 use Rattle.leaf_text.specs.LeafKinds.{KindOf}
 use Rattle.leaf_text.specs.LeafTexts.{Room, LeafTold, High, Stop, Stops, quotedHex}
@@ -93,11 +93,6 @@ module _ (s : List ℕ) (at : ℕ) (h : at + 33 ≤ length s) where
       item-plain s at w0 (omega arith) (low-information n l) (ap (λ (x : Major). isFloat x w0) m) (ap (λ (x : Major). isAllowed x w0 n) m) d
       ∙ (λ j. itemBy (enterAt d) (m j) (definite w0) n (length (drop at s)) (drop (z j) s))
       ∙ ap (λ (res : Result (List ℕ)). bind res (λ b r′. ok (string k w0 b) r′)) (content-good k n (length (drop at s)) (drop (at + 1) s) i t) ∙ ap (λ (r : List ℕ). ok (string k w0 (take n (drop (at + 1) s))) r) (drop-drop n (at + 1) s)
-
-hex-length : (s : List ℕ) → length (hexOf s) ≡ 2 * length s
-unfolding hexOf hexByteOf
-hex-length [] = refl
-hex-length (b ∷ s) = let e = hex-length s in omega arith
 
 -- the digits of a front
 front-of : (n k : ℕ) (x : List ℕ) → n ≤ k → take n x ++ drop n (take k x) ≡ take k x

@@ -132,7 +132,7 @@ module _ {s : List ℕ} where
         let l = ap (λ (t : List ℕ). length (escapedOf t)) (sym (take-append-drop i s)) ∙ length-escaped (take i s) (drop i s) in
         omega (arith, inv .is)
 
-hex-length : (s : List ℕ) → length (hexOf s) ≡ length s * 2
+pub hex-length : (s : List ℕ) → length (hexOf s) ≡ length s * 2
 unfolding hexOf hexByteOf
 hex-length [] = refl
 hex-length (b ∷ s) = let e = hex-length s in omega arith

@@ -5,7 +5,6 @@ use native.Mathlib.Omega.{arith}
 use mathlib.Core.Path.{_≡_, refl, sym, ap, subst, _∙_}
 use mathlib.Core.Bool.{Bool, true, false, not, _&&_, false≢true}
 use mathlib.Core.List.{List, [], _∷_}
-use mathlib.Core.Logic.{_⊎_, inl, inr}
 use lib.Dec.{T, leb, ltb, eqb, eqb→eq}
 use lib.ListN.{length, take, drop, getD}
 use types.Run.{OneOf}
@@ -13,7 +12,7 @@ use mir.Syntax.{w8 as bits8}
 use mir.Val.{Fits}
 use borrow.Author.Count.{below-more}
 use borrow.Author.Tests.{leb-true, not-false, lt-ltb, le-ltb, ltb-true, ltb-false, eq-eqb, ne-eqb, eqb-true, eqb-false}
-use Rattle.cbor.proofs.Table.{both}
+use Rattle.cbor.proofs.Table.{both, all, each, yes}
 use Rattle.walk.specs.WalkLeaves.{allBits, leafContent, leafSize, isLeaf, LeafSize, LeafContent, LeafAt, Bounded, Topped, Blocked, Right}
 
 -- THE TABLE
@@ -27,20 +26,6 @@ evens = 0x00 ∷ 0x02 ∷ 0x04 ∷ 0x06 ∷ 0x08 ∷ 0x0a ∷ 0x0c ∷ 0x0e ∷ 
 
 abbrev pub odds : List ℕ
 odds = 0x01 ∷ 0x03 ∷ 0x05 ∷ 0x07 ∷ 0x09 ∷ 0x0b ∷ 0x0d ∷ 0x0f ∷ 0x11 ∷ 0x13 ∷ 0x15 ∷ 0x17 ∷ 0x21 ∷ 0x23 ∷ 0x25 ∷ 0x27 ∷ 0x29 ∷ 0x2b ∷ 0x2d ∷ 0x2f ∷ 0x31 ∷ 0x33 ∷ 0x35 ∷ 0x37 ∷ 0xe1 ∷ 0xe3 ∷ 0xe5 ∷ 0xe7 ∷ 0xe9 ∷ 0xeb ∷ 0xed ∷ 0xef ∷ 0xf1 ∷ 0xf3 ∷ 0xf5 ∷ 0xf7 ∷ []
-
-abbrev pub all : (ℕ → Bool) → List ℕ → Bool
-all f [] = true
-all f (k ∷ ks) = f k && all f ks
-
-each : (f : ℕ → Bool) (ks : List ℕ) (b : ℕ) → OneOf ks b → T (all f ks) → T (f b)
-each f [] b o t = absurd o
-each f (k ∷ []) b o t = subst (λ (x : ℕ). T (f x)) (sym o) (both (f k) true t .0)
-each f (k ∷ k′ ∷ ks) b (inl e) t = subst (λ (x : ℕ). T (f x)) (sym e) (both (f k) (all f (k′ ∷ ks)) t .0)
-each f (k ∷ k′ ∷ ks) b (inr o) t = each f (k′ ∷ ks) b o (both (f k) (all f (k′ ∷ ks)) t .1)
-
-yes : (t : Bool) → T t → t ≡ true
-yes true x = refl
-yes false x = absurd x
 
 pub leaf-keys : (ks : List ℕ) (r : ℕ) {b : ℕ} → OneOf ks b → T (all (λ k. right k r) ks) → b < 256 → LeafSize b r
 unfolding right

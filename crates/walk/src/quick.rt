@@ -32,6 +32,26 @@ const HALF: u64 = 0x1_0000_0000;
 // As many entries at most, and they can be counted as items.
 const MOST_ENTRIES: u64 = 0xffff_ffff;
 
+// The first initial bytes of arrays, maps, tags, and simple values; of tags whose number is not in it; the last of integers.
+const ARRAYS: u8 = 0x80;
+
+const MAPS: u8 = 0xa0;
+
+const TAGS: u8 = 0xc0;
+
+const LONG_TAGS: u8 = 0xd8;
+
+const SIMPLES: u8 = 0xe0;
+
+const LAST_INTEGER: u8 = 0x3f;
+
+// Additional information: the least that is no argument itself; an argument in two bytes; an indefinite length.
+const WIDE: u8 = 24;
+
+const IN_TWO: u8 = 25;
+
+const OPEN: u8 = 31;
+
 // Major types.
 const BYTES: u8 = 2;
 
@@ -83,20 +103,20 @@ const NO_HEAD: u8 = 0xff;
 fn inner(initial: u8) -> u8
     ensures { λ r. ⌜ Inner initial r ⌝ }
 {
-    if initial < 0x80 {
+    if initial < ARRAYS {
         return NO_HEAD;
     }
-    if 0xd8 <= initial {
+    if LONG_TAGS <= initial {
         return NO_HEAD;
     }
-    if 0xc0 <= initial {
+    if TAGS <= initial {
         return 1;
     }
-    if 24 <= initial % 32 {
+    if WIDE <= initial % 32 {
         return NO_HEAD;
     }
     let n = initial % 32;
-    if initial < 0xa0 {
+    if initial < MAPS {
         return n;
     }
     n * 2
@@ -124,10 +144,10 @@ fn may_be_leaf(bytes: &[u8], at: usize) -> bool {
         return false;
     }
     let initial = bytes[at];
-    if 0x80 <= initial {
-        return 0xe0 <= initial;
+    if ARRAYS <= initial {
+        return SIMPLES <= initial;
     }
-    smaller(initial % 32, if_below(0x3f, initial)) < 24
+    smaller(initial % 32, if_below(LAST_INTEGER, initial)) < WIDE
 }
 
 // The item at the front, by the whole way.
@@ -165,7 +185,7 @@ fn two_bytes(bytes: &[u8]) -> u64
     if initial / 64 != 1 {
         return NO_LENGTH;
     }
-    if initial % 32 != 25 {
+    if initial % 32 != IN_TWO {
         return NO_LENGTH;
     }
     wide(bytes[1]) * 256 + wide(bytes[2])
@@ -207,7 +227,7 @@ fn plain(bytes: &[u8], levels: usize) -> u64
     if TEXT < major {
         return whole(bytes, levels);
     }
-    if initial % 32 == 31 {
+    if initial % 32 == OPEN {
         return whole(bytes, levels);
     }
     string(bytes, end, head_argument(bytes, 0), levels)
