@@ -5,9 +5,9 @@ use mathlib.Core.Bool.{Bool, true, false, not, _||_, true≢false}
 use mathlib.Core.List.{List, [], _∷_}
 use Prim.Native.Nat.{ℕ, suc, _+_, _≤_, _<_}
 use native.Mathlib.Omega.{arith}
-use lib.Dec.{T, eqb, ltb}
+use lib.Dec.{T, eqb, ltb, leb}
 use lib.ListN.{length, drop, getD, replicate}
-use borrow.Author.Tests.{eq-eqb, eqb-true, eqb-false, ltb-true, ltb-false, le-ltb}
+use borrow.Author.Tests.{eq-eqb, eqb-true, eqb-false, ltb-true, ltb-false, lt-leb, ne-eqb}
 use Rattle.cbor.specs.Refusals.{Result, ok, refuse, bind}
 use Rattle.cbor.proofs.Results.{refuse-not-ok}
 use Rattle.cbor.proofs.Table.{every, between}
@@ -38,7 +38,7 @@ use Rattle.closing.specs.declared.Follow.the-variants.{On, Over, Stray}
 use Rattle.closing.specs.declared.Follower.{Follower}
 use Rattle.encoding.specs.Cuts.{NextAt}
 use Rattle.closers.specs.CloserTables.{shapeOf, isSingle, mayBeEmpty, commaCode, separatorCode, closerCode, shownBy, hasSign, separatorByte, colonCode, maySeparate, closingByte}
-use Rattle.closing.specs.Closings.{SignAt, GoesOn, ClosesAt, SeparatesAt, StartsAt, IsFirm, StartsAtOnce, Differs, OpenAt, ClosesAtOnce, Follows, Ends}
+use Rattle.closing.specs.Closings.{SignAt, GoesOn, ClosesAt, SeparatesAt, StartsAt, IsFirm, Solid, StartsAtOnce, Differs, OpenAt, ClosesAtOnce, Follows, Ends}
 
 -- A BYTE
 module _ {s : List ℕ} {at c : ℕ} {t : Bool} (p : Peeked s at c t) where
@@ -390,7 +390,7 @@ module _ {s : List ℕ} {from at : ℕ} (sk : Skips s from at) where
 
 -- AT ONCE: neither a blank nor a comment stands there
 abbrev Firm : ℕ → Bool
-Firm b = ltb b 0x30 || not (is blank b || (is slash b || is hash b))
+Firm b = leb b 0x20 || (eqb b 0x23 || (eqb b 0x2f || not (is blank b || (is slash b || is hash b))))
 
 all-firm : T (every (λ b x. Firm b) 0 (replicate 257 0))
 unfolding is classNumber classOf classIn classRows isIn
@@ -404,11 +404,11 @@ skip-here : (b : ℕ) (u : List ℕ) → skipped apart-from-tokens b u ≡ stops
 unfolding skip skipFrom
 skip-here b u e = rw (e, skipFrom)
 
-firm-skip : (b : ℕ) (u : List ℕ) → 0x30 ≤ b → b < 256 → skip (b ∷ u) ≡ b ∷ u
+firm-skip : (b : ℕ) (u : List ℕ) → Solid b → b < 256 → skip (b ∷ u) ≡ b ∷ u
 firm-skip b u l m = go (is blank b) (is slash b) (is hash b) refl refl refl
   where
     firm : not (is blank b || (is slash b || is hash b)) ≡ true
-    firm = rw (le-ltb b 0x30 l) at (is-true (Firm b) (between Firm 0 257 all-firm b (omega arith) (omega arith)))
+    firm = rw (lt-leb b 0x20 (l .above), ne-eqb b 0x23 (l .hash), ne-eqb b 0x2f (l .slash)) at (is-true (Firm b) (between Firm 0 257 all-firm b (omega arith) (omega arith)))
 
     go : (x y z : Bool) → is blank b ≡ x → is slash b ≡ y → is hash b ≡ z → skip (b ∷ u) ≡ b ∷ u
     go true y z e f g = absurd (true≢false (sym (rw e at firm)))
@@ -444,10 +444,10 @@ closing-only Nothing b l e = absurd (omega (arith, whole-only b e))
 
 module _ {b c : ℕ} (l : b < 256) where
   pub firm-no : IsFirm b c false
-  firm-no = record { byte = l; high = λ e. absurd (true≢false (sym e)); other = λ e. absurd (true≢false (sym e)) }
+  firm-no = record { byte = l; solid = λ e. absurd (true≢false (sym e)); other = λ e. absurd (true≢false (sym e)) }
 
-  pub firm-yes : 0x30 ≤ b → IsFirm b c (not (eqb b c))
-  firm-yes g = record { byte = l; high = λ e. g; other = λ e q. true≢false (sym e ∙ ap not (eq-eqb b c q)) }
+  pub firm-yes : 0x20 < b → (b ≡ 0x23 → ⊥) → (b ≡ 0x2f → ⊥) → IsFirm b c (not (eqb b c))
+  firm-yes g h k = record { byte = l; solid = λ e. record { above = g; hash = h; slash = k }; other = λ e q. true≢false (sym e ∙ ap not (eq-eqb b c q)) }
 
 pub differs-is : {b c : ℕ} → b < 256 → Differs b c (not (eqb b c))
 differs-is {b} {c} l = record { byte = l; other = λ e q. true≢false (sym e ∙ ap not (eq-eqb b c q)) }
@@ -533,7 +533,7 @@ module _ {s : List ℕ} {at : ℕ} {h : Closer} where
         is = λ f.
             let b = getD s at 0 in
             let w : drop at (marked s) ≡ b ∷ drop (at + 1) (marked s) = at-byte s at l in
-            let sk : Skips s at at = skips-here (omega (arith, length-marked s)) w (firm-skip b (drop (at + 1) (marked s)) (x .high f) (x .byte)) in
+            let sk : Skips s at at = skips-here (omega (arith, length-marked s)) w (firm-skip b (drop (at + 1) (marked s)) (x .solid f) (x .byte)) in
             record {
               yes = λ z. absurd (true≢false (sym z));
               no = λ z y i u v.

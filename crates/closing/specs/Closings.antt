@@ -81,10 +81,16 @@ pub record ClosesAtOnce (s : List ℕ) (at : ℕ) (h : Closer) (k t : Bool) : Ty
   pub closed : t ≡ true → ClosedAt s at h (at + 1) 0
   pub inside : t ≡ true → at < length s
 
+-- no blank, and no begin of a comment
+pub record Solid (b : ℕ) : Type 0 where
+  pub above : 0x20 < b
+  pub hash : b ≡ 0x23 → ⊥
+  pub slash : b ≡ 0x2f → ⊥
+
 -- a byte is no blank, begins no comment and is not c
 pub record IsFirm (b c : ℕ) (t : Bool) : Type 0 where
   pub byte : b < 256
-  pub high : t ≡ true → 0x30 ≤ b
+  pub solid : t ≡ true → Solid b
   pub other : t ≡ true → b ≡ c → ⊥
 
 -- a list is seen not to end at a place

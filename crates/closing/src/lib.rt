@@ -18,9 +18,6 @@ ghost use Rattle.notation.specs.Reading.{marked};
 ghost use Rattle.closers.specs.CloserTables.{isSingle};
 ghost use Rattle.closing.specs.Closings.{SignAt, GoesOn, ClosesAt, SeparatesAt, StartsAt, Ends, Follows, Differs, OpenAt, IsFirm, StartsAtOnce, ClosesAtOnce};
 
-// From this byte on there is no blank, and none begins a comment.
-const FIRM: u8 = b'0';
-
 // Whether the token that closes stands at a place; its indicator, and where the text goes on behind it.
 pub struct Closing {
     pub found: bool,
@@ -160,10 +157,14 @@ fn separates(text: &[u8], at: usize, closer: Closer, key: bool) -> bool
 fn is_firm(b: u8, close: u8) -> bool
     ensures { λ r. ⌜ IsFirm b close r ⌝ }
 {
-    if b < FIRM {
+    if b <= b' ' {
         return false;
     }
-    b != close
+    match b {
+        b'#' => false,
+        b'/' => false,
+        _ => b != close,
+    }
 }
 
 // Whether a list is seen not to end at a place, by the byte that stands there.

@@ -13,14 +13,17 @@ use borrow.Author.Tests.{le-leb, lt-leb, eq-eqb, ne-eqb}
 use Rattle.cbor.specs.Refusals.{badIndicator}
 use Rattle.cbor.specs.Widths.{w0, w1, w2, w4, w8, limit, fits, shortest, information, bigEndian}
 use Rattle.refusal.specs.RefusalKinds.{kindNumber, Kinded}
-use Rattle.memory.specs.Buffer.{overIfFits, headPut}
+use Rattle.memory.specs.Buffer.{overIfFits, moved, headPut}
 use Rattle.head.specs.HeadAnswers.{argumentSize, headBytes}
 use Rattle.refusal.specs.declared.RefusalKind.{RefusalKind}
 use Rattle.cbor.proofs.Arguments.{length-big}
+use Rattle.head.proofs.HeadCode.{size-none, size-most}
+use Rattle.notation.proofs.ScanningElements.{clash}
 use Rattle.numbers.specs.NumberAnswers.{chooseBy}
-use Rattle.encoding.specs.ReadAnswers.{infoBy, Informed, majorBy, initialBy, MajorBy, HeadSize, strayBy, Heavy, Strayed, Denies, Closes, Finished}
+use Rattle.encoding.specs.ReadAnswers.{infoBy, Informed, majorBy, initialBy, MajorBy, HeadSize, strayBy, Heavy, Light, Few, IsShort, Wrote, Strayed, Denies, Closes, Finished, FinishedShort}
+use Rattle.token.specs.TokenAnswers.{widthNumber}
 use Rattle.token.specs.declared.Token.{Token as Cut}
-use Rattle.encoding.proofs.Wrote.{wrote-front, wrote-closed}
+use Rattle.encoding.proofs.Wrote.{wrote-front, wrote-closed, wrote-moved}
 use Rattle.encoding.specs.declared.answer.ReadAnswer.{ReadAnswer}
 use Rattle.encoding.specs.declared.answer.ReadAnswer.the-variants.{Made, Refused}
 
@@ -97,32 +100,21 @@ module _ {k n : ℕ} where
 pub ruleset info-ways = (info-0, info-1, info-3, info-4, info-5, info-6, info-7)
 
 -- HEADS
-argument-most : (i : ℕ) → argumentSize i ≤ 8
-unfolding argumentSize
-argument-most i = go (eqb i 24) (eqb i 25) (eqb i 26) (eqb i 27)
-  where
-    go : (t u v x : Bool) → _≤_ (elim t [ true ↦ 1 | false ↦ elim u [ true ↦ 2 | false ↦ elim v [ true ↦ 4 | false ↦ elim x [ true ↦ 8 | false ↦ 0 ] ] ] ]) 8
-    go true u v x = omega arith
-    go false true v x = omega arith
-    go false false true x = omega arith
-    go false false false true = omega arith
-    go false false false false = omega arith
-
 pub size-fits : {r : ℕ} (i : ℕ) → r ≡ argumentSize i → Fits bits64 (r + 1)
-size-fits i e = record { fits = omega (arith, e, argument-most i) }
+size-fits i e = record { fits = omega (arith, e, size-most i) }
 
 pub length-head : (i n : ℕ) → length (headBytes i n) ≡ argumentSize (i % 32) + 1
 unfolding headBytes
 length-head i n = omega (arith, length-big (argumentSize (i % 32)) n)
 
 pub head-short : (i n : ℕ) → length (headBytes i n) ≤ 9
-head-short i n = omega (arith, length-head i n, argument-most (i % 32))
+head-short i n = omega (arith, length-head i n, size-most (i % 32))
 
 pub head-some : (i n : ℕ) → 0 < length (headBytes i n)
 head-some i n = omega (arith, length-head i n)
 
 pub size-is : {i r : ℕ} → r ≡ argumentSize (i % 32) → HeadSize i (r + 1)
-size-is {i} e = record { is = λ n. omega (arith, e, length-head i n); most = omega (arith, e, argument-most (i % 32)) }
+size-is {i} e = record { is = λ n. omega (arith, e, length-head i n); most = omega (arith, e, size-most (i % 32)) }
 
 module _ {c k n major info : ℕ} (a : MajorBy c major) (b : Informed k n info) where
   pub initial-mul : Fits bits8 (major * 32)
@@ -209,22 +201,90 @@ module _ {b b′ : List ℕ} {pos first size r : ℕ} (n : ℕ) (h : HeadSize fi
 
 pub ruleset before-ways = (before-short, before-long)
 
-module _ {b : List ℕ} {pos major indicator n next size place width : ℕ} {binary : Bool} {length′ : ℕ} {a : ReadAnswer} (c : width ≡ chooseBy indicator n) where
-  pub finish-none : width ≡ 0 → Denies badIndicator place a → Finished b b pos major indicator n next size place binary length′ a
+module _ {b : List ℕ} {pos room major indicator n next size place width : ℕ} {binary : Bool} {length′ : ℕ} {a : ReadAnswer} (c : width ≡ chooseBy indicator n) where
+  pub finish-none : width ≡ 0 → Denies badIndicator place a → Finished b b pos room major indicator n next size place binary length′ a
   finish-none e f = record { refused = λ z. f; made = λ k. absurd (k (sym c ∙ e)); closed = λ k. absurd (k (sym c ∙ e)) }
 
-  pub finish-done : {b′ : List ℕ} {info head : ℕ} → (width ≡ 0 → ⊥) → Informed width n info → Closes b b′ pos (headBytes (major * 32 + info) n) size head
-      → a ≡ Made (record { next = next; size = head + size; count = 1; indicator = 0; binary = binary; length = length′ }) → Finished b b′ pos major indicator n next size place binary length′ a
-  finish-done {b′} {info} {head} k i h f =
+  -- a head of `head` bytes, of the additional information that goes with the width
+  finish-by : {b′ : List ℕ} {info head : ℕ} → (width ≡ 0 → ⊥) → Informed width n info → head ≡ length (headBytes (major * 32 + info) n)
+      → ((b₀ ws : List ℕ) → Wrote b₀ b (pos + room) ws → size ≡ length ws → (length (headBytes (major * 32 + info) n) < room → pos + room + size ≤ length b) → Wrote b₀ b′ pos (headBytes (major * 32 + info) n ++ ws))
+      → a ≡ Made (record { next = next; size = head + size; count = 1; indicator = 0; binary = binary; length = length′ }) → Finished b b′ pos room major indicator n next size place binary length′ a
+  finish-by {b′} {info} {head} k i h w f =
       let j : info ≡ infoBy (chooseBy indicator n) n = i .is ∙ ap (λ (w : ℕ). infoBy w n) c in
-      let q : head ≡ length (headBytes (major * 32 + infoBy (chooseBy indicator n) n) n) = h .sized ∙ ap (λ (x : ℕ). length (headBytes (major * 32 + x) n)) j in
+      let q : head ≡ length (headBytes (major * 32 + infoBy (chooseBy indicator n) n) n) = h ∙ ap (λ (x : ℕ). length (headBytes (major * 32 + x) n)) j in
       record {
         refused = λ z. absurd (k (c ∙ z));
         made = λ z. f ∙ ap (λ (x : ℕ). Made (record { next = next; size = x + size; count = 1; indicator = 0; binary = binary; length = length′ })) q;
-        closed = λ z b₀ ws w e. rw j at (h .is b₀ ws w e);
+        closed = λ z b₀ ws u e far. rw j at (w b₀ ws u e (rw (← j) at far));
       }
 
+module _ {b b′ : List ℕ} {pos major indicator n next size place width info head : ℕ} {binary : Bool} {length′ : ℕ} {a : ReadAnswer} (c : width ≡ chooseBy indicator n) (k : width ≡ 0 → ⊥) (i : Informed width n info) where
+  pub finish-done : Closes b b′ pos (headBytes (major * 32 + info) n) size head
+      → a ≡ Made (record { next = next; size = head + size; count = 1; indicator = 0; binary = binary; length = length′ }) → Finished b b′ pos 1 major indicator n next size place binary length′ a
+  finish-done h f = finish-by c k i (h .sized) (λ b₀ ws w e far. h .is b₀ ws w e) f
+
+  -- behind any room: what was read is moved to where the head ends
+  pub enclose-done : {b₁ : List ℕ} {room : ℕ} → HeadSize (major * 32 + info) head → b₁ ≡ moved b (pos + room) (pos + head) size → b′ ≡ overIfFits b₁ pos (headBytes (major * 32 + info) n)
+      → a ≡ Made (record { next = next; size = head + size; count = 1; indicator = 0; binary = binary; length = length′ }) → Finished b b′ pos room major indicator n next size place binary length′ a
+  enclose-done {room = room} h m w f =
+      let q : head ≡ length (headBytes (major * 32 + info) n) = h .is n in
+      finish-by c k i q (λ b₀ ws u e far. wrote-moved (headBytes (major * 32 + info) n) u e (m ∙ ap (λ (x : ℕ). moved b (pos + room) (pos + x) size) q) w far) f
+
 pub ruleset finish-ways = (finish-none, finish-done)
+
+pub ruleset enclose-ways = (finish-none, enclose-done)
+
+-- FEW THINGS
+pub short-not : {indicator count : ℕ} → IsShort indicator count false
+short-not = record { none = λ e. absurd (clash (sym e)); few = λ e. absurd (clash (sym e)) }
+
+module _ {n : ℕ} (f : Few n) where
+  few-width : shortest n ≡ w0
+  unfolding shortest fits limit
+  few-width = rw (le-leb n 23 (omega (arith, f .most)), shortest)
+
+  few-choice : 3 ≡ chooseBy 0 n
+  unfolding chooseBy widthNumber
+  few-choice = sym (ap widthNumber few-width)
+
+  few-informed : Informed 3 n n
+  unfolding infoBy
+  few-informed = record { is = omega (arith, f .most); most = omega (arith, f .most) }
+
+  few-size : (major : ℕ) → HeadSize (major * 32 + n) 1
+  few-size major =
+      let e : (major * 32 + n) % 32 ≡ n = omega (arith, f .most) in
+      size-is (size-none n (λ z. omega (arith, f .most)) (λ z. omega (arith, f .most)) (λ z. omega (arith, f .most)) (λ z. omega (arith, f .most)) ∙ ap argumentSize (sym e))
+
+  pub short-cast : Fits bits8 n
+  short-cast = record { fits = omega (arith, f .most) }
+
+  pub short-first : {major size : ℕ} → Heavy major size → Fits bits8 (major * 32 + n)
+  short-first h = record { fits = omega (arith, f .most, h .most) }
+
+  pub short-done : {b b′ : List ℕ} {pos next size : ℕ} {a : ReadAnswer} (major : ℕ) → b′ ≡ overIfFits b pos ((major * 32 + n) ∷ []) → a ≡ Made (record { next = next; size = size + 1; count = 1; indicator = 0; binary = false; length = 0 })
+      → FinishedShort b b′ pos major n next size a
+  short-done {next = next} {size = size} major w e =
+      let q : size + 1 ≡ 1 + size = omega arith in
+      record {
+        is = λ place.
+            finish-done few-choice (λ z. omega arith) few-informed (before-short n (few-size major) refl w)
+            (e ∙ ap (λ (x : ℕ). Made (record { next = next; size = x; count = 1; indicator = 0; binary = false; length = 0 })) q);
+      }
+
+pub short-size : {major size : ℕ} → Heavy major size → Fits bits64 (size + 1)
+short-size h = record { fits = omega (arith, h .fits) }
+
+-- ROOM
+module _ {pos room size : ℕ} (h : Heavy room size) (l : Light pos) where
+  pub room-place : Fits bits64 (pos + room)
+  room-place = record { fits = omega (arith, h .most, l .fits) }
+
+  pub head-place : {i r : ℕ} → HeadSize i r → Fits bits64 (pos + r)
+  head-place s = record { fits = omega (arith, s .most, l .fits) }
+
+  pub enclose-size : {i r : ℕ} → HeadSize i r → Fits bits64 (r + size)
+  enclose-size s = record { fits = omega (arith, s .most, h .fits) }
 
 pub finish-first : {major size width n info : ℕ} → Heavy major size → Informed width n info → Fits bits8 (major * 32 + info)
 finish-first h i = record { fits = omega (arith, h .most, i .most) }

@@ -2,12 +2,15 @@
 -- Assumes nothing.
 use mathlib.Core.Path.{_≡_, refl, sym, ap, _∙_}
 use mathlib.Core.List.{List, [], _∷_, _++_, append-assoc}
-use Prim.Native.Nat.{ℕ, suc, _+_, _≤_, _<_}
+use mathlib.Core.Bool.{Bool, true, false}
+use Prim.Native.Nat.{ℕ, suc, _+_, _≤_, _<_, max}
 use native.Mathlib.Omega.{arith}
+use lib.Dec.{leb}
 use lib.ListN.{length, take, drop, length-append, take-append-drop}
 use lib.Seq.{length-take-le, take-at, drop-at, take-take, take-append-le}
-use Rattle.memory.specs.Buffer.{over, overIfFits, headPut}
-use Rattle.memory.proofs.Buffer.{written-fits, length-written, length-closed, fitting-yes}
+use borrow.Author.Tests.{leb-true, leb-false}
+use Rattle.memory.specs.Buffer.{over, overIfFits, moved, headPut}
+use Rattle.memory.proofs.Buffer.{over-before, written-fits, length-written, length-moved, length-closed, fitting-yes}
 use Rattle.encoding.specs.ReadAnswers.{Wrote}
 
 -- a buffer that has ws from p on, seen from p, from a place before it, and from behind ws
@@ -82,6 +85,32 @@ wrote-closed {b} {b₁} {b₂} {p} {size} {ws} hs z h e k =
           let t : take size (drop (p + 1) b₁) ≡ ws = rw (onward b b₁ (p + 1) ws (h .behind) (h .is f₁) i) (take-at ws (h .behind) size (sym e)) in
           k ∙ fitting-yes (p + length hs + size) b₁ (over b₁ p (hs ++ take size (drop (p + 1) b₁))) g ∙ rw (upto b b₁ (p + 1) ws (h .behind) (h .is f₁) i p le) (ap (λ (x : List ℕ). take p b ++ ((hs ++ x) ++ drop (p + length (hs ++ take size (drop (p + 1) b₁))) b₁)) t);
     }
+
+-- a head before what stands behind some room for it, and was moved to where the head ends
+pub wrote-moved : {b b₁ b₂ b₃ : List ℕ} {p room size : ℕ} {ws : List ℕ} (hs : List ℕ) → Wrote b b₁ (p + room) ws → size ≡ length ws → b₂ ≡ moved b₁ (p + room) (p + length hs) size → b₃ ≡ overIfFits b₂ p hs
+    → (length hs < room → p + room + size ≤ length b₁) → Wrote b b₃ p (hs ++ ws)
+unfolding over moved
+wrote-moved {b} {b₁} {b₂} {b₃} {p} {room} {size} {ws} hs h e m k far =
+    record {
+      same = ap length k ∙ length-written b₂ p hs ∙ ap length m ∙ length-moved b₁ (p + room) (p + length hs) size ∙ h .same;
+      behind = drop (p + length (hs ++ ws)) b₁;
+      is = λ f.
+          let l : length (hs ++ ws) ≡ length hs + length ws = length-append hs ws in
+          let g : p + room + size ≤ length b₁ = inside (leb room (length hs)) refl (omega (arith, l, e, h .same)) in
+          let f₁ : p + room + length ws ≤ length b = omega (arith, e, h .same) in
+          let i : p + room ≤ length b = omega (arith, e, h .same) in
+          let le : p ≤ p + room = omega arith in
+          let t : take size (drop (p + room) b₁) ≡ ws = rw (onward b b₁ (p + room) ws (h .behind) (h .is f₁) i) (take-at ws (h .behind) size (sym e)) in
+          let y : max (p + room) (p + length hs) + size ≤ length b₁ = omega (arith, l, e, h .same) in
+          let m₁ : b₂ ≡ over b₁ (p + length hs) ws = m ∙ fitting-yes (max (p + room) (p + length hs) + size) b₁ (over b₁ (p + length hs) (take size (drop (p + room) b₁))) y ∙ ap (over b₁ (p + length hs)) t in
+          let z : p + length hs ≤ length b₁ = omega (arith, l, h .same) in
+          let z₂ : p + length hs ≤ length b₂ = omega (arith, l, h .same, ap length m, length-moved b₁ (p + room) (p + length hs) size) in
+          k ∙ written-fits b₂ p hs z₂ ∙ ap (λ (x : List ℕ). over x p hs) m₁ ∙ over-before b₁ p hs ws z ∙ rw (upto b b₁ (p + room) ws (h .behind) (h .is f₁) i p le);
+    }
+  where
+    inside : (t : Bool) → leb room (length hs) ≡ t → p + (length hs + size) ≤ length b₁ → p + room + size ≤ length b₁
+    inside true u f = omega (arith, leb-true room (length hs) u)
+    inside false u f = far (leb-false room (length hs) u)
 
 -- what was written to the front
 pub wrote-held : {b b′ : List ℕ} {ws : List ℕ} → Wrote b b′ 0 ws → length ws ≤ length b → take (length ws) b′ ≡ ws

@@ -236,6 +236,21 @@ pub record Heavy (major size : ℕ) : Type 0 where
   pub most : major ≤ 7
   pub fits : size < 2 ^ 40
 
+-- so few that a head says it in one byte
+pub record Few (n : ℕ) : Type 0 where
+  pub most : n < 24
+
+-- t: there are few things, and no indicator
+pub record IsShort (indicator count : ℕ) (t : Bool) : Type 0 where
+  pub none : t ≡ true → indicator ≡ 0
+  pub few : t ≡ true → count < 24
+
+-- room r for a head at pos, in a buffer of so many bytes: where it is more than one byte, 255 bytes fit behind it
+pub record Roomed (pos end r : ℕ) : Type 0 where
+  pub some : 1 ≤ r
+  pub most : r ≤ 3
+  pub ample : 1 < r → pos + 258 ≤ end
+
 -- ANSWERS
 
 -- a reader's answer m, at pos: a thing x was read, and r is left. Its bytes are at most nine for each byte of the text, of which there
@@ -332,12 +347,18 @@ pub record Closes (b b′ : List ℕ) (pos : ℕ) (hs : List ℕ) (size r : ℕ)
   pub is : (b₀ ws : List ℕ) → Wrote b₀ b (pos + 1) ws → size ≡ length ws → Wrote b₀ b′ pos (hs ++ ws)
   pub sized : r ≡ length hs
 
--- a container: a head as an indicator asks was put before what was read, or is refused at a place
-pub record Finished (b b′ : List ℕ) (pos major indicator n next size place : ℕ) (binary : Bool) (length′ : ℕ) (a : ReadAnswer) : Type 0 where
+-- a container: a head as an indicator asks was put before what was read behind some room for it, or is refused at a place. Where the head is
+-- smaller than the room, what was read must have had its place behind the room
+pub record Finished (b b′ : List ℕ) (pos room major indicator n next size place : ℕ) (binary : Bool) (length′ : ℕ) (a : ReadAnswer) : Type 0 where
   pub refused : chooseBy indicator n ≡ 0 → Denies badIndicator place a
   pub made : (chooseBy indicator n ≡ 0 → ⊥)
       → a ≡ Made (record { next = next; size = length (headBytes (major * 32 + infoBy (chooseBy indicator n) n) n) + size; count = 1; indicator = 0; binary = binary; length = length′ })
-  pub closed : (chooseBy indicator n ≡ 0 → ⊥) → (b₀ ws : List ℕ) → Wrote b₀ b (pos + 1) ws → size ≡ length ws → Wrote b₀ b′ pos (headBytes (major * 32 + infoBy (chooseBy indicator n) n) n ++ ws)
+  pub closed : (chooseBy indicator n ≡ 0 → ⊥) → (b₀ ws : List ℕ) → Wrote b₀ b (pos + room) ws → size ≡ length ws
+      → (length (headBytes (major * 32 + infoBy (chooseBy indicator n) n) n) < room → pos + room + size ≤ length b) → Wrote b₀ b′ pos (headBytes (major * 32 + infoBy (chooseBy indicator n) n) n ++ ws)
+
+-- the same without an indicator for few things, whatever the place
+pub record FinishedShort (b b′ : List ℕ) (pos major n next size : ℕ) (a : ReadAnswer) : Type 0 where
+  pub is : (place : ℕ) → Finished b b′ pos 1 major 0 n next size place false 0 a
 
 -- a thing of indefinite length: the byte `first` was put before what was read, and a break behind it
 pub record Ended (b b′ : List ℕ) (pos first next size : ℕ) (binary : Bool) (length′ : ℕ) (a : ReadAnswer) : Type 0 where

@@ -105,32 +105,48 @@ hex-front {b} {b′} {pos} n k x h l y =
     rw z at (laid-front (hexOf (take n x)) (hexOf (drop n (take k x))) (laid-as y e))
 
 module _ (s : List ℕ) where
-  half-laid : (at to : ℕ) {b b₁ : List ℕ} {pos r : ℕ} → length b * 1 < 2 ^ 63 → pos + 32 ≤ length b → to ≡ at + 16 → to ≤ length s → Prints b b₁ pos (contentOf false (take (to - at) (drop at s))) r
-      → Laid b b₁ pos (hexOf (take 16 (drop at s))) (pos + 32)
+  -- the digits of a part
+  part-laid : (k at to : ℕ) {b b₁ : List ℕ} {pos r : ℕ} → length b * 1 < 2 ^ 63 → pos + 2 * k ≤ length b → to ≡ at + k → to ≤ length s → Prints b b₁ pos (contentOf false (take (to - at) (drop at s))) r
+      → Laid b b₁ pos (hexOf (take k (drop at s))) (pos + 2 * k)
   unfolding contentOf
-  half-laid at to {b} {b₁} {pos} {r} u l e t p =
-      let z : to - at ≡ 16 = omega arith in
-      let m = length-part s at 16 (omega arith) in
-      let g = hex-length (take 16 (drop at s)) in
-      let p′ : Prints b b₁ pos (hexOf (take 16 (drop at s))) r = rw z at p in
-      let q : r ≡ pos + 32 = omega (arith, p′ .next) in
+  part-laid k at to {b} {b₁} {pos} {r} u l e t p =
+      let z : to - at ≡ k = omega arith in
+      let m = length-part s at k (omega arith) in
+      let g = hex-length (take k (drop at s)) in
+      let p′ : Prints b b₁ pos (hexOf (take k (drop at s))) r = rw z at p in
+      let q : r ≡ pos + 2 * k = omega (arith, p′ .next) in
       rw q at (laid-prints u (omega arith) p′)
 
-module _ (s : List ℕ) (from : ℕ) (h : from + 32 ≤ length s) {b b₁ : List ℕ} {pos : ℕ} (i : pos + 64 ≤ length b) (u : length b * 1 < 2 ^ 63) where
-  pub half-told : {n r : ℕ} → n ≤ 16 → Prints b b₁ pos (contentOf false (take (from + 16 - from) (drop from s))) r → Laid b b₁ pos (hexOf (take n (drop from s))) (pos + 2 * n)
-  half-told {n} l p = hex-front n 16 (drop from s) l (length-part s from n (omega arith)) (half-laid s from (from + 16) u (omega arith) refl (omega arith) p)
-
-  pub whole-told : {b₂ : List ℕ} {n r r′ : ℕ} → n ≤ 32 → Prints b b₁ pos (contentOf false (take (from + 16 - from) (drop from s))) r
-      → Prints b₁ b₂ (pos + 32) (contentOf false (take (from + 32 - (from + 16)) (drop (from + 16) s))) r′ → Laid b b₂ pos (hexOf (take n (drop from s))) (pos + 2 * n)
-  whole-told {b₂} {n} l p q =
+  -- and behind them those of the next
+  parts-laid : (j k from : ℕ) {b b₁ b₂ : List ℕ} {pos r r′ : ℕ} → Laid b b₁ pos (hexOf (take j (drop from s))) r → Laid b₁ b₂ r (hexOf (take k (drop (from + j) s))) r′ → Laid b b₂ pos (hexOf (take (j + k) (drop from s))) r′
+  parts-laid j k from p q =
       let x = drop from s in
-      let e : hexOf (take 16 x) ++ hexOf (take 16 (drop (from + 16) s)) ≡ hexOf (take 32 x)
-      = ap (λ (y : List ℕ). hexOf (take 16 x) ++ hexOf (take 16 y)) (sym (drop-drop 16 from s)) ∙ sym (hex-append (take 16 x) (take 16 (drop 16 x))) ∙ ap hexOf (sym (take-add 16 16 x)) in
-      let v = p .same in
-      hex-front n 32 x l (length-part s from n (omega arith))
-      (laid-as (laid-more (half-laid s from (from + 16) u (omega arith) refl (omega arith) p) (half-laid s (from + 16) (from + 32) (omega arith) (omega arith) (omega arith) (omega arith) q)) e)
+      laid-as (laid-more p q)
+      (ap (λ (y : List ℕ). hexOf (take j x) ++ hexOf (take k y)) (sym (drop-drop j from s)) ∙ sym (hex-append (take j x) (take k (drop j x))) ∙ ap hexOf (sym (take-add j k x)))
 
-pub ruleset digits-ways = (half-told, whole-told)
+module _ (s : List ℕ) (from : ℕ) (h : from + 32 ≤ length s) {b b₁ : List ℕ} {pos r : ℕ} (i : pos + 64 ≤ length b) (u : length b * 1 < 2 ^ 63) (p : Prints b b₁ pos (contentOf false (take (from + 8 - from) (drop from s))) r) where
+  first-laid : Laid b b₁ pos (hexOf (take 8 (drop from s))) (pos + 16)
+  first-laid = part-laid s 8 from (from + 8) u (omega arith) refl (omega arith) p
+
+  pub quarter-told : {n : ℕ} → n ≤ 8 → Laid b b₁ pos (hexOf (take n (drop from s))) (pos + 2 * n)
+  quarter-told {n} l = hex-front n 8 (drop from s) l (length-part s from n (omega arith)) first-laid
+
+  module _ {b₂ : List ℕ} {r₂ : ℕ} (q : Prints b₁ b₂ (pos + 16) (contentOf false (take (from + 16 - (from + 8)) (drop (from + 8) s))) r₂) where
+    second-laid : Laid b b₂ pos (hexOf (take 16 (drop from s))) (pos + 16 + 16)
+    second-laid = let v = p .same in parts-laid s 8 8 from first-laid (part-laid s 8 (from + 8) (from + 16) (omega arith) (omega arith) (omega arith) (omega arith) q)
+
+    pub half-told : {n : ℕ} → n ≤ 16 → Laid b b₂ pos (hexOf (take n (drop from s))) (pos + 2 * n)
+    half-told {n} l = hex-front n 16 (drop from s) l (length-part s from n (omega arith)) second-laid
+
+    pub whole-told : {b₃ : List ℕ} {n r₃ : ℕ} → n ≤ 32 → Prints b₂ b₃ (pos + 32) (contentOf false (take (from + 32 - (from + 16)) (drop (from + 16) s))) r₃ → Laid b b₃ pos (hexOf (take n (drop from s))) (pos + 2 * n)
+    whole-told {b₃} {n} l t =
+        let v = p .same in
+        let w = q .same in
+        let z : pos + 16 + 16 ≡ pos + 32 = omega arith in
+        hex-front n 32 (drop from s) l (length-part s from n (omega arith))
+        (parts-laid s 16 16 from (rw z at second-laid) (part-laid s 16 (from + 16) (from + 32) (omega arith) (omega arith) (omega arith) (omega arith) t))
+
+pub ruleset digits-ways = (quarter-told, half-told, whole-told)
 
 pub quoted-laid : (x : List ℕ) {b b₁ b₂ b₃ b₄ : List ℕ} {pos p q e o : ℕ} → Laid b b₁ pos (0x68 ∷ []) p → Laid b₁ b₂ p (0x27 ∷ []) q → Laid b₂ b₃ q (hexOf x) e → Laid b₃ b₄ e (0x27 ∷ []) o → Laid b b₄ pos (quotedHex x) o
 unfolding quotedHex

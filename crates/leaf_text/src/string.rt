@@ -14,8 +14,10 @@ ghost use Rattle.leaf_text.specs.declared.kind.Kind.the-variants.{Bytes,
 
 const BLOCK: usize = 32;
 
-// Half a block, and the digits that it makes.
+// Half of it and a quarter. The digits of a part are as many as a part twice as long has bytes.
 const HALF: usize = 16;
+
+const QUARTER: usize = 8;
 
 fn smaller(a: u8, b: u8) -> u8
     ensures { λ r. ⌜ r ≡ min a b ⌝ }
@@ -76,17 +78,21 @@ pub(crate) fn short_text(bytes: &[u8], at: usize, out: &mut [u8], pos: usize) ->
     up_to(from + n as usize, put(b'"', out, p + n as usize))
 }
 
-// The digits of half a block, and those of the other half where it is reached.
+// The digits of a quarter of a block, of the next one where it is reached, and so of the other half: most strings are short.
 fn digits(bytes: &[u8], from: usize, n: usize, out: &mut [u8], pos: usize)
     requires { ⌜ from + 32 ≤ length (now bytes) ⌝ }
     requires { ⌜ pos + 64 ≤ length (now out) ⌝ }
     requires { ⌜ n ≤ 32 ⌝ }
     ensures { λ _. ⌜ Laid (now (out .entry)) (now (out .exit)) pos (hexOf (take n (drop from (now (bytes .entry))))) (pos + 2 * n) ⌝ }
 {
+    let quarter = from + QUARTER;
     let half = from + HALF;
-    text_output::hex_pairs(&bytes[from..half], out, pos);
-    if HALF < n {
-        text_output::hex_pairs(&bytes[half..from + BLOCK], out, pos + BLOCK);
+    text_output::hex_pairs(&bytes[from..quarter], out, pos);
+    if QUARTER < n {
+        text_output::hex_pairs(&bytes[quarter..half], out, pos + HALF);
+        if HALF < n {
+            text_output::hex_pairs(&bytes[half..from + BLOCK], out, pos + BLOCK);
+        }
     }
 }
 

@@ -10,11 +10,12 @@ use lib.ListN.{length, take, drop, length-append}
 use mir.Syntax.{w64 as bits64}
 use mir.Val.{Fits}
 use Rattle.cbor.specs.Refusals.{Result, ok, refuse, bind, badIndicator, badTypedArray}
-use Rattle.cbor.specs.Widths.{Width, w0, w1, w2, w4, w8, limit, information}
+use Rattle.cbor.specs.Widths.{Width, w0, w1, w2, w4, w8, limit, argumentBytes, information}
 use Rattle.cbor.specs.Items.{byteString, textString, Size, definite, indefinite, Item, int, string, chunked, array, map, tag, simple, count, count₂}
 use Rattle.cbor.specs.Heads.{Major, strings, arrays, maps, tags, majorNumber, initial, head}
 use Rattle.cbor.specs.Encode.{encodeString, encode, encodeAll, encodeAll₂, enclosed, openingHead, closingBreak}
 use Rattle.cbor.specs.TypedArrays.{mayTag, divides}
+use Rattle.cbor.proofs.Arguments.{length-big}
 use Rattle.typed_array.specs.TypedArrayAnswers.{mayTagBy}
 use Rattle.head.specs.HeadAnswers.{headBytes}
 use Rattle.refusal.specs.declared.Refusal.{Refusal}
@@ -32,7 +33,7 @@ use Rattle.numbers.proofs.IndicatorCode.{choose-is}
 use Rattle.scanning.proofs.Marked.{stands-left, length-marked}
 use Rattle.leaf_answer.specs.LeafAnswers.{LeafTold}
 use Rattle.leaf_answer.specs.declared.LeafRead.{LeafRead}
-use Rattle.encoding.specs.ReadAnswers.{View, Held, unsaid, noBytes, bytesOf, heldOf, Tells, ofItem, ofClosed, ofPairs, ofTagged, followBy, followed, behindOpener, taggedRead, indicatorFor, infoBy, HeadSize, HeadWritten, Room, Opened, Bracketed, Light, Heavy, Wrote, MovedOn, After, ReadTold, Finished, Ended}
+use Rattle.encoding.specs.ReadAnswers.{View, Held, unsaid, noBytes, bytesOf, heldOf, Tells, ofItem, ofClosed, ofPairs, ofTagged, followBy, followed, behindOpener, taggedRead, indicatorFor, infoBy, HeadSize, HeadWritten, Room, Opened, Bracketed, Light, Heavy, Few, IsShort, Roomed, Wrote, MovedOn, After, ReadTold, Finished, FinishedShort, Ended}
 use Rattle.encoding.specs.declared.answer.MadeItem.{MadeItem as MadeS}
 use Rattle.encoding.specs.declared.answer.ReadAnswer.{ReadAnswer}
 use Rattle.encoding.specs.declared.answer.ReadAnswer.the-variants.{Made, Refused}
@@ -62,22 +63,37 @@ told-seen v res h = record { after = after-seen v _ _ _ _ _ _ res (h .after) }
 fits-of : (i : Indicator) (n k : ℕ) → n ≡ k → n ≤ limit w8 → Chose n (choose i k)
 fits-of i n k e h = rw (← e) (choose-fits i n h)
 
+-- no head is smaller than one byte; where one is smaller than a larger room, what stands behind that has its place
+head-one : {P : Type 0} (major : Major) (w : Width) (n : ℕ) → length (head major w n) < 1 → P
+unfolding head
+head-one major w n z = absurd (omega arith)
+
+head-room : {pos end room : ℕ} (major : Major) (w : Width) (n : ℕ) → Roomed pos end room → n ≤ limit w → length (head major w n) < room → pos + room + n ≤ end
+unfolding head limit argumentBytes
+head-room major w0 n rm f z = omega (arith, rm .ample (omega arith), rm .most)
+head-room major w1 n rm f z = omega (arith, rm .ample (omega arith), rm .most)
+head-room major w2 n rm f z = absurd (omega (arith, rm .most, length-big 2 n))
+head-room major w4 n rm f z = absurd (omega (arith, rm .most, length-big 4 n))
+head-room major w8 n rm f z = absurd (omega (arith, rm .most, length-big 8 n))
+
 -- A HEAD before what was read: rd reads it, v is its view, and make the item that is made of it under a width
 module _ {A : Type 0} (rd : List ℕ → Result A) (v : A → View) (i : A → Indicator) (num : A → ℕ) (make : A → Width → Item) (major : Major)
     (law : (x : A) (w : Width) → encode (make x w) ≡ head major w (num x) ++ v x .bytes) where
   abbrev Outer : ℕ → List ℕ → Result Item
   Outer p s = bind (rd s) (λ x r. obey reads (widthRule (choose (i x) (num x)) (make x)) p p r)
 
-  module _ {s b b′ b″ : List ℕ} {at pos place′ n mark length′ : ℕ} {binary : Bool} {m : MadeS} {a′ : ReadAnswer} (a : ReadAnswer) (o : Opened s at pos place′)
-      (told : ReadTold v s b b′ (length (marked s) - at) (pos + 1) a (rd (drop at (marked s)))) (g : a ≡ Made m) where
-    kept-by : (x : A) (r : List ℕ) (c : Chosen) → choose (i x) (num x) ≡ c → rd (drop at (marked s)) ≡ ok x r → MovedOn s b b′ (length (marked s) - at) (pos + 1) m (v x) r → n ≡ num x → n ≤ limit w8
-        → chooseBy mark n ≡ chosenNumber c → ((w : Width) → Tells (heldOf (make x w)) binary length′) → Finished b′ b″ pos (majorNumber major) mark n (m .next) (m .size) place′ binary length′ a′
+  module _ {s b b′ b″ : List ℕ} {at pos room place′ n mark length′ : ℕ} {binary : Bool} {m : MadeS} {a′ : ReadAnswer} (a : ReadAnswer) (o : Opened s at pos place′)
+      (told : ReadTold v s b b′ (length (marked s) - at) (pos + room) a (rd (drop at (marked s)))) (g : a ≡ Made m)
+      (far : (w : Width) → n ≤ limit w → length (head major w n) < room → pos + room + m .size ≤ length b′) where
+    kept-by : (x : A) (r : List ℕ) (c : Chosen) → choose (i x) (num x) ≡ c → rd (drop at (marked s)) ≡ ok x r → MovedOn s b b′ (length (marked s) - at) (pos + room) m (v x) r → n ≡ num x → n ≤ limit w8
+        → chooseBy mark n ≡ chosenNumber c → ((w : Width) → Tells (heldOf (make x w)) binary length′) → Finished b′ b″ pos room (majorNumber major) mark n (m .next) (m .size) place′ binary length′ a′
         → ReadTold ofItem s b b″ (length (marked s) - at + 1) pos a′ (Outer (length (marked s) - place′) (drop at (marked s)))
     unfolding widthRule obey chosenNumber ofItem initial
     kept-by x r (chosen w) ce e mv en few we ne fin =
         let nz : chooseBy mark n ≡ 0 → ⊥ = λ z. omega (arith, we, width-some w) in
         let fit : n ≤ limit w = rw ce at (fits-of (i x) n (num x) en few) in
-        let hs : headBytes (majorNumber major * 32 + infoBy (chooseBy mark n) n) n ≡ head major w (num x) = rw (we, info-width w n fit) (sym (head-bytes major w n fit)) ∙ ap (head major w) en in
+        let hn : headBytes (majorNumber major * 32 + infoBy (chooseBy mark n) n) n ≡ head major w n = rw (we, info-width w n fit) (sym (head-bytes major w n fit)) in
+        let hs : headBytes (majorNumber major * 32 + infoBy (chooseBy mark n) n) n ≡ head major w (num x) = hn ∙ ap (head major w) en in
         let q : encode (make x w) ≡ headBytes (majorNumber major * 32 + infoBy (chooseBy mark n) n) n ++ v x .bytes = law x w ∙ ap (λ (u : List ℕ). u ++ v x .bytes) (sym hs) in
         let l : length (encode (make x w)) ≡ length (headBytes (majorNumber major * 32 + infoBy (chooseBy mark n) n) n) + m .size = ap length q ∙ length-append (headBytes (majorNumber major * 32 + infoBy (chooseBy mark n) n) n) (v x .bytes) ∙ omega (arith, mv .sized) in
         told-ok (make x w) _ (bind-yes (rd (drop at (marked s))) _ x r e ∙ ap (λ (c : Chosen). obey reads (widthRule c (make x)) (length (marked s) - place′) (length (marked s) - place′) r) ce) (fin .made nz)
@@ -89,15 +105,15 @@ module _ {A : Type 0} (rd : List ℕ → Result A) (v : A → View) (i : A → I
           tells = ne w;
           many = omega (arith, head-some (majorNumber major * 32 + infoBy (chooseBy mark n) n) n);
           short = omega (arith, head-short (majorNumber major * 32 + infoBy (chooseBy mark n) n) n, mv .short);
-          wrote = rw q (fin .closed nz b (v x .bytes) (mv .wrote) (mv .sized));
+          wrote = rw q (fin .closed nz b (v x .bytes) (mv .wrote) (mv .sized) (λ z. far w fit (rw hn at z)));
         })
     kept-by x r misfit ce e mv en few we ne fin =
         let p : place′ ≡ length (marked s) - (length (marked s) - place′) = omega (arith, o .before) in
         told-no badIndicator (length (marked s) - place′) _
         (bind-yes (rd (drop at (marked s))) _ x r e ∙ ap (λ (c : Chosen). obey reads (widthRule c (make x)) (length (marked s) - place′) (length (marked s) - place′) r) ce) (denied (fin .refused we) p)
 
-    pub kept-done : ((x : A) (r : List ℕ) → MovedOn s b b′ (length (marked s) - at) (pos + 1) m (v x) r → (n ≡ num x) × (n ≤ m .size) × (mark ≡ indicatorNumber (i x)) × ((w : Width) → Tells (heldOf (make x w)) binary length′))
-        → Finished b′ b″ pos (majorNumber major) mark n (m .next) (m .size) place′ binary length′ a′
+    pub kept-done : ((x : A) (r : List ℕ) → MovedOn s b b′ (length (marked s) - at) (pos + room) m (v x) r → (n ≡ num x) × (n ≤ m .size) × (mark ≡ indicatorNumber (i x)) × ((w : Width) → Tells (heldOf (make x w)) binary length′))
+        → Finished b′ b″ pos room (majorNumber major) mark n (m .next) (m .size) place′ binary length′ a′
         → ReadTold ofItem s b b″ (length (marked s) - at + 1) pos a′ (Outer (length (marked s) - place′) (drop at (marked s)))
     unfolding limit
     kept-done f fin =
@@ -143,7 +159,7 @@ unfolding indicatorFor contains obey
 open-by mark n make p q r e = rw e
 
 -- the sizes
-module _ {A : Type 0} {v : A → View} {s b b′ : List ℕ} {at place′ : ℕ} {m : MadeS} {res : Result A} (pos : ℕ) (a : ReadAnswer) (o : Opened s at pos place′) (told : ReadTold v s b b′ (length (marked s) - at) (pos + 1) a res) (g : a ≡ Made m) where
+module _ {A : Type 0} {v : A → View} {s b b′ : List ℕ} {at here place′ : ℕ} {m : MadeS} {res : Result A} (pos : ℕ) (a : ReadAnswer) (o : Opened s at pos place′) (told : ReadTold v s b b′ (length (marked s) - at) here a res) (g : a ≡ Made m) where
   pub kept-light : Light (pos + m .size)
   kept-light = record { fits = omega (arith, got a told g .moved .short, o .room) }
 
@@ -165,14 +181,18 @@ module _ {s b b′ : List ℕ} {at pos place′ mark : ℕ} (d : ℕ) (a : ReadA
   array-refused f = told-lost _ _ (lost a told f) array-eq
 
   module _ {b″ : List ℕ} {m : MadeS} {a′ : ReadAnswer} (g : a ≡ Made m) where
-    pub array-done : (mark ≡ 1 → ⊥) → Finished b′ b″ pos 4 mark (m .count) (m .next) (m .size) place′ false 0 a′
+    pub array-done : (mark ≡ 1 → ⊥) → Finished b′ b″ pos 1 4 mark (m .count) (m .next) (m .size) place′ false 0 a′
         → ReadTold ofItem s b b″ (length (marked s) - at + 1) pos a′ (behindOpener d (bracket (indicatorFor mark)) (length (marked s) - place′) (drop at (marked s)))
     unfolding ofClosed encode enclosed openingHead closingBreak heldOf Tells majorNumber
     array-done n1 fin =
         rw (array-eq ∙ bind-same (reads (items square atStart d) (drop at (marked s))) _ _ (λ c r e. bounded-by (indicatorFor mark) (count (c .all)) (λ z. array z (c .all)) (length (marked s) - place′) (length (marked s) - place′) r (λ z. n1 (sym (br .known) ∙ z))))
         (kept-done (reads (items square atStart d)) ofClosed (λ c. indicatorFor mark) (λ c. count (c .all)) (λ c w. array (definite w) (c .all)) arrays
-        (λ c w. ap (λ (u : List ℕ). head arrays w (count (c .all)) ++ u) (mathlib.Core.List.append-nil (encodeAll (c .all)))) a (br .opened) told g
+        (λ c w. ap (λ (u : List ℕ). head arrays w (count (c .all)) ++ u) (mathlib.Core.List.append-nil (encodeAll (c .all)))) a (br .opened) told g (λ w f z. head-one arrays w (m .count) z)
         (λ c r mv. (mv .counted, omega (arith, mv .counted, mv .many), sym (br .known), (λ w. refl))) fin)
+
+    pub array-short : (t : Bool) → IsShort mark (m .count) t → t ≡ true → FinishedShort b′ b″ pos 4 (m .count) (m .next) (m .size) a′
+        → ReadTold ofItem s b b″ (length (marked s) - at + 1) pos a′ (behindOpener d (bracket (indicatorFor mark)) (length (marked s) - place′) (drop at (marked s)))
+    array-short t h e fin = array-done (λ z. omega (arith, h .none e)) (rw (h .none e) (fin .is place′))
 
     pub array-open : mark ≡ 1 → Ended b′ b″ pos 0x9f (m .next) (m .size) false 0 a′ → ReadTold ofItem s b b″ (length (marked s) - at + 1) pos a′ (behindOpener d (bracket (indicatorFor mark)) (length (marked s) - place′) (drop at (marked s)))
     unfolding ofClosed encode enclosed openingHead closingBreak initial majorNumber heldOf Tells
@@ -180,7 +200,7 @@ module _ {s b b′ : List ℕ} {at pos place′ mark : ℕ} (d : ℕ) (a : ReadA
         rw (array-eq ∙ bind-same (reads (items square atStart d) (drop at (marked s))) _ _ (λ c r q. open-by mark (count (c .all)) (λ z. array z (c .all)) (length (marked s) - place′) (length (marked s) - place′) r e))
         (kept-open (reads (items square atStart d)) ofClosed (λ c. array indefinite (c .all)) (λ c. refl) (λ c. refl) a (br .opened) told g en)
 
-pub ruleset array-ways = (array-refused, array-done, array-open)
+pub ruleset array-ways = (array-refused, array-short, array-done, array-open)
 
 -- MAPS
 module _ {s b b′ : List ℕ} {at pos place′ mark : ℕ} (d : ℕ) (a : ReadAnswer) (br : Bracketed s at pos place′ mark) (several : ReadTold asSeen s b b′ (length (marked s) - at) (pos + 1) a (severalRead Curly d (drop at (marked s)))) where
@@ -197,14 +217,18 @@ module _ {s b b′ : List ℕ} {at pos place′ mark : ℕ} (d : ℕ) (a : ReadA
   map-refused f = told-lost _ _ (lost a told₂ f) map-eq
 
   module _ {b″ : List ℕ} {m : MadeS} {a′ : ReadAnswer} (g : a ≡ Made m) where
-    pub map-done : (mark ≡ 1 → ⊥) → Finished b′ b″ pos 5 mark (m .count) (m .next) (m .size) place′ false 0 a′
+    pub map-done : (mark ≡ 1 → ⊥) → Finished b′ b″ pos 1 5 mark (m .count) (m .next) (m .size) place′ false 0 a′
         → ReadTold ofItem s b b″ (length (marked s) - at + 1) pos a′ (behindOpener d (brace (indicatorFor mark)) (length (marked s) - place′) (drop at (marked s)))
     unfolding ofPairs encode enclosed openingHead closingBreak heldOf Tells majorNumber
     map-done n1 fin =
         rw (map-eq ∙ bind-same (reads (pairs atStart d) (drop at (marked s))) _ _ (λ c r e. bounded-by (indicatorFor mark) (count₂ c) (λ z. map z c) (length (marked s) - place′) (length (marked s) - place′) r (λ z. n1 (sym (br .known) ∙ z))))
         (kept-done (reads (pairs atStart d)) ofPairs (λ c. indicatorFor mark) (λ c. count₂ c) (λ c w. map (definite w) c) maps
-        (λ c w. ap (λ (u : List ℕ). head maps w (count₂ c) ++ u) (mathlib.Core.List.append-nil (encodeAll₂ c))) a (br .opened) told₂ g
+        (λ c w. ap (λ (u : List ℕ). head maps w (count₂ c) ++ u) (mathlib.Core.List.append-nil (encodeAll₂ c))) a (br .opened) told₂ g (λ w f z. head-one maps w (m .count) z)
         (λ c r mv. (mv .counted, omega (arith, mv .counted, mv .many), sym (br .known), (λ w. refl))) fin)
+
+    pub map-short : (t : Bool) → IsShort mark (m .count) t → t ≡ true → FinishedShort b′ b″ pos 5 (m .count) (m .next) (m .size) a′
+        → ReadTold ofItem s b b″ (length (marked s) - at + 1) pos a′ (behindOpener d (brace (indicatorFor mark)) (length (marked s) - place′) (drop at (marked s)))
+    map-short t h e fin = map-done (λ z. omega (arith, h .none e)) (rw (h .none e) (fin .is place′))
 
     pub map-open : mark ≡ 1 → Ended b′ b″ pos 0xbf (m .next) (m .size) false 0 a′ → ReadTold ofItem s b b″ (length (marked s) - at + 1) pos a′ (behindOpener d (brace (indicatorFor mark)) (length (marked s) - place′) (drop at (marked s)))
     unfolding ofPairs encode enclosed openingHead closingBreak initial majorNumber heldOf Tells
@@ -212,11 +236,11 @@ module _ {s b b′ : List ℕ} {at pos place′ mark : ℕ} (d : ℕ) (a : ReadA
         rw (map-eq ∙ bind-same (reads (pairs atStart d) (drop at (marked s))) _ _ (λ c r q. open-by mark (count₂ c) (λ z. map z c) (length (marked s) - place′) (length (marked s) - place′) r e))
         (kept-open (reads (pairs atStart d)) ofPairs (λ c. map indefinite c) (λ c. refl) (λ c. refl) a (br .opened) told₂ g en)
 
-pub ruleset map-ways = (map-refused, map-done, map-open)
+pub ruleset map-ways = (map-refused, map-short, map-done, map-open)
 
 -- EMBEDDED ITEMS
-module _ {s b b′ : List ℕ} {at pos place′ : ℕ} (d : ℕ) (a : ReadAnswer) (o : Opened s at pos place′) (several : ReadTold asSeen s b b′ (length (marked s) - at) (pos + 1) a (severalRead Angle d (drop at (marked s)))) where
-  told₃ : ReadTold ofClosed s b b′ (length (marked s) - at) (pos + 1) a (reads (items angle atStart d) (drop at (marked s)))
+module _ {s b b′ : List ℕ} {at pos room place′ : ℕ} (d : ℕ) (a : ReadAnswer) (o : Opened s at pos place′) (rm : Roomed pos (length b) room) (several : ReadTold asSeen s b b′ (length (marked s) - at) (pos + room) a (severalRead Angle d (drop at (marked s)))) where
+  told₃ : ReadTold ofClosed s b b′ (length (marked s) - at) (pos + room) a (reads (items angle atStart d) (drop at (marked s)))
   unfolding severalRead
   told₃ = told-seen ofClosed (reads (items angle atStart d) (drop at (marked s))) several
 
@@ -228,12 +252,13 @@ module _ {s b b′ : List ℕ} {at pos place′ : ℕ} (d : ℕ) (a : ReadAnswer
   pub embed-refused : {b″ : List ℕ} {e : Refusal} → a ≡ Refused e → ReadTold ofItem s b b″ (length (marked s) - at + 1) pos (Refused e) (behindOpener d embedding (length (marked s) - place′) (drop at (marked s)))
   embed-refused f = told-lost _ _ (lost a told₃ f) embed-eq
 
-  pub embed-done : {b″ : List ℕ} {m : MadeS} {a′ : ReadAnswer} → a ≡ Made m → Finished b′ b″ pos 2 (m .indicator) (m .size) (m .next) (m .size) place′ true (m .size) a′
+  pub embed-done : {b″ : List ℕ} {m : MadeS} {a′ : ReadAnswer} → a ≡ Made m → Finished b′ b″ pos room 2 (m .indicator) (m .size) (m .next) (m .size) place′ true (m .size) a′
       → ReadTold ofItem s b b″ (length (marked s) - at + 1) pos a′ (behindOpener d embedding (length (marked s) - place′) (drop at (marked s)))
   unfolding ofClosed encode encodeString heldOf Tells majorNumber
   embed-done {m = m} g fin =
       rw embed-eq
       (kept-done (reads (items angle atStart d)) ofClosed (λ c. c .indicator) (λ c. length (encodeAll (c .all))) (λ c w. string byteString w (encodeAll (c .all))) (strings byteString) (λ c w. refl) a o told₃ g
+      (λ w f z. let h = got a told₃ g .moved .wrote .same in omega (arith, head-room (strings byteString) w (m .size) rm f z))
       (λ c r mv. (mv .sized, omega arith, mv .indicated, (λ w. (refl, mv .sized)))) fin)
 
 pub ruleset embed-ways = (embed-refused, embed-done)
@@ -324,8 +349,22 @@ module _ {A : Type 0} {v : A → View} {s b b′ : List ℕ} {at place′ mark :
   pub heavy-5 : Heavy 5 (m .size)
   heavy-5 = kept-heavy pos a (br .opened) told g 5 (omega arith)
 
-pub heavy-2 : {A : Type 0} {v : A → View} {s b b′ : List ℕ} {at place′ : ℕ} {m : MadeS} {res : Result A} (pos : ℕ) (a : ReadAnswer) → Opened s at pos place′ → ReadTold v s b b′ (length (marked s) - at) (pos + 1) a res → a ≡ Made m → Heavy 2 (m .size)
-heavy-2 pos a o told g = kept-heavy pos a o told g 2 (omega arith)
+module _ {s : List ℕ} {at place′ room end : ℕ} (pos : ℕ) (o : Opened s at pos place′) (rm : Roomed pos end room) where
+  pub embed-fits : Fits bits64 (pos + room)
+  embed-fits = record { fits = omega (arith, o .room, rm .most) }
+
+  pub embed-room : Room s at (pos + room)
+  embed-room = record { inside = o .inside; room = omega (arith, o .room, rm .most) }
+
+  pub embed-heavy : {A : Type 0} {v : A → View} {b b′ : List ℕ} {m : MadeS} {res : Result A} (a : ReadAnswer) → ReadTold v s b b′ (length (marked s) - at) (pos + room) a res → a ≡ Made m → Heavy room (m .size)
+  embed-heavy a told g = kept-heavy pos a o told g room (omega (arith, rm .most))
+
+pub embed-light : {s : List ℕ} {at place′ : ℕ} (pos : ℕ) → Opened s at pos place′ → Light pos
+embed-light pos o = record { fits = omega (arith, o .room) }
+
+-- few things, and no indicator
+pub short-few : {indicator count : ℕ} (t : Bool) → IsShort indicator count t → t ≡ true → Few count
+short-few t h e = record { most = h .few e }
 
 -- WHAT OPENS A LEVEL, and what is told of the inside
 goes-inside : (d : ℕ) (o : Opens) (p : ℕ) (r : List ℕ) → (d ≡ 0 → ⊥) → obey reads (oneRule d (begins (opens o))) p p r ≡ behindOpener (d - 1) o p r

@@ -13,15 +13,18 @@ use encoding::answer::done;
 use encoding::answer::listed;
 use encoding::answer::refuse;
 use encoding::answer::strayed;
+use encoding::close::enclose;
 use encoding::close::endless;
 use encoding::close::finish;
+use encoding::close::finish_short;
+use encoding::close::is_short;
 use encoding::heads::leaf;
 use encoding::heads::put_head;
 use encoding::major::ARRAY;
-use encoding::major::BYTE_STRING;
 use encoding::major::ENDLESS_ARRAY;
 use encoding::major::ENDLESS_MAP;
 use encoding::major::MAP;
+use encoding::room::room_for;
 use leaf_answer::Found;
 use leaf_answer::LeafRead;
 use leaf_reader::odd_leaf;
@@ -276,6 +279,9 @@ fn array(
             })
         }
         ReadAnswer::Made(m) => {
+            if is_short(indicator, m.count) {
+                return finish_short(buf, pos, ARRAY, m.count, m.next, m.size);
+            }
             if indicator == INDEFINITE {
                 return endless(buf, pos, ENDLESS_ARRAY, m.next, m.size, false, 0);
             }
@@ -318,6 +324,9 @@ fn map(
             })
         }
         ReadAnswer::Made(m) => {
+            if is_short(indicator, m.count) {
+                return finish_short(buf, pos, MAP, m.count, m.next, m.size);
+            }
             if indicator == INDEFINITE {
                 return endless(buf, pos, ENDLESS_MAP, m.next, m.size, false, 0);
             }
@@ -349,7 +358,8 @@ fn embed(
     requires { ⌜ Opened (now text) at pos place ⌝ }
     ensures { λ r. ⌜ ReadTold ofItem (now (text .entry)) (now (buf .entry)) (now (buf .exit)) (length (marked (now (text .entry))) - at + 1) pos r (behindOpener levels embedding (length (marked (now (text .entry))) - place) (drop at (marked (now (text .entry))))) ⌝ }
 {
-    let a = several(text, at, Closer::Angle, levels, buf, pos + 1);
+    let room = room_for(text, at, buf.len(), pos);
+    let a = several(text, at, Closer::Angle, levels, buf, pos + room);
     match a {
         ReadAnswer::Refused(e) => {
             let kind = e.kind;
@@ -358,18 +368,7 @@ fn embed(
                 place: e.place,
             })
         }
-        ReadAnswer::Made(m) => finish(
-            buf,
-            pos,
-            BYTE_STRING,
-            m.indicator,
-            m.size,
-            m.next,
-            m.size,
-            place,
-            true,
-            m.size,
-        ),
+        ReadAnswer::Made(m) => enclose(buf, pos, room, m.indicator, m.next, m.size, place),
     }
 }
 

@@ -1,3 +1,5 @@
+-- `closing::is_firm` meets its contract.
+-- Assumes nothing.
 use Rattle.closing.proofs.is_firm.Statement.{statement}
 use Rattle.closing.proofs.is_firm.Tie as tie
 use borrow.Author.Needs.{needs}
@@ -8,4 +10,6 @@ is-firm-spec =
     tie.close (tie.spec
     (λ c. search (firm-ways, needs))  -- returns
     (λ c. search (firm-ways, needs))  -- returns-2
+    (λ c. search (firm-ways, needs))  -- returns-3
+    (λ c. search (firm-ways, needs))  -- returns-4
     )

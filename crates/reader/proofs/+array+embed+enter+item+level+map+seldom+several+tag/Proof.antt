@@ -33,7 +33,11 @@ use Rattle.reader.proofs.+array+embed+enter+item+level+map+seldom+sever
 use Rattle.encoding.proofs.answer.done.Reads as done-reads
 use Rattle.encoding.proofs.answer.listed.Reads as listed-reads
 use Rattle.encoding.proofs.close.endless.Reads as endless-reads
+use Rattle.encoding.proofs.close.enclose.Reads as enclose-reads
 use Rattle.encoding.proofs.close.finish.Reads as finish-reads
+use Rattle.encoding.proofs.close.finish_short.Reads as finish-short-reads
+use Rattle.encoding.proofs.close.is_short.Reads as is-short-reads
+use Rattle.encoding.proofs.room.room_for.Reads as room-for-reads
 use Rattle.encoding.proofs.heads.put_head.Reads as put-head-reads
 use Rattle.leaf_reader.proofs.odd_leaf.Reads as odd-leaf-reads
 use Rattle.leaf_reader.proofs.read_leaf.Reads as read-leaf-reads
@@ -57,9 +61,8 @@ use native.Mathlib.Omega.{arith}
 use lib.ListN.{length}
 use Rattle.notation.specs.Reading.{marked}
 use Rattle.encoding.proofs.Telling.{made-inside}
-use Rattle.string_reader.proofs.ReadStrings.{opened-fits}
 use Rattle.reader.proofs.ReadItems.{item-leaf, item-deep, item-whole, level-odd, room-inside, flat-deep, flat-opening, level-at, level-open, level-skips, level-some}
-use Rattle.reader.proofs.ReadContainers.{array-ways, map-ways, embed-ways, tag-ways, tag-place, tag-room, opened-room, bracket-fits, bracket-room, bracket-light, heavy-2, heavy-4, heavy-5, level-ways, bare-ways, open-rooms, bare-array-room, bare-map-room}
+use Rattle.reader.proofs.ReadContainers.{array-ways, map-ways, embed-ways, tag-ways, tag-place, tag-room, bracket-fits, bracket-room, bracket-light, embed-fits, embed-room, embed-heavy, embed-light, short-few, heavy-4, heavy-5, level-ways, bare-ways, open-rooms, bare-array-room, bare-map-room}
 use Rattle.reader.proofs.ReadSeveral.{Listing, several-ways, several-start, several-place, several-room, several-count, several-fits, several-same, several-less, several-on}
 
 abbrev μ-array : Measures 2 array-kinds.ps ℕ
@@ -150,10 +153,10 @@ abbrev several-μ-loop : several-lts.MeasureT-loop
 several-μ-loop text from closer levels buf₀ pos empty at₀ n₀ size₀ key₀ buf at n size key = length (marked text) - at
 
 abbrev array-calls : ℕ → array-lts.Claims
-array-calls t = (several-below t, several.Post, endless-reads.Asked, endless-reads.Learnt, finish-reads.Asked, finish-reads.Learnt)
+array-calls t = (several-below t, several.Post, is-short-reads.Asked, is-short-reads.Learnt, finish-short-reads.Asked, finish-short-reads.Learnt, endless-reads.Asked, endless-reads.Learnt, finish-reads.Asked, finish-reads.Learnt)
 
 abbrev embed-calls : ℕ → embed-lts.Claims
-embed-calls t = (several-below t, several.Post, finish-reads.Asked, finish-reads.Learnt)
+embed-calls t = (room-for-reads.Asked, room-for-reads.Learnt, several-below t, several.Post, enclose-reads.Asked, enclose-reads.Learnt)
 
 abbrev enter-calls : ℕ → enter-lts.Claims
 enter-calls t = (opens-bare-reads.Asked, opens-bare-reads.Learnt, array-below t, array.Post, map-below t, map.Post, seldom-below t, seldom.Post)
@@ -165,7 +168,7 @@ abbrev level-calls : ℕ → level-lts.Claims
 level-calls t = (opening-at-reads.Asked, opening-at-reads.Learnt, array-below t, array.Post, map-below t, map.Post, tag-below t, tag.Post, embed-below t, embed.Post, flat-reads.Asked, flat-reads.Learnt, again-reads.Asked, again-reads.Learnt)
 
 abbrev map-calls : ℕ → map-lts.Claims
-map-calls t = (several-below t, several.Post, endless-reads.Asked, endless-reads.Learnt, finish-reads.Asked, finish-reads.Learnt)
+map-calls t = (several-below t, several.Post, is-short-reads.Asked, is-short-reads.Learnt, finish-short-reads.Asked, finish-short-reads.Learnt, endless-reads.Asked, endless-reads.Learnt, finish-reads.Asked, finish-reads.Learnt)
 
 abbrev seldom-calls : ℕ → seldom-lts.Claims
 seldom-calls t = (odd-leaf-reads.Asked, odd-leaf-reads.Learnt, is-leaf-reads.Asked, is-leaf-reads.Learnt, done-reads.Asked, done-reads.Learnt, level-below t, level.Post)
@@ -184,21 +187,26 @@ pub +array+embed+enter+item+level+map+seldom+several+tag-spec : {M : Type 1} →
     (λ c κs. (omega arith, search bracket-room))  -- several-requires
     (λ c. search needs)  -- enum-known-a
     (λ c. search needs)  -- enum-known-a-2
-    (λ c κs. search bracket-light)  -- endless-requires
+    (λ c κs. search needs)  -- is-short-requires
+    (λ c κs. (search heavy-4, search short-few))  -- finish-short-requires
     (λ c. search needs)  -- same-length
     (λ c. search array-ways)  -- returns
-    (λ c κs. search heavy-4)  -- finish-requires
+    (λ c κs. search bracket-light)  -- endless-requires
     (λ c. search needs)  -- same-length-2
     (λ c. search array-ways)  -- returns-2
+    (λ c κs. search heavy-4)  -- finish-requires
     (λ c. search needs)  -- same-length-3
     (λ c. search array-ways)  -- returns-3
+    (λ c. search needs)  -- same-length-4
+    (λ c. search array-ways)  -- returns-4
     )
     (λ t. embed-lts.spec (embed-calls t) (embed-at t) embed.Post
-    (λ c. search opened-fits)  -- add-several
-    (λ c κs. (omega arith, search opened-room))  -- several-requires
+    (λ c κs. search needs)  -- room-for-requires
+    (λ c. search embed-fits)  -- add-several
+    (λ c κs. (omega arith, search embed-room))  -- several-requires
     (λ c. search needs)  -- enum-known-a
     (λ c. search needs)  -- enum-known-a-2
-    (λ c κs. search heavy-2)  -- finish-requires
+    (λ c κs. (search embed-heavy, search embed-light))  -- enclose-requires
     (λ c. search needs)  -- same-length
     (λ c. search embed-ways)  -- returns
     (λ c. search needs)  -- same-length-2
@@ -269,14 +277,18 @@ pub +array+embed+enter+item+level+map+seldom+several+tag-spec : {M : Type 1} →
     (λ c κs. (omega arith, search bracket-room))  -- several-requires
     (λ c. search needs)  -- enum-known-a
     (λ c. search needs)  -- enum-known-a-2
-    (λ c κs. search bracket-light)  -- endless-requires
+    (λ c κs. search needs)  -- is-short-requires
+    (λ c κs. (search heavy-5, search short-few))  -- finish-short-requires
     (λ c. search needs)  -- same-length
     (λ c. search map-ways)  -- returns
-    (λ c κs. search heavy-5)  -- finish-requires
+    (λ c κs. search bracket-light)  -- endless-requires
     (λ c. search needs)  -- same-length-2
     (λ c. search map-ways)  -- returns-2
+    (λ c κs. search heavy-5)  -- finish-requires
     (λ c. search needs)  -- same-length-3
     (λ c. search map-ways)  -- returns-3
+    (λ c. search needs)  -- same-length-4
+    (λ c. search map-ways)  -- returns-4
     )
     (λ t. seldom-lts.spec (seldom-calls t) (seldom-at t) seldom.Post
     (λ c κs. search needs)  -- odd-leaf-requires
