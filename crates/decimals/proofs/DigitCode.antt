@@ -57,6 +57,9 @@ module _ (b : ℕ) (e : isDigit 10 b ≡ true) where
       let l : b ≤ 0x39 = omega (arith, p .1) in
       record { is = rw (le-leb 0x30 b h, digitValue) (rw (le-leb b 0x39 l)); most = omega arith; zero = λ z. omega arith }
 
+  pub worth-value : Worth b (digitValue b)
+  worth-value = rw (worth-is .is) at worth-is
+
 -- WHAT GOES ON
 
 pub on-yes : {b : ℕ} → GoesOn b true
