@@ -3,9 +3,9 @@
 -- Assumes nothing.
 use mathlib.Core.Path.{_≡_, refl, sym, ap, _∙_}
 use mathlib.Core.List.{List}
-use mathlib.Core.Bool.{true, false}
+use mathlib.Core.Bool.{true}
 use Prim.Native.Nat.{ℕ, zero, suc, _+_, _-_, _*_, _/_, _%_, _^_, _≤_, _<_, max}
-use native.Mathlib.Nat.{mod-lt, mod-one, mul-one, mul-assoc, mul-mod-left, mul-div-cancel, div-div-eq-div-mul, pow-suc, pow-le-pow-right, one-le-pow}
+use native.Mathlib.Nat.{mod-one, mul-one, mul-assoc, mul-mod-left, mul-div-cancel, div-div-eq-div-mul, pow-suc, pow-le-pow-right, one-le-pow}
 use native.Mathlib.Omega.{arith}
 use lib.Arith.{mod-mul}
 use lib.Pow.{pow-add, pow-pos}
@@ -15,7 +15,6 @@ use lib.ListN.{length, getD}
 use mir.Syntax.{w8 as bits8, w64 as bits64}
 use mir.Val.{Fits}
 use Rattle.notation.specs.Numbers.{digitValue, isDigit}
-use Rattle.numbers.specs.NumberAnswers.{DigitAt}
 use Rattle.decimals.specs.DigitParts.{Worth, Tally}
 use Rattle.decimals.specs.WordParts.{Wide, wordAt, Eight, Small, none, one, joined, Marks, Clear, Raised}
 use Rattle.decimals.proofs.DigitCode.{a-digit, worth-is, tally-start, tally-on}
@@ -74,10 +73,8 @@ small-marks (suc n) (suc m) x z t h p q r =
     let z₁ = low-first (x + every 0x76 (suc m)) m in
     let eh : every 0x80 (suc m) % 256 ≡ 0x80 = omega arith in
     let eo : every 0x80 (suc m) / 256 ≡ every 0x80 m = omega arith in
-    let lo : t % 256 ≡ bitAnd (bitOr (z % 256) (x % 256)) 0x80 =
-        ap (λ (v : ℕ). v % 256) q ∙ (and-mod (bitOr z x) (every 0x80 (suc m)) 8 ∙ (rw (or-mod z x 8, eh))) in
-    let hi : t / 256 ≡ bitAnd (bitOr (z / 256) (x / 256)) (every 0x80 m) =
-        ap (λ (v : ℕ). v / 256) q ∙ (and-shr (bitOr z x) (every 0x80 (suc m)) 8 ∙ (rw (or-shr z x 8, eo))) in
+    let lo : t % 256 ≡ bitAnd (bitOr (z % 256) (x % 256)) 0x80 = ap (λ (v : ℕ). v % 256) q ∙ (and-mod (bitOr z x) (every 0x80 (suc m)) 8 ∙ (rw (or-mod z x 8, eh))) in
+    let hi : t / 256 ≡ bitAnd (bitOr (z / 256) (x / 256)) (every 0x80 m) = ap (λ (v : ℕ). v / 256) q ∙ (and-shr (bitOr z x) (every 0x80 (suc m)) 8 ∙ (rw (or-shr z x 8, eo))) in
     let b = both-low (z % 256) (x % 256) (omega arith) (omega arith) (sym lo ∙ omega arith) in
     let l : x % 256 ≤ 9 = omega arith in
     let c : (x + every 0x76 (suc m)) / 256 ≡ x / 256 + every 0x76 m = omega arith in
@@ -161,14 +158,13 @@ shifted x j n =
     let p = one-le-pow j 256 (omega arith) in
     ap (λ (m : ℕ). (x * 256 ^ j) % m) (pow-add 256 n j)
     ∙ (mod-mul (x * 256 ^ j) (one-le-pow n 256 (omega arith)) p
-      ∙ (rw (mul-div-cancel x p, mul-mod-left x (256 ^ j)) (omega arith)))
+    ∙ (rw (mul-div-cancel x p, mul-mod-left x (256 ^ j)) (omega arith)))
 
 pub raised-is : {x n : ℕ} → Small n x → n ≤ 8 → Raised x n (x * 2 ^ (64 - n * 8) % 2 ^ 64)
 raised-is {x} {n} h l =
     let a : 64 - n * 8 ≡ (8 - n) * 8 = omega arith in
     let b : n + (8 - n) ≡ 8 = omega arith in
-    let e : x * 2 ^ (64 - n * 8) % 2 ^ 64 ≡ (x % 256 ^ n) * 256 ^ (8 - n) =
-        rw (a, ← pow-bytes (8 - n)) (rw b at (shifted x (8 - n) n)) in
+    let e : x * 2 ^ (64 - n * 8) % 2 ^ 64 ≡ (x % 256 ^ n) * 256 ^ (8 - n) = rw (a, ← pow-bytes (8 - n)) (rw b at (shifted x (8 - n) n)) in
     record {
       small = rw e (small-up (8 - n) n 8 (x % 256 ^ n) (omega arith) (small-mod n x h));
       same = rw e (joined-up (8 - n) n 8 (x % 256 ^ n) (omega arith) ∙ joined-mod 0 n x);
@@ -237,10 +233,8 @@ number-is {s} h =
     let s₆ = s₄ / 256 / 256 in
     let y = s * 10 + s / 256 in
     let y₂ : y / 0x1_0000 ≡ s₂ * 10 + s₂ / 256 = two-up s (d .d₀) (d .d₁) (d .d₂) in
-    let y₄ : y / 0x1_0000_0000 ≡ s₄ * 10 + s₄ / 256 =
-        sym (div-div-eq-div-mul y 0x1_0000 0x1_0000) ∙ (rw y₂ (two-up s₂ (d .d₂) (d .d₃) (d .d₄))) in
-    let y₆ : y / 0x1_0000_0000_0000 ≡ s₆ * 10 + s₆ / 256 =
-        sym (div-div-eq-div-mul y 0x1_0000_0000 0x1_0000) ∙ (rw y₄ (two-up s₄ (d .d₄) (d .d₅) (d .d₆))) in
+    let y₄ : y / 0x1_0000_0000 ≡ s₄ * 10 + s₄ / 256 = sym (div-div-eq-div-mul y 0x1_0000 0x1_0000) ∙ (rw y₂ (two-up s₂ (d .d₂) (d .d₃) (d .d₄))) in
+    let y₆ : y / 0x1_0000_0000_0000 ≡ s₆ * 10 + s₆ / 256 = sym (div-div-eq-div-mul y 0x1_0000_0000 0x1_0000) ∙ (rw y₄ (two-up s₄ (d .d₄) (d .d₅) (d .d₆))) in
     let e₀ = two-low s (d .d₀) (d .d₁) in
     let e₂ = ap (λ (v : ℕ). v % 256) y₂ ∙ two-low s₂ (d .d₂) (d .d₃) in
     let e₄ = ap (λ (v : ℕ). v % 256) y₄ ∙ two-low s₄ (d .d₄) (d .d₅) in
@@ -304,4 +298,3 @@ module _ {x t n : ℕ} (m : Marks x t) (c : Clear t n) where
       → Tally s (at + 1) (digitValue (getD s at 0)) (at + n) v
   word-digits {s} {at} {w} {r} {v} i e o z q u =
       rw (u, q .same) (word-first s (e .bytes) at n x (omega arith) (c .most) (omega arith) word-small (o ∙ e .is))
-
