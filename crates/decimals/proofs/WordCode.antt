@@ -51,12 +51,12 @@ eight-is {s} {at} {a} {b} {c} {d} {e} {f} {g} {h} l p₀ p₁ p₂ p₃ p₄ p�
 
 -- MARKS
 
--- neither byte has the high bit
 both-even : (x y q o : ℕ) → x < 2 → y < 2 → o ≡ q * 2 + max (x % 2) (y % 2) → o % 2 ≡ 0 → (x ≡ 0) × (y ≡ 0)
 both-even x y q o lx ly e h =
     let m : max (x % 2) (y % 2) ≡ 0 = omega arith in
     (omega arith, omega arith)
 
+-- neither byte has the high bit
 both-low : (a b : ℕ) → a < 256 → b < 256 → bitAnd (bitOr a b) 0x80 ≡ 0 → (a < 128) × (b < 128)
 both-low a b la lb e =
     let h : bitAnd (bitOr a b) 0x80 ≡ (bitOr a b / 128 % 2) * 128 = and-high (bitOr a b) 1 7 in
@@ -65,6 +65,7 @@ both-low a b la lb e =
     let p = both-even (a / 128) (b / 128) (bitOr (a / 128 / 2) (b / 128 / 2)) (bitOr (a / 128) (b / 128)) (omega arith) (omega arith) (or-step (a / 128) (b / 128)) o in
     (omega (arith, p .0), omega (arith, p .1))
 
+-- a low byte below 0x80 before and after 0x76 is added to it is at most 9, and carries nothing into the next one
 small-marks : (n m x z t : ℕ) → n ≤ m → z ≡ (x + every 0x76 m) % 256 ^ m → t ≡ bitAnd (bitOr z x) (every 0x80 m) → t % 256 ^ n ≡ 0 → Small n x
 small-marks zero m x z t h p q r = none
 small-marks (suc n) zero x z t h p q r = absurd (omega arith)
@@ -86,6 +87,7 @@ marks-are {x} {z} e = record { is = λ n h r. small-marks n 8 x z (bitAnd (bitOr
 
 -- ZEROS AT THE LOW END
 
+-- as many low bits are zeros as are counted
 tz-low : (d n k : ℕ) → k ≤ trailingZeros d n → n % 2 ^ k ≡ 0
 unfolding trailingZeros
 tz-low d n zero h = mod-one n
@@ -179,7 +181,7 @@ two-low s a b = omega arith
 two-next : (s : ℕ) → s % 256 ≤ 9 → s / 256 % 256 ≤ 9 → (s * 10 + s / 256) / 256 ≡ s / 256 * 10 + s / 256 / 256
 two-next s a b = omega arith
 
--- the values of eight digits, from the low end, and what is left above each
+-- eight digits, from the low end
 pub record Digits (s : ℕ) : Type 0 where
   pub d₀ : s % 256 ≤ 9
   pub d₁ : s / 256 % 256 ≤ 9
@@ -194,6 +196,7 @@ all-digits : {s : ℕ} → Small 8 s → Digits s
 all-digits (one a (one b (one c (one d (one e (one f (one g (one h none)))))))) = record { d₀ = a; d₁ = b; d₂ = c; d₃ = d; d₄ = e; d₅ = f; d₆ = g; d₇ = h }
 
 module _ {s : ℕ} (h : Small 8 s) (l : Fits bits64 s) where
+  -- from the high end: the digits and all below them
   most : s ≤ 0x0909_0909_0909_0909
   most =
       let d = all-digits h in
@@ -248,6 +251,7 @@ abbrev Less : List ℕ → ℕ → ℕ → ℕ → Type 0
 Less s at k x = (x + every 0x30 k) % 256 ^ k ≡ wordAt s at k
 
 module _ (s : List ℕ) (bytes : (i : ℕ) → getD s i 0 < 256) where
+  -- the low byte is a digit, and takes nothing from the next one
   low-byte : (at k x : ℕ) → x % 256 ≤ 9 → Less s at (suc k) x → (getD s at 0 ≡ x % 256 + 0x30) × Less s (at + 1) k (x / 256)
   unfolding wordAt
   low-byte at k x l e =

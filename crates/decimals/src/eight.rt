@@ -10,7 +10,7 @@ ghost use Rattle.numbers.specs.NumberAnswers.{DigitAt};
 ghost use Rattle.decimals.specs.DigitParts.{Tally};
 ghost use Rattle.decimals.specs.WordParts.{Wide, Eight, Small, joined, Marks, Clear, Raised};
 
-// In each byte: the digit zero; what brings all but values of digits to 0x80 or above; that bit.
+// In each byte: the digit zero; what brings 10 to 0x80, and 9 not yet; that bit.
 const ZEROS: u64 = 0x3030_3030_3030_3030;
 
 const OVER: u64 = 0x7676_7676_7676_7676;
@@ -38,13 +38,14 @@ fn eight(text: &[u8], at: usize) -> u64
         + wide(text[at + 7]) * 0x100_0000_0000_0000
 }
 
-// The high bit of the first byte that is no value of a digit; of those above it the carries say nothing.
+// The high bit of the first byte that is no value of a digit. What stands above it says nothing: the sum may have carried there.
 fn marks(x: u64) -> u64
     ensures { λ r. ⌜ Marks x r ⌝ }
 {
     (std::num::wrapping_add_u64(x, OVER) | x) & HIGH
 }
 
+// How many bytes are below the lowest bit.
 fn clear(t: u64) -> u32
     ensures { λ r. ⌜ Clear t r ⌝ }
 {
