@@ -29,7 +29,7 @@ no-digit b n = go (isDigit 10 b) refl
     go true e = absurd (n (digit-range b e))
     go false e = refl
 
-a-digit : (b : ℕ) → 0x30 ≤ b → b ≤ 0x39 → isDigit 10 b ≡ true
+pub a-digit : (b : ℕ) → 0x30 ≤ b → b ≤ 0x39 → isDigit 10 b ≡ true
 unfolding isDigit isIn
 a-digit b h l = rw (le-leb 0x30 b h, isDigit) (rw (le-leb b 0x39 l) (lt-ltb (b - 0x30) 10 (omega arith)))
 
@@ -56,6 +56,9 @@ module _ (b : ℕ) (e : isDigit 10 b ≡ true) where
       let h : 0x30 ≤ b = p .0 in
       let l : b ≤ 0x39 = omega (arith, p .1) in
       record { is = rw (le-leb 0x30 b h, digitValue) (rw (le-leb b 0x39 l)); most = omega arith; zero = λ z. omega arith }
+
+  pub worth-value : Worth b (digitValue b)
+  worth-value = rw (worth-is .is) at worth-is
 
 -- WHAT GOES ON
 

@@ -1,1 +1,2 @@
 pub mod DigitCode
+pub mod WordCode

@@ -1,1 +1,2 @@
 pub mod DigitParts
+pub mod WordParts

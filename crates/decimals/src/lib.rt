@@ -1,4 +1,6 @@
 // Decimal digits: where they end, what they make, and which may come first.
+pub mod eight;
+
 ghost use mathlib.Core.Path.{_≡_};
 ghost use mathlib.Core.Bool.{true};
 ghost use Prim.Native.Nat.{_≤_, _<_};
@@ -18,7 +20,7 @@ fn is_digit(b: u8) -> bool
     b <= b'9'
 }
 
-pub fn digit(b: u8) -> u64
+fn digit(b: u8) -> u64
     requires { ⌜ isDigit 10 b ≡ true ⌝ }
     ensures { λ r. ⌜ Worth b r ⌝ }
 {
@@ -58,7 +60,7 @@ pub struct DigitRun {
 }
 
 // DigitRun behind those that make `first`, as long as any digit may follow.
-pub fn digits(text: &[u8], from: usize, first: u64) -> DigitRun
+fn digits(text: &[u8], from: usize, first: u64) -> DigitRun
     requires { ⌜ from ≤ length (now text) ⌝ }
     requires { ⌜ first ≤ 9 ⌝ }
     ensures { λ r. ⌜ Tally (now (text .entry)) from first (r .end) (r .value) ⌝ }

@@ -33,13 +33,13 @@ use Rattle.encoding.specs.ReadAnswers.{heldOf, Tells}
 use Rattle.encoding.specs.Cuts.{CutAt}
 use Rattle.leaf_answer.specs.LeafAnswers.{LeafTold}
 use Rattle.leaf_head.specs.HeadParts.{shortHead, HeadMade}
-use Rattle.decimals.specs.DigitParts.{Worth, Ends, EndsAt, Tally, Leads, Behind, DigitThere}
+use Rattle.decimals.specs.DigitParts.{Ends, EndsAt, Tally, Leads, Behind, DigitThere}
 use Rattle.plain_leaf.specs.LeafParts.{IntegerMajor, argumentBy, NumberAt}
 use Rattle.leaf_answer.specs.declared.LeafRead.{LeafRead as LeafS}
 use Rattle.leaf_answer.specs.declared.Found.the-variants.{Leaf, Tag}
 use Rattle.leaf_answer.proofs.LeafCode.{leaf-odd, leaf-made, leaf-whole, tag-opened}
 use Rattle.leaf_head.proofs.HeadsCode.{head-is, some-head}
-use Rattle.decimals.proofs.DigitCode.{outside-paren, digits-none}
+use Rattle.decimals.proofs.DigitCode.{worth-value, outside-paren, digits-none}
 
 -- WHERE DIGITS END
 
@@ -63,7 +63,7 @@ module _ {s : List ℕ} {at : ℕ} (x : Ends s at) where
   ended-mark = rw (x .left) (indicator-absent (x .next ∷ x .rest) (x .outside .mark))
 
 -- the digits of a number, up to where they end
-module _ {s : List ℕ} {place at first end v : ℕ} {minus t : Bool} (x : NumberAt s place at minus) (w : Worth (getD s at 0) first) (y : Tally s (at + 1) first end v)
+module _ {s : List ℕ} {place at end v : ℕ} {minus t : Bool} (x : NumberAt s place at minus) (y : Tally s (at + 1) (digitValue (getD s at 0)) end v)
     (k : Leads (getD s at 0) minus (ltb (at + 1) end) t) (f : not t ≡ false) where
   number-is : Ends s end → number (signOf minus) (getD s at 0) (drop (at + 1) (marked s)) ≡ decimal (signOf minus) v (drop end (marked s))
   unfolding number bind digitValue isIn
@@ -74,18 +74,20 @@ module _ {s : List ℕ} {place at first end v : ℕ} {minus t : Bool} (x : Numbe
       go true e =
           let q = eqb-true (getD s at 0) 0x30 e in
           let m : at + 1 ≡ end = omega (arith, ltb-false (at + 1) end (k .single (not-false t f) q), y .ahead) in
-          let n : first ≡ 0 = w .is ∙ ap digitValue q in
-          let c : ok first (drop end (marked s)) ≡ ok v (drop end (marked s)) = sym (ended-counts z first) ∙ (rw m at (y .counts) ∙ ended-counts z v) in
+          let n : digitValue (getD s at 0) ≡ 0 = ap digitValue q in
+          let c : ok (digitValue (getD s at 0)) (drop end (marked s)) ≡ ok v (drop end (marked s)) = sym (ended-counts z (digitValue (getD s at 0))) ∙ (rw m at (y .counts) ∙ ended-counts z v) in
           let d : 0 ≡ v = cc in
           rw m (ended-zero z (signOf minus) ∙ ap (λ (j : ℕ). decimal (signOf minus) j (drop end (marked s))) d)
-      go false e = rw (sym (w .is)) (rw (y .counts ∙ ended-counts z v))
+      go false e = rw (y .counts ∙ ended-counts z v)
 
   pub number-some : minus ≡ true → 1 ≤ v
   number-some e = go (eqb (getD s at 0) 0x30) refl
     where
       go : (u : Bool) → eqb (getD s at 0) 0x30 ≡ u → 1 ≤ v
       go true q = absurd (clash (sym e ∙ k .unsigned (not-false t f) (eqb-true (getD s at 0) 0x30 q)))
-      go false q = let n : first ≡ 0 → ⊥ = λ z. eqb-false (getD s at 0) 0x30 q (w .zero z) in omega (arith, y .grows)
+      go false q =
+          let n : digitValue (getD s at 0) ≡ 0 → ⊥ = λ z. eqb-false (getD s at 0) 0x30 q (worth-value (getD s at 0) (x .there .digit) .zero z) in
+          omega (arith, y .grows)
 
 -- TOKENS
 
@@ -118,7 +120,7 @@ unfolding argumentBy
 argument-most unsigned v = omega arith
 argument-most negative v = omega arith
 
-module _ {s : List ℕ} {place at first end v : ℕ} {minus t : Bool} (x : NumberAt s place at minus) (w : Worth (getD s at 0) first) (y : Tally s (at + 1) first end v)
+module _ {s : List ℕ} {place at end v : ℕ} {minus t : Bool} (x : NumberAt s place at minus) (y : Tally s (at + 1) (digitValue (getD s at 0)) end v)
     (k : Leads (getD s at 0) minus (ltb (at + 1) end) t) (f : not t ≡ false) where
   integer-cut : {u : Bool} → EndsAt s end u → u ≡ true → CutAt s place end (begins (leaf (int (signOf minus) (shortest (argumentBy (signOf minus) v)) (argumentBy (signOf minus) v))))
   unfolding limit
@@ -126,7 +128,7 @@ module _ {s : List ℕ} {place at first end v : ℕ} {minus t : Bool} (x : Numbe
       let o = z .is e in
       let p : whether 0x28 (drop end (marked s)) ≡ ok false (drop end (marked s)) = rw (o .left) (whether-no 0x28 (o .next ∷ o .rest) (z .paren e)) in
       record {
-        is = x .is ∙ (number-is x w y k f o ∙ decimal-token (signOf minus) v (drop end (marked s)) (ended-mark o) p (y .most) (λ j. number-some x w y k f (sign-minus minus j)));
+        is = x .is ∙ (number-is x y k f o ∙ decimal-token (signOf minus) v (drop end (marked s)) (ended-mark o) p (y .most) (λ j. number-some x y k f (sign-minus minus j)));
         inside = omega (arith, length-marked s, y .inside);
         ahead = omega (arith, x .before, y .ahead);
       }
@@ -157,7 +159,7 @@ module _ {s : List ℕ} {place at first end v : ℕ} {minus t : Bool} (x : Numbe
   integer-tag m p e r =
       let d = peeked-yes p e in
       let o : Ends s end = record { next = 0x28; rest = drop (end + 1) (marked s); left = d; outside = outside-paren } in
-      let c : number (signOf minus) (getD s at 0) (drop (at + 1) (marked s)) ≡ decimal unsigned v (0x28 ∷ drop (end + 1) (marked s)) = number-is x w y k f o ∙ (rw (m, d)) in
+      let c : number (signOf minus) (getD s at 0) (drop (at + 1) (marked s)) ≡ decimal unsigned v (0x28 ∷ drop (end + 1) (marked s)) = number-is x y k f o ∙ (rw (m, d)) in
       tag-opened r
       (record {
         is = x .is ∙ (c ∙ decimal-tag v (drop (end + 1) (marked s)) (y .most));

@@ -1,8 +1,7 @@
 // Decimal integers, and the openings of tags.
 use decimals::behind_sign;
-use decimals::digit;
 use decimals::digit_at;
-use decimals::digits;
+use decimals::eight::decimal;
 use decimals::ends;
 use decimals::leads;
 use leaf_answer::LeafRead;
@@ -53,7 +52,7 @@ fn integer(
     ensures { λ r. ⌜ LeafTold (now (text .entry)) (now (buf .entry)) (now (buf .exit)) place pos r ⌝ }
 {
     let b = text[at];
-    let d = digits(text, at + 1, digit(b));
+    let d = decimal(text, at);
     let end = d.end;
     let value = d.value;
     if !leads(b, minus, at + 1 < end) {

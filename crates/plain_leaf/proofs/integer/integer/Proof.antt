@@ -9,9 +9,7 @@ pub integer-spec : {M : Type 1} → statement M
 integer-spec =
     tie.close (tie.spec
     (λ c. search needs)  -- shared-slice-read-b
-    (λ c. search needs)  -- add-digits
-    (λ c κs. search needs)  -- digit-requires
-    (λ c κs. search needs)  -- digits-requires
+    (λ c κs. search needs)  -- decimal-requires
     (λ c. search needs)  -- add-leads
     (λ c κs. search needs)  -- leads-requires
     (λ c κs. search needs)  -- nothing-requires
