@@ -5,11 +5,11 @@ use mathlib.Core.Path.{_≡_, refl, sym, ap, _∙_}
 use mathlib.Core.List.{List}
 use mathlib.Core.Bool.{true}
 use Prim.Native.Nat.{ℕ, zero, suc, _+_, _-_, _*_, _/_, _%_, _^_, _≤_, _<_, max}
-use native.Mathlib.Nat.{mod-one, mul-one, mul-assoc, mul-mod-left, mul-div-cancel, div-div-eq-div-mul, pow-suc, pow-le-pow-right, one-le-pow}
+use native.Mathlib.Nat.{add-comm, mod-one, mul-one, mul-assoc, mul-mod-left, mul-div-cancel, div-div-eq-div-mul, pow-suc, pow-le-pow-right, one-le-pow}
 use native.Mathlib.Omega.{arith}
 use lib.Arith.{mod-mul}
 use lib.Pow.{pow-add, pow-pos}
-use lib.Bits.{bitAnd, bitOr, and-high, and-mod, and-shr, or-mod, or-shr, or-step}
+use lib.Bits.{bitAnd, bitOr, and-high, and-mod, and-shr, or-mod, or-shifted-r, or-shr, or-step}
 use lib.Count.{trailingZeros, under, trailing-le}
 use lib.ListN.{length, getD}
 use mir.Syntax.{w8 as bits8, w64 as bits64}
@@ -32,10 +32,14 @@ low-first n k = ap (λ (p : ℕ). n % p) (pow-suc 256 k) ∙ mod-mul n (one-le-p
 
 -- THE WORD OF EIGHT
 
+-- what was joined, and the byte that is joined to it at the next place
+next-byte : {p b : ℕ} (r k : ℕ) → p < 2 ^ k → Wide b r → bitOr p (r * 2 ^ k) ≡ p + b * 2 ^ k
+next-byte {p} r k l w = or-shifted-r r k p l ∙ (add-comm (r * 2 ^ k) p ∙ ap (λ (v : ℕ). p + v * 2 ^ k) (w .is))
+
 pub eight-is : {s : List ℕ} {at a b c d e f g h : ℕ} → ((i : ℕ) → Fits bits8 (getD s i 0))
     → Wide (getD s at 0) a → Wide (getD s (at + 1) 0) b → Wide (getD s (at + 2) 0) c → Wide (getD s (at + 3) 0) d
     → Wide (getD s (at + 4) 0) e → Wide (getD s (at + 5) 0) f → Wide (getD s (at + 6) 0) g → Wide (getD s (at + 7) 0) h
-    → Eight s at (a + b * 0x100 + c * 0x1_0000 + d * 0x100_0000 + e * 0x1_0000_0000 + f * 0x100_0000_0000 + g * 0x1_0000_0000_0000 + h * 0x100_0000_0000_0000)
+    → Eight s at (bitOr (bitOr (bitOr (bitOr (bitOr (bitOr (bitOr a (b * 0x100)) (c * 0x1_0000)) (d * 0x100_0000)) (e * 0x1_0000_0000)) (f * 0x100_0000_0000)) (g * 0x1_0000_0000_0000)) (h * 0x100_0000_0000_0000))
 unfolding wordAt
 eight-is {s} {at} {a} {b} {c} {d} {e} {f} {g} {h} l p₀ p₁ p₂ p₃ p₄ p₅ p₆ p₇ =
     let z₂ : at + 1 + 1 ≡ at + 2 = omega arith in
@@ -44,10 +48,22 @@ eight-is {s} {at} {a} {b} {c} {d} {e} {f} {g} {h} l p₀ p₁ p₂ p₃ p₄ p�
     let z₅ : at + 4 + 1 ≡ at + 5 = omega arith in
     let z₆ : at + 5 + 1 ≡ at + 6 = omega arith in
     let z₇ : at + 6 + 1 ≡ at + 7 = omega arith in
-    record {
-      is = rw (z₂, z₃, z₄, z₅, z₆, z₇) (omega (arith, p₀ .is, p₁ .is, p₂ .is, p₃ .is, p₄ .is, p₅ .is, p₆ .is, p₇ .is));
-      bytes = λ i. omega (arith, l i .fits);
-    }
+    let l₀ : getD s at 0 < 256 = omega (arith, l at .fits) in
+    let l₁ : getD s (at + 1) 0 < 256 = omega (arith, l (at + 1) .fits) in
+    let l₂ : getD s (at + 2) 0 < 256 = omega (arith, l (at + 2) .fits) in
+    let l₃ : getD s (at + 3) 0 < 256 = omega (arith, l (at + 3) .fits) in
+    let l₄ : getD s (at + 4) 0 < 256 = omega (arith, l (at + 4) .fits) in
+    let l₅ : getD s (at + 5) 0 < 256 = omega (arith, l (at + 5) .fits) in
+    let l₆ : getD s (at + 6) 0 < 256 = omega (arith, l (at + 6) .fits) in
+    let e₀ = p₀ .is in
+    let e₁ = next-byte {p = a} b 8 (omega arith) p₁ in
+    let e₂ = next-byte {p = bitOr a (b * 0x100)} c 16 (omega arith) p₂ in
+    let e₃ = next-byte {p = bitOr (bitOr a (b * 0x100)) (c * 0x1_0000)} d 24 (omega arith) p₃ in
+    let e₄ = next-byte {p = bitOr (bitOr (bitOr a (b * 0x100)) (c * 0x1_0000)) (d * 0x100_0000)} e 32 (omega arith) p₄ in
+    let e₅ = next-byte {p = bitOr (bitOr (bitOr (bitOr a (b * 0x100)) (c * 0x1_0000)) (d * 0x100_0000)) (e * 0x1_0000_0000)} f 40 (omega arith) p₅ in
+    let e₆ = next-byte {p = bitOr (bitOr (bitOr (bitOr (bitOr a (b * 0x100)) (c * 0x1_0000)) (d * 0x100_0000)) (e * 0x1_0000_0000)) (f * 0x100_0000_0000)} g 48 (omega arith) p₆ in
+    let e₇ = next-byte {p = bitOr (bitOr (bitOr (bitOr (bitOr (bitOr a (b * 0x100)) (c * 0x1_0000)) (d * 0x100_0000)) (e * 0x1_0000_0000)) (f * 0x100_0000_0000)) (g * 0x1_0000_0000_0000)} h 56 (omega arith) p₇ in
+    record { is = rw (z₂, z₃, z₄, z₅, z₆, z₇) (omega arith); bytes = λ i. omega (arith, l i .fits) }
 
 -- MARKS
 

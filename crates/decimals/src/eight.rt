@@ -23,19 +23,19 @@ fn wide(b: u8) -> u64
     b as u64
 }
 
-// Eight bytes, the first one lowest. The compiler makes one load of them.
+// Eight bytes, the first one lowest. The compiler makes one load of them; of a sum it does not.
 fn eight(text: &[u8], at: usize) -> u64
     requires { ⌜ at + 8 ≤ length (now text) ⌝ }
     ensures { λ r. ⌜ Eight (now (text .entry)) at r ⌝ }
 {
     wide(text[at])
-        + wide(text[at + 1]) * 0x100
-        + wide(text[at + 2]) * 0x1_0000
-        + wide(text[at + 3]) * 0x100_0000
-        + wide(text[at + 4]) * 0x1_0000_0000
-        + wide(text[at + 5]) * 0x100_0000_0000
-        + wide(text[at + 6]) * 0x1_0000_0000_0000
-        + wide(text[at + 7]) * 0x100_0000_0000_0000
+        | wide(text[at + 1]) * 0x100
+        | wide(text[at + 2]) * 0x1_0000
+        | wide(text[at + 3]) * 0x100_0000
+        | wide(text[at + 4]) * 0x1_0000_0000
+        | wide(text[at + 5]) * 0x100_0000_0000
+        | wide(text[at + 6]) * 0x1_0000_0000_0000
+        | wide(text[at + 7]) * 0x100_0000_0000_0000
 }
 
 // The high bit of the first byte that is no value of a digit. What stands above it says nothing: the sum may have carried there.
