@@ -20,7 +20,7 @@ use Rattle.cbor.proofs.Arguments.{length-big}
 use Rattle.head.proofs.HeadCode.{size-none, size-most}
 use Rattle.notation.proofs.ScanningElements.{clash}
 use Rattle.numbers.specs.NumberAnswers.{chooseBy}
-use Rattle.encoding.specs.ReadAnswers.{infoBy, Informed, majorBy, initialBy, MajorBy, HeadSize, strayBy, Heavy, Light, Few, IsShort, Wrote, Strayed, Denies, Closes, Finished, FinishedShort}
+use Rattle.encoding.specs.ReadAnswers.{verdictBy, infoBy, Informed, majorBy, initialBy, MajorBy, HeadSize, strayBy, Heavy, Light, Few, IsShort, Wrote, Strayed, Denies, Closes, Finished, FinishedShort}
 use Rattle.token.specs.TokenAnswers.{widthNumber}
 use Rattle.token.specs.declared.Token.{Token as Cut}
 use Rattle.encoding.proofs.Wrote.{wrote-front, wrote-closed, wrote-moved}
@@ -129,11 +129,12 @@ initial-is t a b = rw (a .is, b .is)
 
 -- REFUSALS AND ANSWERS
 pub denies-is : {k : RefusalKind} {at : ℕ} → Denies (kindNumber k) at (Refused (record { kind = k; place = at }))
-denies-is {k} {at} = record { refusal = record { kind = k; place = at }; is = refl; number = refl; place = refl }
+unfolding verdictBy
+denies-is = record { is = refl }
 
 pub strayed-is : {d k : ℕ} {t : Cut} {kind : RefusalKind} → k ≡ strayBy d (t .kind) (t .refusal) (t .indicator) → Kinded k kind → Strayed d t (Refused (record { kind = kind; place = t .place }))
-strayed-is {d} {k} {t} {kind} e h =
-    record { refusal = record { kind = kind; place = t .place }; is = refl; number = λ l m. h .is (rw e l) (rw e m) ∙ e; place = refl }
+unfolding verdictBy
+strayed-is {kind = kind} e h = record { number = kindNumber kind; is = refl; known = λ l m. h .is (rw e l) (rw e m) ∙ e }
 
 module _ (d code refusal mark : ℕ) where
   pub stray-none : code ≡ 0 → refusal ≡ strayBy d code refusal mark

@@ -1,6 +1,6 @@
 -- What an answer of the code says of the definitions', and a token of a code.
 -- Assumes nothing.
-use mathlib.Core.Path.{_≡_, refl, sym, ap, _∙_}
+use mathlib.Core.Path.{_≡_, refl, sym, ap, ap₂, _∙_}
 use mathlib.Core.Bool.{Bool, true, false}
 use mathlib.Core.List.{List, [], _∷_, _++_}
 use Prim.Native.Nat.{ℕ, zero, suc, _+_, _-_, _*_, _≤_, _<_}
@@ -8,7 +8,7 @@ use native.Mathlib.Omega.{arith}
 use lib.Dec.{leb, eqb}
 use lib.ListN.{length, drop}
 use borrow.Author.Tests.{le-leb, ne-eqb}
-use Rattle.cbor.specs.Refusals.{Result, ok, refuse, bind, notAllowed}
+use Rattle.cbor.specs.Refusals.{Result, ok, refuse, bind, Verdict, accepted, refused, notAllowed}
 use Rattle.cbor.specs.Widths.{w0, w1, w2, w4, w8}
 use Rattle.cbor.specs.Items.{unsigned, negative, byteString, textString, Item, int, string, chunked, array, map, tag, simple, levels}
 use Rattle.refusal.specs.RefusalKinds.{kindNumber}
@@ -19,7 +19,7 @@ use Rattle.notation.specs.Cutting.{next, place}
 use Rattle.notation.specs.Form.{stray, strayClosing, strayIndicator}
 use Rattle.notation.specs.Reading.{marked}
 use Rattle.token.specs.TokenAnswers.{widthNumber, indicatorNumber, itemCode, openCode, kindCode, beginCode, shapeCode, codeOf, openMark, itemMark, beginMark, markOf, Seen, Shown, Took}
-use Rattle.encoding.specs.ReadAnswers.{View, strayBy, MovedOn, Denied, After, ReadTold, Strayed, Denies}
+use Rattle.encoding.specs.ReadAnswers.{View, strayBy, verdictBy, MovedOn, Denied, After, ReadTold, Strayed, Denies}
 use Rattle.token.specs.declared.Token.{Token as Cut}
 use Rattle.encoding.specs.declared.answer.MadeItem.{MadeItem as MadeS}
 use Rattle.encoding.specs.declared.answer.ReadAnswer.{ReadAnswer}
@@ -52,11 +52,11 @@ module _ {A : Type 0} {v : A → View} {s b b′ : List ℕ} {most pos : ℕ} {a
   told-no k q res e f = rw e (record { after = f })
 
   pub told-ok : {m : MadeS} {r : List ℕ} (x : A) (res : Result A) → res ≡ ok x r → a ≡ Made m → MovedOn s b b′ most pos m (v x) r → ReadTold v s b b′ most pos a res
-  unfolding After
-  told-ok {m} {r} x res e f mv = rw e (record { after = record { made = m; is = f; moved = mv } })
+  unfolding After verdictBy
+  told-ok {m} {r} x res e f mv = rw e (record { after = record { made = m; is = ap verdictBy f; moved = mv } })
 
 pub denied : {s : List ℕ} {a : ReadAnswer} {k p q : ℕ} → Denies k p a → p ≡ length (marked s) - q → Denied s a k q
-denied d e = record { refusal = d .refusal; is = d .is; number = d .number; place = d .place ∙ e }
+denied {k = k} d e = record { is = d .is ∙ ap (refused k) e }
 
 -- an answer that is a thing, of a reader whose result is res
 pub record Got {A : Type 0} (v : A → View) (s b b′ : List ℕ) (most pos : ℕ) (m : MadeS) (res : Result A) : Type 0 where
@@ -65,16 +65,29 @@ pub record Got {A : Type 0} (v : A → View) (s b b′ : List ℕ) (most pos : �
   pub is : res ≡ ok thing rest
   pub moved : MovedOn s b b′ most pos m (v thing) rest
 
-made-same : (a : ReadAnswer) (m m′ : MadeS) → a ≡ Made m → a ≡ Made m′ → m ≡ m′
-made-same a m m′ e f = cc
+-- what is said of a thing that was made, and of a refusal
+said-made : (a : ReadAnswer) (m : MadeS) → a ≡ Made m → verdictBy a ≡ accepted m
+unfolding verdictBy
+said-made a m e = rw e
 
-refused-same : (a : ReadAnswer) (e e′ : Refusal) → a ≡ Refused e → a ≡ Refused e′ → e′ ≡ e
-refused-same a e e′ f g = cc
+pub said-refused : (a : ReadAnswer) (e : Refusal) → a ≡ Refused e → verdictBy a ≡ refused (kindNumber (e .kind)) (e .place)
+unfolding verdictBy
+said-refused a e f = rw f
+
+-- which are not the same
+never-both : {m : MadeS} {k p : ℕ} (u : Verdict MadeS) → u ≡ accepted m → u ≡ refused k p → ⊥
+never-both u e f = let z : _≡_ {A = ℕ} 0 1 = cc in omega arith
+
+pub made-never : {m : MadeS} {k p : ℕ} {P : Type 0} (a : ReadAnswer) → verdictBy a ≡ refused k p → a ≡ Made m → P
+made-never {m} a f e = absurd (never-both (verdictBy a) (said-made a m e) f)
+
+made-same : (a : ReadAnswer) (m m′ : MadeS) → a ≡ Made m → verdictBy a ≡ accepted m′ → m ≡ m′
+made-same a m m′ e f = let g = said-made a m e in cc
 
 got-of : {A : Type 0} (v : A → View) (s b b′ : List ℕ) (most pos : ℕ) (a : ReadAnswer) (m : MadeS) (res : Result A) → a ≡ Made m → After v s b b′ most pos a res → Got v s b b′ most pos m res
 unfolding After
 got-of v s b b′ most pos a m (ok x r) e f = record { thing = x; rest = r; is = refl; moved = rw (made-same a m (f .made) e (f .is)) (f .moved) }
-got-of v s b b′ most pos a m (refuse k q) e f = let i = f .is in let z : _≡_ {A = ℕ} 0 1 = cc in absurd (omega arith)
+got-of v s b b′ most pos a m (refuse k q) e f = made-never a (f .is) e
 
 pub got : {A : Type 0} {v : A → View} {s b b′ : List ℕ} {most pos : ℕ} {m : MadeS} {res : Result A} (a : ReadAnswer) → ReadTold v s b b′ most pos a res → a ≡ Made m → Got v s b b′ most pos m res
 got {A} {v} {s} {b} {b′} {most} {pos} {m} {res} a h e = got-of v s b b′ most pos a m res e (h .after)
@@ -92,10 +105,11 @@ pub record Lost {A : Type 0} (s : List ℕ) (e : Refusal) (res : Result A) : Typ
 
 lost-of : {A : Type 0} (v : A → View) (s b b′ : List ℕ) (most pos : ℕ) (a : ReadAnswer) (e : Refusal) (res : Result A) → a ≡ Refused e → After v s b b′ most pos a res → Lost s e res
 unfolding After
-lost-of v s b b′ most pos a e (ok x r) h f = let i = f .is in let z : _≡_ {A = ℕ} 0 1 = cc in absurd (omega arith)
+lost-of v s b b′ most pos a e (ok x r) h f = absurd (never-both (verdictBy a) (f .is) (said-refused a e h))
 lost-of v s b b′ most pos a e (refuse k l) h f =
-    let q : f .refusal ≡ e = refused-same a e (f .refusal) h (f .is) in
-    record { number = k; left = l; is = refl; kind = ap (λ (x : Refusal). kindNumber (x .kind)) (sym q) ∙ f .number; place = ap (λ (x : Refusal). x .place) (sym q) ∙ f .place }
+    let i = f .is in
+    let g = said-refused a e h in
+    record { number = k; left = l; is = refl; kind = cc; place = cc }
 
 pub lost : {A : Type 0} {v : A → View} {s b b′ : List ℕ} {most pos : ℕ} {e : Refusal} {res : Result A} (a : ReadAnswer) → ReadTold v s b b′ most pos a res → a ≡ Refused e → Lost s e res
 lost {A} {v} {s} {b} {b′} {most} {pos} {e} {res} a h f = lost-of v s b b′ most pos a e res f (h .after)
@@ -104,7 +118,7 @@ lost {A} {v} {s} {b} {b′} {most} {pos} {e} {res} a h f = lost-of v s b b′ mo
 pub told-lost : {A B : Type 0} {v : B → View} {s b b′ : List ℕ} {most pos : ℕ} {e : Refusal} {res : Result A} (res′ : Result B) (f : A → List ℕ → Result B) → Lost s e res → res′ ≡ bind res f
     → ReadTold v s b b′ most pos (Refused e) res′
 told-lost {e = e} {res = res} res′ f l q =
-    told-no (l .number) (l .left) res′ (q ∙ bind-no res f _ _ (l .is)) (record { refusal = e; is = refl; number = l .kind; place = l .place })
+    told-no (l .number) (l .left) res′ (q ∙ bind-no res f _ _ (l .is)) (record { is = said-refused (Refused e) e refl ∙ ap₂ refused (l .kind) (l .place) })
 
 -- more text than there was
 after-more : {A : Type 0} (v : A → View) (s b b′ : List ℕ) (m m′ pos : ℕ) (a : ReadAnswer) (res : Result A) → m ≤ m′ → After v s b b′ m pos a res → After v s b b′ m′ pos a res
@@ -260,16 +274,11 @@ stop-of v s b b′ most pos d at a t f (ok tok r) h c p st g =
     let e : strayBy d (t .kind) (t .refusal) (t .indicator) ≡ stray d tok = rw (h .code, h .indicator) (stray-is (place (drop at (marked s)) - 1) d (t .refusal) tok (length r) (c .0)) in
     let k : Known (strayBy d (t .kind) (t .refusal) (t .indicator)) = rw e (stray-known (place (drop at (marked s)) - 1) d tok (length r) (c .0)) in
     told-no (stray d tok) (place (drop at (marked s))) _ (g tok r (h .code) refl)
-    (record { refusal = st .refusal; is = st .is; number = st .number (k .low) (k .high) ∙ e; place = st .place ∙ p })
+    (record { is = st .is ∙ ap₂ refused (st .known (k .low) (k .high) ∙ e) p })
 stop-of v s b b′ most pos d at a t f (refuse k q) h c p st g =
     let e : strayBy d (t .kind) (t .refusal) (t .indicator) ≡ k = rw (h .code) (h .refusal) in
     told-no k q _ refl
-    (record {
-      refusal = st .refusal;
-      is = st .is;
-      number = st .number (omega (arith, e, c .0 .low)) (omega (arith, e, c .0 .high)) ∙ e;
-      place = st .place ∙ p ∙ ap (λ (x : ℕ). length (marked s) - x) (sym (c .1));
-    })
+    (record { is = st .is ∙ ap₂ refused (st .known (omega (arith, e, c .0 .low)) (omega (arith, e, c .0 .high)) ∙ e) (p ∙ ap (λ (x : ℕ). length (marked s) - x) (sym (c .1))) })
 
 pub told-stop : {A : Type 0} {v : A → View} {s b b′ : List ℕ} {most pos at : ℕ} {a : ReadAnswer} {t : Cut} (d : ℕ) (f : Token → List ℕ → Result A) (res : Result A)
     → Took s at t → Strayed d t a → res ≡ bind (next (drop at (marked s))) f

@@ -5,7 +5,7 @@ use mathlib.Core.Bool.{Bool, true, false}
 use mathlib.Core.List.{List, [], _∷_, _++_}
 use lib.Dec.{eqb}
 use lib.ListN.{length, take}
-use Rattle.cbor.specs.Refusals.{Result, ok, refuse, bind, badIndicator, tooDeep, notAllowed, mixedChunks, badTypedArray}
+use Rattle.cbor.specs.Refusals.{Result, ok, refuse, bind, Verdict, accepted, refused, badIndicator, tooDeep, notAllowed, mixedChunks, badTypedArray}
 use Rattle.cbor.specs.Widths.{Width, w0, w1, w2, w4, w8, limit, shortest, information}
 use Rattle.cbor.specs.Items.{Kind, byteString, textString, Size, definite, indefinite, Chunk, Item, int, string, chunked, array, map, tag, simple, Pairs, count, count₂}
 use Rattle.cbor.specs.Encode.{encodeString, encodeChunks, encode, encodeAll, encodeAll₂}
@@ -253,6 +253,11 @@ pub record Roomed (pos end r : ℕ) : Type 0 where
 
 -- ANSWERS
 
+-- what each case of a reader's answer says: what was made, with its facts; or the number of the paper's table and the place
+unfoldable pub verdictBy : ReadAnswer → Verdict MadeS
+verdictBy (Made m) = accepted m
+verdictBy (Refused e) = refused (kindNumber (e .kind)) (e .place)
+
 -- a reader's answer m, at pos: a thing x was read, and r is left. Its bytes are at most nine for each byte of the text, of which there
 -- were `most`, and they are in the buffer from pos on, if they fit
 pub record MovedOn (s b b′ : List ℕ) (most pos : ℕ) (m : MadeS) (x : View) (r : List ℕ) : Type 0 where
@@ -267,15 +272,12 @@ pub record MovedOn (s b b′ : List ℕ) (most pos : ℕ) (m : MadeS) (x : View)
 
 pub record Became {A : Type 0} (v : A → View) (s b b′ : List ℕ) (most pos : ℕ) (a : ReadAnswer) (x : A) (r : List ℕ) : Type 0 where
   pub made : MadeS
-  pub is : a ≡ Made made
+  pub is : verdictBy a ≡ accepted made
   pub moved : MovedOn s b b′ most pos made (v x) r
 
 -- a refusal by the number k where q is left
 pub record Denied (s : List ℕ) (a : ReadAnswer) (k q : ℕ) : Type 0 where
-  pub refusal : Refusal
-  pub is : a ≡ Refused refusal
-  pub number : kindNumber (refusal .kind) ≡ k
-  pub place : refusal .place ≡ length (marked s) - q
+  pub is : verdictBy a ≡ refused k (length (marked s) - q)
 
 unfoldable pub After : {A : Type 0} → (A → View) → List ℕ → List ℕ → List ℕ → ℕ → ℕ → ReadAnswer → Result A → Type 0
 After v s b b′ most pos a (ok x r) = Became v s b b′ most pos a x r
@@ -292,17 +294,13 @@ pub record ChunksTold (kind : ℕ) (s b b′ : List ℕ) (most pos : ℕ) (a : R
 
 -- a refusal at a token that may not stand where it does
 pub record Strayed (d : ℕ) (t : Cut) (a : ReadAnswer) : Type 0 where
-  pub refusal : Refusal
-  pub is : a ≡ Refused refusal
-  pub number : 1 ≤ strayBy d (t .kind) (t .refusal) (t .indicator) → strayBy d (t .kind) (t .refusal) (t .indicator) ≤ 17 → kindNumber (refusal .kind) ≡ strayBy d (t .kind) (t .refusal) (t .indicator)
-  pub place : refusal .place ≡ t .place
+  pub number : ℕ
+  pub is : verdictBy a ≡ refused number (t .place)
+  pub known : 1 ≤ strayBy d (t .kind) (t .refusal) (t .indicator) → strayBy d (t .kind) (t .refusal) (t .indicator) ≤ 17 → number ≡ strayBy d (t .kind) (t .refusal) (t .indicator)
 
 -- a refusal by a number
 pub record Denies (k at : ℕ) (a : ReadAnswer) : Type 0 where
-  pub refusal : Refusal
-  pub is : a ≡ Refused refusal
-  pub number : kindNumber (refusal .kind) ≡ k
-  pub place : refusal .place ≡ at
+  pub is : verdictBy a ≡ refused k at
 
 -- a thing was written at pos that v is the view of
 pub record Gave (b b′ : List ℕ) (pos next : ℕ) (a : ReadAnswer) (v : View) : Type 0 where

@@ -10,9 +10,9 @@ use Rattle.cbor.specs.Encode.{encodeAll}
 use Rattle.cbor.specs.Decode.{mostBytes}
 use Rattle.refusal.specs.RefusalKinds.{kindNumber}
 use Rattle.refusal.specs.declared.Refusal.{Refusal}
-use Rattle.notation.specs.Form.{Closed}
 use Rattle.notation.specs.Reading.{marked, sequence, readText}
-use Rattle.encoding.specs.ReadAnswers.{ReadTold, After, ofClosed}
+use Rattle.encoding.specs.ReadAnswers.{ReadTold, ofClosed}
+use Rattle.encoding.proofs.Telling.{Got, got, Lost, lost}
 use Rattle.encoding.specs.declared.answer.MadeItem.{MadeItem as MadeS}
 use Rattle.encoding.specs.declared.answer.ReadAnswer.{ReadAnswer}
 use Rattle.encoding.specs.declared.answer.ReadAnswer.the-variants.{Made as ReadMade, Refused as ReadRefused}
@@ -34,32 +34,26 @@ unfolding marked
 marked-length s = omega (arith, length-append s (256 ∷ []))
 
 -- ENCODING
-encode-yes : (s b b′ made made′ : List ℕ) (most : ℕ) {r : Answer} {a : ReadAnswer} {k : MadeS} (res : Result Closed) → sequence s ≡ res → most ≡ suc (length s) → Ready s made
-    → After ofClosed s made made′ most 0 a res → a ≡ ReadMade k → Delivered made′ (k .size) b b′ r → Encodes s b b′ r
-unfolding After ofClosed itemsRead bind verdictOf andThen laid
-encode-yes s b b′ made made′ most {k = k} (ok c q) e f l x i d =
-    let j : x .made ≡ k = cc (x .is) in
-    let n : k .size ≡ length (encodeAll (c .all)) = rw j at (x .moved .sized) in
-    let z : k .size ≤ 9 * suc (length s) = omega (arith, f, rw j at (x .moved .short)) in
-    let h : k .size ≤ mostBytes → take (k .size) made′ ≡ encodeAll (c .all) = λ m. rw n (wrote-held (x .moved .wrote) (omega (arith, n, z, l .roomy .room))) in
-    record { is = rw e (d .is (encodeAll (c .all)) (record { sized = n; held = h })) }
-encode-yes s b b′ made made′ most (refuse n q) e f l x i d = let z : _≡_ {A = ℕ} 0 1 = cc (x .is) in absurd (omega arith)
+encode-yes : (s b b′ made made′ : List ℕ) {r : Answer} {k : MadeS} → Ready s made → Got ofClosed s made made′ (length (marked s)) 0 k (sequence s) → Delivered made′ (k .size) b b′ r → Encodes s b b′ r
+unfolding ofClosed itemsRead bind verdictOf andThen laid
+encode-yes s b b′ made made′ {k = k} l it d =
+    let n : k .size ≡ length (encodeAll (it .thing .all)) = it .moved .sized in
+    let z : k .size ≤ 9 * suc (length s) = omega (arith, marked-length s, it .moved .short) in
+    let h : k .size ≤ mostBytes → take (k .size) made′ ≡ encodeAll (it .thing .all) = λ m. rw n (wrote-held (it .moved .wrote) (omega (arith, n, z, l .roomy .room))) in
+    record { is = rw (it .is) (d .is (encodeAll (it .thing .all)) (record { sized = n; held = h })) }
 
-encode-no : (s b made made′ : List ℕ) (most : ℕ) {a : ReadAnswer} {e : Refusal} (res : Result Closed) → sequence s ≡ res → After ofClosed s made made′ most 0 a res → a ≡ ReadRefused e → Encodes s b b (Refused e)
-unfolding After itemsRead bind verdictOf andThen outcomeOf written
-encode-no s b made made′ most (ok c q) f x i = let z : _≡_ {A = ℕ} 0 1 = cc (x .is) in absurd (omega arith)
-encode-no s b made made′ most {e = e} (refuse n q) f x i =
-    let j : x .refusal ≡ e = cc (x .is) in
-    let l : length (marked s) ≡ suc (length s) = marked-length s in
-    let p : e .place ≡ suc (length s) - q = rw (j, l) at (x .place) in
-    record { is = rw (f, p, rw j at (x .number)) }
+encode-no : (s b : List ℕ) {e : Refusal} → Lost s e (sequence s) → Encodes s b b (Refused e)
+unfolding itemsRead bind verdictOf andThen outcomeOf written
+encode-no s b {e} x =
+    let p : e .place ≡ suc (length s) - x .left = rw (marked-length s) at (x .place) in
+    record { is = rw (x .is, p, x .kind) }
 
 module _ {s made made′ : List ℕ} (b : List ℕ) {a : ReadAnswer} (t : ReadTold ofClosed s made made′ (length (marked s)) 0 a (sequence s)) where
   pub encode-done : {k : MadeS} {b′ : List ℕ} {r : Answer} → Ready s made → a ≡ ReadMade k → Delivered made′ (k .size) b b′ r → Encodes s b b′ r
-  encode-done l i d = encode-yes s b _ made made′ (length (marked s)) (sequence s) refl (marked-length s) l (t .after) i d
+  encode-done l i d = encode-yes s b _ made made′ l (got a t i) d
 
   pub encode-refused : {e : Refusal} → a ≡ ReadRefused e → Encodes s b b (Refused e)
-  encode-refused i = encode-no s b made made′ (length (marked s)) (sequence s) refl (t .after) i
+  encode-refused i = encode-no s b (lost a t i)
 
 pub ruleset encode-ways = (encode-done, encode-refused)
 

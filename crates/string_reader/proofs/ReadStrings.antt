@@ -36,7 +36,7 @@ use Rattle.scanning.proofs.Marked.{stands-left}
 use Rattle.encoding.proofs.ReadTokens.{SizeFine, Fine}
 use Rattle.encoding.proofs.Wrote.{wrote-more, wrote-front}
 use Rattle.encoding.proofs.ReadWriting.{width-some, kind-major, string-head}
-use Rattle.encoding.proofs.Telling.{bind-yes, bind-no, told-no, told-ok, told-lost, told-stop, denied, got, lost, token, place-at, place-left}
+use Rattle.encoding.proofs.Telling.{bind-yes, bind-no, told-no, told-ok, told-lost, told-stop, denied, got, lost, token, place-at, place-left, said-refused, made-never}
 use Rattle.encoding.proofs.ReadRules.{step, shape-low, one-is}
 use Rattle.string_reader.proofs.ReadLoops.{Row, Run, row-start, row-room, row-refused, row-fits, row-count, row-comma, row-less, row-close, row-stray}
 
@@ -248,16 +248,13 @@ chunks-strings {kind = kind} {d = d} r = record { room = row-room (chunksRow (ki
 pub chunks-place : {s b₀ : List ℕ} {kind d i pos at n size : ℕ} {b : List ℕ} → Chunks-run kind d s b₀ i pos at n size b → Fits bits64 (pos + size)
 chunks-place r = room-fits (chunks-strings r .room)
 
-made-never : {A : Type 0} (a : ReadAnswer) (e : Refusal) (m : MadeS) → a ≡ Refused e → a ≡ Made m → A
-made-never a e m f g = let z : _≡_ {A = ℕ} 0 1 = cc in absurd (omega arith)
-
 made-kept : (a : ReadAnswer) (m m′ : MadeS) → a ≡ Made m → a ≡ Made m′ → (v : Bool) → (m .binary ≡ v) × (m .length ≡ m .count) → (m′ .binary ≡ v) × (m′ .length ≡ m′ .count)
 made-kept a m m′ f g v h = let e : m ≡ m′ = cc in rw e at h
 
 module _ {s b₀ : List ℕ} {kind d i pos at n size : ℕ} {b b′ : List ℕ} (a : ReadAnswer)
     (run : Chunks-run kind d s b₀ i pos at n size b) (told : ReadTold (ofChunk (kindFor kind)) s b b′ (length (marked s) - at) (pos + size) a (chunkRead (kindFor kind) d (drop at (marked s)))) where
   pub chunks-lost : {b″ : List ℕ} {e : Refusal} → a ≡ Refused e → ChunksTold kind s b₀ b″ (length (marked s) - i) pos (Refused e) (reads (chunks (only (kindFor kind)) d) (drop i (marked s)))
-  chunks-lost {e = e} f = record { told = row-refused (chunksRow (kindFor kind) d) a (run .run) told f; kept = λ m g. made-never (Refused e) e m refl g }
+  chunks-lost {e = e} f = record { told = row-refused (chunksRow (kindFor kind) d) a (run .run) told f; kept = λ m g. made-never (Refused e) (said-refused (Refused e) e refl) g }
 
   module _ {m : MadeS} (g : a ≡ Made m) where
     pub chunks-fits : Fits bits64 (size + m .size)
@@ -285,7 +282,7 @@ module _ {s b₀ : List ℕ} {kind d i pos at n size : ℕ} {b b′ : List ℕ} 
         pub chunks-stray : (t .kind ≡ 14 → ⊥) → (t .kind ≡ 11 → ⊥) → Strayed d t a′
             → ChunksTold kind s b₀ b′ (length (marked s) - i) pos a′ (reads (chunks (only (kindFor kind)) d) (drop i (marked s)))
         unfolding shapeCode
-        chunks-stray nc n11 f = record { told = row-stray (chunksRow (kindFor kind) d) a (run .run) told g tk nc n11 f; kept = λ m′ q. made-never a′ (f .refusal) m′ (f .is) q }
+        chunks-stray nc n11 f = record { told = row-stray (chunksRow (kindFor kind) d) a (run .run) told g tk nc n11 f; kept = λ m′ q. made-never a′ (f .is) q }
 
 pub ruleset chunks-ways = (chunks-lost, chunks-close, chunks-stray)
 
