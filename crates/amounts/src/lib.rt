@@ -1,4 +1,4 @@
-// Digits, and the number that they make, any number of them.
+// Amounts: digits of a text, any number of them, and the number that they make, which may be too large.
 use literal_body::hex_value;
 ghost use mathlib.Core.Path.{_≡_};
 ghost use Prim.Native.Nat.{_+_, _*_};
@@ -8,7 +8,7 @@ ghost use Rattle.cbor.specs.Widths.{w8, limit};
 ghost use Rattle.notation.specs.Numbers.{makesFloat};
 ghost use Rattle.notation.specs.Reading.{marked};
 ghost use Rattle.literal_body.specs.LiteralAnswers.{digitNumber};
-ghost use Rattle.numbers.specs.NumberAnswers.{Base, Grown, floatAt, ScansDigits, Counted};
+ghost use Rattle.amounts.specs.AmountAnswers.{Base, Grown, floatAt, ScansDigits, Counted};
 
 // A number: value, or 2^64 + value if over, which is then 0 or 1, and 1 stands for all that are larger.
 pub struct Amount {
@@ -22,7 +22,7 @@ pub struct Digits {
 }
 
 // The value of a digit, hexadecimal ones in either case, or NO_DIGIT.
-pub(crate) fn digit_value(b: u8) -> u64
+pub fn digit_value(b: u8) -> u64
     ensures { λ r. ⌜ r ≡ digitNumber b ⌝ }
 {
     hex_value(b) as u64
@@ -146,7 +146,7 @@ fn makes_float(radix: u64, b: u8) -> bool
 }
 
 // Whether what stands at a place makes a float of the digits before it.
-pub(crate) fn floats(text: &[u8], at: usize, radix: u64) -> bool
+pub fn floats(text: &[u8], at: usize, radix: u64) -> bool
     ensures { λ r. ⌜ r ≡ floatAt radix (drop at (marked (now (text .entry)))) ⌝ }
 {
     if text.len() <= at {

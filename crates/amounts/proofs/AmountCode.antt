@@ -17,8 +17,8 @@ use Rattle.notation.specs.Numbers.{digitValue, isDigit, numberFrom, makesFloat,
 use Rattle.notation.specs.Reading.{marked}
 use Rattle.scanning.specs.Stands.{span}
 use Rattle.literal_body.specs.LiteralAnswers.{digitNumber}
-use Rattle.numbers.specs.NumberAnswers.{heavy, Counts, Base, Grown, floatAt, ScansDigits, Counted}
-use Rattle.numbers.specs.declared.amount.Amount.{Amount}
+use Rattle.amounts.specs.AmountAnswers.{heavy, Counts, Base, Grown, floatAt, ScansDigits, Counted}
+use Rattle.amounts.specs.declared.Amount.{Amount}
 use Rattle.literal_body.proofs.LiteralCode.{digit-yes, digit-no, digit-number}
 use Rattle.scanning.proofs.Marked.{length-marked, at-byte, byte-at, at-end, past-end, span-none, span-more, Running, run-start, run-step, run-stop, run-end}
 

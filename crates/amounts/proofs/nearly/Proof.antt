@@ -1,9 +1,9 @@
--- `numbers::amount::nearly` meets its contract.
+-- `amounts::nearly` meets its contract.
 -- Assumes nothing.
 use borrow.Author.Needs.{needs}
-use Rattle.numbers.proofs.amount.nearly.Statement.{statement}
-use Rattle.numbers.proofs.amount.nearly.Tie as tie
-use Rattle.numbers.proofs.AmountCode.{base-less, base-last, nearly-digit, nearly-none, nearly-zero}
+use Rattle.amounts.proofs.nearly.Statement.{statement}
+use Rattle.amounts.proofs.nearly.Tie as tie
+use Rattle.amounts.proofs.AmountCode.{base-less, base-last, nearly-digit, nearly-none, nearly-zero}
 
 pub nearly-spec : {M : Type 1} → statement M
 nearly-spec =

@@ -1,9 +1,9 @@
--- `numbers::amount::floats` meets its contract.
+-- `amounts::floats` meets its contract.
 -- Assumes nothing.
 use borrow.Author.Needs.{needs}
-use Rattle.numbers.proofs.amount.floats.Statement.{statement}
-use Rattle.numbers.proofs.amount.floats.Tie as tie
-use Rattle.numbers.proofs.AmountCode.{float-end, float-at}
+use Rattle.amounts.proofs.floats.Statement.{statement}
+use Rattle.amounts.proofs.floats.Tie as tie
+use Rattle.amounts.proofs.AmountCode.{float-end, float-at}
 
 pub floats-spec : {M : Type 1} → statement M
 floats-spec =

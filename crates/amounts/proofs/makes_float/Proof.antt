@@ -1,9 +1,9 @@
--- `numbers::amount::makes_float` meets its contract.
+-- `amounts::makes_float` meets its contract.
 -- Assumes nothing.
-use Rattle.numbers.proofs.amount.makes_float.Statement.{statement}
-use Rattle.numbers.proofs.amount.makes_float.Tie as tie
+use Rattle.amounts.proofs.makes_float.Statement.{statement}
+use Rattle.amounts.proofs.makes_float.Tie as tie
 use borrow.Author.Needs.{needs}
-use Rattle.numbers.proofs.AmountCode.{float-ways}
+use Rattle.amounts.proofs.AmountCode.{float-ways}
 
 pub makes-float-spec : {M : Type 1} → statement M
 makes-float-spec =

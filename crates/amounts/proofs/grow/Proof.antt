@@ -1,9 +1,9 @@
--- `numbers::amount::grow` meets its contract.
+-- `amounts::grow` meets its contract.
 -- Assumes nothing.
 use borrow.Author.Needs.{needs}
-use Rattle.numbers.proofs.amount.grow.Statement.{statement}
-use Rattle.numbers.proofs.amount.grow.Tie as tie
-use Rattle.numbers.proofs.AmountCode.{grow-ways, grow-mul, grow-add}
+use Rattle.amounts.proofs.grow.Statement.{statement}
+use Rattle.amounts.proofs.grow.Tie as tie
+use Rattle.amounts.proofs.AmountCode.{grow-ways, grow-mul, grow-add}
 
 pub grow-spec : {M : Type 1} → statement M
 grow-spec =

@@ -1,9 +1,9 @@
--- `numbers::amount::fits` meets its contract.
+-- `amounts::fits` meets its contract.
 -- Assumes nothing.
 use borrow.Author.Needs.{needs}
-use Rattle.numbers.proofs.amount.fits.Statement.{statement}
-use Rattle.numbers.proofs.amount.fits.Tie as tie
-use Rattle.numbers.proofs.AmountCode.{limit-sub, limit-is}
+use Rattle.amounts.proofs.fits.Statement.{statement}
+use Rattle.amounts.proofs.fits.Tie as tie
+use Rattle.amounts.proofs.AmountCode.{limit-sub, limit-is}
 
 pub fits-spec : {M : Type 1} → statement M
 fits-spec =

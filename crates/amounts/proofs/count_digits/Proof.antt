@@ -1,9 +1,9 @@
--- `numbers::amount::count_digits` meets its contract.
+-- `amounts::count_digits` meets its contract.
 -- Assumes nothing.
-use Rattle.numbers.proofs.amount.count_digits.Statement.{statement}
-use Rattle.numbers.proofs.amount.count_digits.Tie as tie
+use Rattle.amounts.proofs.count_digits.Statement.{statement}
+use Rattle.amounts.proofs.count_digits.Tie as tie
 use borrow.Author.Needs.{needs}
-use Rattle.numbers.proofs.AmountCode.{Tallying, tally-start, tally-base, tally-step, tally-stop, tally-end}
+use Rattle.amounts.proofs.AmountCode.{Tallying, tally-start, tally-base, tally-step, tally-stop, tally-end}
 use Prim.Native.Nat.{_-_}
 use lib.ListN.{length}
 

@@ -1,9 +1,9 @@
--- `numbers::amount::with_digit` meets its contract.
+-- `amounts::with_digit` meets its contract.
 -- Assumes nothing.
 use borrow.Author.Needs.{needs}
-use Rattle.numbers.proofs.amount.with_digit.Statement.{statement}
-use Rattle.numbers.proofs.amount.with_digit.Tie as tie
-use Rattle.numbers.proofs.AmountCode.{sure-mul, sure-add, sure-grown}
+use Rattle.amounts.proofs.with_digit.Statement.{statement}
+use Rattle.amounts.proofs.with_digit.Tie as tie
+use Rattle.amounts.proofs.AmountCode.{sure-mul, sure-add, sure-grown}
 
 pub with-digit-spec : {M : Type 1} → statement M
 with-digit-spec =
