@@ -1,3 +1,1 @@
-pub mod Base64Code
-pub mod WordCode
 pub mod LoopCode

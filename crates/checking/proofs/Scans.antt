@@ -15,18 +15,18 @@ use Rattle.cbor.specs.Heads.{majorNumber, itemMajor, Head, nextHead}
 use Rattle.cbor.specs.Decode.{item as itemAt, decode}
 use Rattle.refusal.specs.RefusalKinds.{kindNumber}
 use Rattle.head.specs.HeadAnswers.{headTold, sizeInformation, headFrom, headAt}
-use Rattle.walk.specs.WalkAnswers.{passTold, walkTold, mapResult, toldOf, walkOf, walkAllOf, contentsAll, itemAfter}
+use Rattle.walk_answer.specs.WalkAnswers.{passTold, walkTold, mapResult, toldOf, walkOf, walkAllOf, contentsAll, itemAfter}
 use Rattle.refusal.specs.declared.Refusal.{Refusal}
 use Rattle.head.specs.declared.HeadAt.{HeadAt}
 use Rattle.head.specs.declared.HeadRead.{HeadRead}
 use Rattle.head.specs.declared.HeadRead.the-variants.{Head as HeadV, Refused as HeadRefusedV}
-use Rattle.walk.specs.declared.WalkedItem.{WalkedItem}
-use Rattle.walk.specs.declared.Walked.{Walked}
-use Rattle.walk.specs.declared.Walked.the-variants.{Made as MadeV, Refused as WalkRefusedV}
-use Rattle.walk.specs.declared.Passage.{Passage}
-use Rattle.walk.specs.declared.Passed.{Passed}
-use Rattle.walk.specs.declared.Passed.the-variants.{Span as SpanV, Refused as RefusedV}
-use Rattle.walk.proofs.WalkItems.{item-told}
+use Rattle.walk_answer.specs.declared.WalkedItem.{WalkedItem}
+use Rattle.walk_answer.specs.declared.Walked.{Walked}
+use Rattle.walk_answer.specs.declared.Walked.the-variants.{Made as MadeV, Refused as WalkRefusedV}
+use Rattle.walk_answer.specs.declared.Passage.{Passage}
+use Rattle.walk_answer.specs.declared.Passed.{Passed}
+use Rattle.walk_answer.specs.declared.Passed.the-variants.{Span as SpanV, Refused as RefusedV}
+use Rattle.walk_parts.proofs.WalkItems.{item-told}
 use Rattle.operations.specs.Operations.{itemsOf}
 use Rattle.path.specs.Following.{at}
 use Rattle.checking.specs.CheckAnswers.{checkRefused, checkTold, checkOf, itemScanned as itemS, scanRefused, scanTold, HeadOf, scanFrom, scanned}

@@ -1,8 +1,8 @@
 // Bytes checked, and one item of them scanned.
 use head::HeadRead;
 use refusal::Refusal;
-use walk::Passed;
-use walk::Walked;
+use walk_answer::Passed;
+use walk_answer::Walked;
 ghost use mathlib.Core.Path.{_≡_};
 ghost use lib.ListN.{length, drop};
 ghost use Rattle.operations.specs.Operations.{itemsOf};
@@ -46,7 +46,7 @@ pub fn scan(bytes: &[u8], at: usize) -> Scanned
     match read {
         HeadRead::Refused(e) => Scanned::Refused(e),
         HeadRead::Head(h) => {
-            let walked = walk::item_after(at, walk::item(&bytes[at..], 16));
+            let walked = walk_answer::item_after(at, walk::item(&bytes[at..], 16));
             match walked {
                 Walked::Refused(e) => Scanned::Refused(e),
                 Walked::Made(m) => Scanned::Item(ItemAt {

@@ -12,21 +12,21 @@ use Rattle.cbor.specs.Valid.{Bytes}
 use Rattle.cbor.specs.Decode.{counted, ended, item as itemAt, decode}
 use Rattle.cbor.specs.Paths.{Spot, Found, found, nowhere, locate, start, end}
 use Rattle.refusal.specs.RefusalKinds.{kindNumber}
-use Rattle.walk.specs.WalkAnswers.{passTold, walkTold, contents, contentsAll, mapResult, toldOf, walkOf, walkAllOf, below, oneOf, allOf, untilBy, afterTold, itemAfter}
+use Rattle.walk_answer.specs.WalkAnswers.{passTold, walkTold, contents, contentsAll, mapResult, toldOf, walkOf, walkAllOf, below, oneOf, allOf, untilBy, afterTold, itemAfter}
 use Rattle.refusal.specs.declared.Refusal.{Refusal}
 use Rattle.refusal.specs.declared.RefusalKind.the-variants.{NoSuchPath}
-use Rattle.walk.specs.declared.WalkedItem.{WalkedItem}
-use Rattle.walk.specs.declared.Walked.{Walked}
-use Rattle.walk.specs.declared.Walked.the-variants.{Made as MadeV, Refused as WalkRefusedV}
-use Rattle.walk.specs.declared.Passage.{Passage}
-use Rattle.walk.specs.declared.Passed.{Passed}
-use Rattle.walk.specs.declared.Passed.the-variants.{Span as SpanV, Refused as RefusedV}
+use Rattle.walk_answer.specs.declared.WalkedItem.{WalkedItem}
+use Rattle.walk_answer.specs.declared.Walked.{Walked}
+use Rattle.walk_answer.specs.declared.Walked.the-variants.{Made as MadeV, Refused as WalkRefusedV}
+use Rattle.walk_answer.specs.declared.Passage.{Passage}
+use Rattle.walk_answer.specs.declared.Passed.{Passed}
+use Rattle.walk_answer.specs.declared.Passed.the-variants.{Span as SpanV, Refused as RefusedV}
 use Rattle.cbor.proofs.DecodeEncode.{item-of-encode}
 use Rattle.cbor.proofs.EncodeDecode.{encode-of-decode}
 use Rattle.cbor.proofs.Paths.{part-at-path}
-use Rattle.walk.proofs.Leaves.{Left}
-use Rattle.walk.proofs.WalkCycle.{Reached, reached, tail-is, after-told, all-leaves, all-one, all-rest}
-use Rattle.walk.proofs.WalkItems.{item-told, all-long, all-short}
+use Rattle.walk_answer.proofs.Leaves.{Left}
+use Rattle.walk_answer.proofs.WalkCycle.{Reached, reached, tail-is, after-told, all-leaves, all-one, all-rest}
+use Rattle.walk_parts.proofs.WalkItems.{item-told, all-long, all-short}
 use Rattle.path.proofs.Guiding.{bytes-of}
 use Rattle.path.proofs.Stepping.{trace-none, trace-few, items-not, items-behind}
 use Rattle.operations.specs.Operations.{itemsOf, andThen, spotOf, lookUp, partOf}

@@ -8,10 +8,10 @@ use Rattle.cbor.specs.Valid.{Bytes}
 use Rattle.cbor.specs.Decode.{decode}
 use Rattle.cbor.specs.Paths.{Spot, start, end}
 use Rattle.refusal.specs.RefusalKinds.{kindNumber}
-use Rattle.walk.specs.WalkAnswers.{passTold, walkAllOf}
-use Rattle.walk.specs.declared.Passage.{Passage}
-use Rattle.walk.specs.declared.Passed.{Passed}
-use Rattle.walk.specs.declared.Passed.the-variants.{Span as SpanV, Refused as PassRefused}
+use Rattle.walk_answer.specs.WalkAnswers.{passTold, walkAllOf}
+use Rattle.walk_answer.specs.declared.Passage.{Passage}
+use Rattle.walk_answer.specs.declared.Passed.{Passed}
+use Rattle.walk_answer.specs.declared.Passed.the-variants.{Span as SpanV, Refused as PassRefused}
 use Rattle.refusal.specs.declared.RefusalKind.the-variants.{TooLong}
 use Rattle.path.specs.Following.{at, astray}
 use Rattle.path.specs.StepAnswers.{pastItems, Begins}

@@ -5,8 +5,8 @@ use path::guided::Guided;
 use path::guided::walk_through;
 use refusal::Refusal;
 use refusal::RefusalKind;
-use walk::Passed;
-use walk::Walked;
+use walk_answer::Passed;
+use walk_answer::Walked;
 ghost use mathlib.Core.Path.{_≡_};
 ghost use mathlib.Core.List.{[]};
 ghost use Rattle.operations.specs.Operations.{lookUp, partOf};
@@ -75,12 +75,16 @@ fn check_noting(bytes: &[u8], k: u16) -> Noted
     if 65535 < bytes.len() {
         return too_long();
     }
-    let front = walk::elements(bytes, walk::COUNTED, wide(k), 16);
+    let front = walk::elements(bytes, walk_answer::COUNTED, wide(k), 16);
     match front {
         Passed::Refused(_e) => fewer(bytes),
         Passed::Span(m) => {
             let at = m.end;
-            let rest = walk::after(at, m.size, walk::elements(&bytes[at..], walk::ENDED, 0, 16));
+            let rest = walk_answer::after(
+                at,
+                m.size,
+                walk::elements(&bytes[at..], walk_answer::ENDED, 0, 16),
+            );
             match rest {
                 Passed::Refused(e) => Noted::Refused(e),
                 Passed::Span(_w) => Noted::Behind(at),
@@ -108,7 +112,7 @@ fn part_from(bytes: &[u8], path: &[u16], from: usize) -> Located
         Trace::Lost(i) => nowhere(i),
         Trace::At(c) => {
             let at = c.at;
-            let whole = walk::item_after(at, walk::item(&bytes[at..], 16));
+            let whole = walk_answer::item_after(at, walk::item(&bytes[at..], 16));
             match whole {
                 Walked::Refused(e) => Located::Refused(e),
                 Walked::Made(m) => between(at, m.end),

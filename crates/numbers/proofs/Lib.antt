@@ -1,3 +1,2 @@
-pub mod AmountCode
 pub mod IndicatorCode
 pub mod NumberCode

@@ -20,10 +20,11 @@ use Rattle.scanning.specs.Stands.{span}
 use Rattle.scanning.specs.ScanAnswers.{Peeked}
 use Rattle.literal_body.specs.LiteralAnswers.{digitNumber}
 use Rattle.token.specs.TokenAnswers.{indicatorNumber, itemCode, openCode, beginCode, codeOf, itemMark, openMark, beginMark, markOf, itemNumber, openNumber, beginNumber, numberOf, BeginsAs, Written, Shown, Says, Refused, TokenMade}
-use Rattle.numbers.specs.NumberAnswers.{heavy, Counts, floatAt, ScansDigits, Counted, Indicated, chooseBy, chosenNumber, Limited, Makes, Judging, Integral, Decimals, DigitAt, radixNumber, Prefixed, BasedAt, Leading}
+use Rattle.amounts.specs.AmountAnswers.{heavy, Counts, floatAt, ScansDigits, Counted}
+use Rattle.numbers.specs.NumberAnswers.{Indicated, chooseBy, chosenNumber, Limited, Makes, Judging, Integral, Decimals, DigitAt, radixNumber, Prefixed, BasedAt, Leading}
 use Rattle.cbor.specs.Flags.{signOf}
-use Rattle.numbers.specs.declared.amount.Amount.{Amount}
-use Rattle.numbers.specs.declared.amount.Digits.{Digits}
+use Rattle.amounts.specs.declared.Amount.{Amount}
+use Rattle.amounts.specs.declared.Digits.{Digits}
 use Rattle.numbers.specs.declared.indicator.Mark.{Mark}
 use Rattle.token.specs.declared.Token.{Token as Cut}
 use Rattle.cbor.proofs.Utf8Laws.{is-in}

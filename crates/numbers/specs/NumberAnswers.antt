@@ -1,8 +1,8 @@
 -- Of the code: what the code that reads numbers and indicators answers. s is a text.
-use Prim.Native.Nat.{ℕ, _+_, _*_, _≤_, _<_, min}
+use Prim.Native.Nat.{ℕ, _+_, _≤_, _<_}
 use mathlib.Core.Path.{_≡_}
 use mathlib.Core.Bool.{Bool, true, false}
-use mathlib.Core.List.{List, [], _∷_}
+use mathlib.Core.List.{List}
 use lib.Dec.{leb, eqb}
 use lib.ListN.{length, drop, getD}
 use Rattle.cbor.specs.Refusals.{ok}
@@ -10,52 +10,16 @@ use Rattle.cbor.specs.Widths.{Width, w0, w1, w2, w4, w8, limit, shortest}
 use Rattle.cbor.specs.Flags.{signOf}
 use Rattle.cbor.specs.Items.{Sign}
 use Rattle.notation.specs.Indicators.{Indicator, indicator, Chosen, chosen, misfit, choose}
-use Rattle.notation.specs.Numbers.{isDigit, numberFrom, makesFloat, isFloating, Radix, inRadix, noRadix, judged, integer, decimal, based, afterZero}
+use Rattle.notation.specs.Numbers.{isDigit, Radix, inRadix, noRadix, judged, integer, decimal, based, afterZero}
 use Rattle.notation.specs.Tokens.{Token}
 use Rattle.notation.specs.Reading.{marked}
-use Rattle.scanning.specs.Stands.{span}
-use Rattle.scanning.specs.ScanAnswers.{Ran}
 use Rattle.literal_body.specs.LiteralAnswers.{digitNumber}
 use Rattle.token.specs.TokenAnswers.{widthNumber, indicatorNumber, codeOf, markOf, numberOf, Written, Says}
-use Rattle.numbers.specs.declared.amount.Amount.{Amount}
-use Rattle.numbers.specs.declared.amount.Digits.{Digits}
+use Rattle.amounts.specs.AmountAnswers.{Counts}
+use Rattle.amounts.specs.declared.Amount.{Amount}
+use Rattle.amounts.specs.declared.Digits.{Digits}
 use Rattle.numbers.specs.declared.indicator.Mark.{Mark}
 use Rattle.token.specs.declared.Token.{Token as Cut}
-
--- AMOUNTS: a number up to one above 2^64, which stands for all that are larger
-unfoldable pub heavy : Bool → ℕ
-heavy true = 0x1_0000_0000_0000_0000
-heavy false = 0
-
-pub record Counts (a : Amount) (n : ℕ) : Type 0 where
-  pub is : a .value + heavy (a .over) ≡ min n 0x1_0000_0000_0000_0001
-  pub small : a .value ≤ 0xffff_ffff_ffff_ffff
-
-pub record Base (radix d : ℕ) : Type 0 where
-  pub least : 2 ≤ radix
-  pub most : radix ≤ 16
-  pub digit : d < radix
-
--- a digit more
-pub record Grown (a : Amount) (radix d : ℕ) (r : Amount) : Type 0 where
-  pub is : (n : ℕ) → Counts a n → Counts r (n * radix + d)
-
--- whether the element behind digits makes a float of them
-unfoldable pub floatAt : ℕ → List ℕ → Bool
-floatAt radix [] = false
-floatAt radix (b ∷ r) = makesFloat radix b
-
-pub record ScansDigits (s : List ℕ) (at radix first : ℕ) : Type 0 where
-  pub inside : at ≤ length s
-  pub least : 2 ≤ radix
-  pub most : radix ≤ 16
-  pub start : first ≤ 99
-
--- the digits from at on, behind those that make first
-pub record Counted (s : List ℕ) (at radix first : ℕ) (r : Digits) : Type 0 where
-  pub ran : Ran s (isDigit radix) at (r .next)
-  pub counts : Counts (r .amount) (numberFrom radix first (span at (r .next) (marked s)))
-  pub floats : isFloating radix (drop at (marked s)) ≡ floatAt radix (drop (r .next) (marked s))
 
 -- INDICATORS
 pub record Indicated (s : List ℕ) (at : ℕ) (m : Mark) : Type 0 where

@@ -1,4 +1,3 @@
-// Numbers in a text: amounts that may be too large, encoding indicators, integers and the openings of tags.
-pub mod amount;
+// Numbers in a text: encoding indicators, integers and the openings of tags.
 pub mod indicator;
 pub mod number;

@@ -1,12 +1,12 @@
 // Integers and tag openings.
-use crate::amount::Amount;
-use crate::amount::Digits;
-use crate::amount::count_digits;
-use crate::amount::digit_value;
-use crate::amount::floats;
 use crate::indicator::Mark;
 use crate::indicator::choose;
 use crate::indicator::indicator_at;
+use amounts::Amount;
+use amounts::Digits;
+use amounts::count_digits;
+use amounts::digit_value;
+use amounts::floats;
 use scanning::scan::next_is;
 use token::Token;
 use token::indicator::MISFIT;

@@ -23,10 +23,10 @@ use Rattle.typed_array.specs.TypedArrayAnswers.{mayTagBy}
 use Rattle.memory.specs.Buffer.{clipped}
 use Rattle.memory.proofs.Buffer.{take-over}
 use Rattle.notation.specs.Printing.{decimalOf, sizeOf, blankBehind, indicatorOf, printInt, printItem}
-use Rattle.walk.specs.WalkAnswers.{WalkTold, itemPassed, walkRefused, walkTold, walkOf, mapResult as mapped}
-use Rattle.walk.specs.declared.Walked.{Walked}
-use Rattle.walk.specs.declared.Walked.the-variants.{Made as MadeV, Refused as RefusedV}
-use Rattle.walk.specs.declared.WalkedItem.{WalkedItem}
+use Rattle.walk_answer.specs.WalkAnswers.{WalkTold, itemPassed, walkRefused, walkTold, walkOf, mapResult as mapped}
+use Rattle.walk_answer.specs.declared.Walked.{Walked}
+use Rattle.walk_answer.specs.declared.Walked.the-variants.{Made as MadeV, Refused as RefusedV}
+use Rattle.walk_answer.specs.declared.WalkedItem.{WalkedItem}
 use Rattle.text_output.specs.PrintParts.{Prints, widthBy, sizeBy}
 use Rattle.leaf_printer.proofs.PrintHeads.{width-low}
 use Rattle.cbor.specs.Flags.{signOf}

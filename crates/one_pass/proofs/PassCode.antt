@@ -21,9 +21,9 @@ use Rattle.head.specs.declared.HeadAt.{HeadAt}
 use Rattle.head.specs.declared.HeadRead.the-variants.{Head as HeadV}
 use Rattle.memory.specs.Sums.{capped}
 use Rattle.notation.specs.Printing.{decimalOf, indicatorOf, sizeOf, printItem, printAll, printRest, printAll₂, printRest₂, printText}
-use Rattle.walk.specs.WalkAnswers.{contents, entryContents, untilBy, modeBy, behindBy, stepBy, Turned, Within}
-use Rattle.walk.proofs.Leaves.{Left, Leaves, several-eq}
-use Rattle.walk.proofs.ItemLeaves.{item-leaves, entry-leaves}
+use Rattle.walk_answer.specs.WalkAnswers.{contents, entryContents, untilBy, modeBy, behindBy, stepBy, Turned, Within}
+use Rattle.walk_answer.proofs.Leaves.{Left, Leaves, several-eq}
+use Rattle.walk_answer.proofs.ItemLeaves.{item-leaves, entry-leaves}
 use Rattle.text_output.specs.PrintParts.{widthBy, sizeBy}
 use Rattle.printer.specs.PrintAnswers.{PrintHeaded}
 use Rattle.printer.proofs.PrintSeveral.{bind-ok, ok-rest}

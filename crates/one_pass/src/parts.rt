@@ -3,14 +3,14 @@ use leaf_text::Written;
 use leaf_text::none;
 use leaf_text::up_to;
 use leaf_text::word::put;
-use walk::Walked;
+use walk_answer::Walked;
 ghost use mathlib.Core.Path.{_≡_};
 ghost use mathlib.Core.List.{_∷_};
 ghost use Prim.Native.Nat.{_+_, _≤_};
 ghost use lib.ListN.{length};
 ghost use Rattle.notation.specs.Printing.{sizeOf};
 ghost use Rattle.text_output.specs.PrintParts.{sizeBy};
-ghost use Rattle.walk.specs.WalkAnswers.{Within};
+ghost use Rattle.walk_answer.specs.WalkAnswers.{Within};
 ghost use Rattle.leaf_text.specs.Laying.{Laid};
 ghost use Rattle.one_pass.specs.PassAnswers.{commaOf, separatorOf, tagOpening, ItemTold, IsItem, Closed, MayTag, ShortString};
 

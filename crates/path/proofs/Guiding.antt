@@ -18,14 +18,14 @@ use Rattle.head.specs.HeadAnswers.{headTold, headAt}
 use Rattle.head.specs.declared.HeadAt.{HeadAt}
 use Rattle.head.specs.declared.HeadRead.{HeadRead}
 use Rattle.head.specs.declared.HeadRead.the-variants.{Head as HeadV}
-use Rattle.walk.specs.WalkAnswers.{passed, passTold, toldOf, oneOf, allOf, untilBy, modeBy, behindBy, stepBy, Turned, afterTold}
-use Rattle.walk.specs.QuickAnswers.{Quick}
-use Rattle.walk.specs.declared.Passage.{Passage}
-use Rattle.walk.specs.declared.Passed.{Passed}
-use Rattle.walk.specs.declared.Passed.the-variants.{Span as SpanV}
-use Rattle.walk.proofs.Leaves.{Left}
-use Rattle.walk.proofs.WalkCycle.{reached, tail-is, all-leaves, all-one, all-double}
-use Rattle.walk.proofs.WalkItems.{all-told}
+use Rattle.walk_answer.specs.WalkAnswers.{passed, passTold, toldOf, oneOf, allOf, untilBy, modeBy, behindBy, stepBy, Turned, afterTold}
+use Rattle.quick_walk.specs.QuickAnswers.{Quick}
+use Rattle.walk_answer.specs.declared.Passage.{Passage}
+use Rattle.walk_answer.specs.declared.Passed.{Passed}
+use Rattle.walk_answer.specs.declared.Passed.the-variants.{Span as SpanV}
+use Rattle.walk_answer.proofs.Leaves.{Left}
+use Rattle.walk_answer.proofs.WalkCycle.{reached, tail-is, all-leaves, all-one, all-double}
+use Rattle.walk_parts.proofs.WalkItems.{all-told}
 use Rattle.path.specs.Following.{Place, at, onto, behindOne, pastOne, stepTo, standing, nthFrom, childBy, childIn, numbered, followFrom, trace}
 use Rattle.path.specs.StepAnswers.{Step as StepOf}
 use Rattle.path.specs.GuidedAnswers.{Walks, Passes, Below, Leads, WayInside, WayAmong, WayThrough, IfFound, Inside, Among, Through}

@@ -17,11 +17,11 @@ use Rattle.cbor.specs.Decode.{Until, counted, broken, ended, Step, finished, an
 use Rattle.cbor.proofs.DecodeEncode.{enterAt, by-head, item-of-encode}
 use Rattle.cbor.proofs.EncodeDecode.{WellRead, item-well}
 use Rattle.cbor.proofs.Heads.{major-back}
-use Rattle.walk.specs.WalkAnswers.{contents, contentsAll, contentsAll₂, mapResult, below, oneOf, allOf}
-use Rattle.walk.proofs.Leaves.{same, several-eq}
-use Rattle.walk.proofs.ItemLeaves.{elements-sized, entries-sized}
-use Rattle.walk.proofs.WalkParts.{sized-made}
-use Rattle.walk.proofs.WalkCycle.{one-leaves, all-more, all-none}
+use Rattle.walk_answer.specs.WalkAnswers.{contents, contentsAll, contentsAll₂, mapResult, below, oneOf, allOf}
+use Rattle.walk_answer.proofs.Leaves.{same, several-eq}
+use Rattle.walk_answer.proofs.ItemLeaves.{elements-sized, entries-sized}
+use Rattle.walk_parts.proofs.StringCode.{sized-made}
+use Rattle.walk_answer.proofs.WalkCycle.{one-leaves, all-more, all-none}
 use Rattle.path.proofs.Stepping.{lessBy, less-none}
 
 -- ONE AND THE OTHERS

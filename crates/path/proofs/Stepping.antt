@@ -16,19 +16,19 @@ use Rattle.cbor.specs.Heads.{Major, majorNumber, majorOf, Head, informationOf, 
 use Rattle.cbor.specs.Decode.{Until, counted, broken, ended, finished, another, stepAt, chunkAt, entryAt, itemBy, itemWith, item as itemAt, extent}
 use Rattle.head.specs.HeadAnswers.{headTold, sizeInformation, headFrom, headAt}
 use Rattle.cbor.specs.Flags.{kindOf}
-use Rattle.walk.specs.WalkAnswers.{Within, passTold, contents, entryContents, chunkContents, mapResult, toldOf, below, oneOf, allOf, untilBy, modeBy, stepBy, Turned, afterTold}
+use Rattle.walk_answer.specs.WalkAnswers.{Within, passTold, contents, entryContents, chunkContents, mapResult, toldOf, below, oneOf, allOf, untilBy, modeBy, stepBy, Turned, afterTold}
 use Rattle.refusal.specs.declared.Refusal.{Refusal}
 use Rattle.head.specs.declared.HeadAt.{HeadAt}
 use Rattle.head.specs.declared.HeadRead.{HeadRead}
 use Rattle.head.specs.declared.HeadRead.the-variants.{Head as HeadV, Refused as HeadRefusedV}
-use Rattle.walk.specs.declared.Passage.{Passage}
-use Rattle.walk.specs.declared.Passed.{Passed}
-use Rattle.walk.specs.declared.Passed.the-variants.{Span as SpanV, Refused as RefusedV}
-use Rattle.walk.proofs.Leaves.{Left, Leaves, same, left-cut, left-weak, left-on}
-use Rattle.walk.proofs.ItemLeaves.{HeadLeft, head-left}
-use Rattle.walk.proofs.WalkParts.{size-indefinite, size-definite}
-use Rattle.walk.proofs.WalkCycle.{Reached, reached, one-leaves, all-leaves, all-more, all-none, all-one, all-double}
-use Rattle.walk.proofs.WalkItems.{all-told}
+use Rattle.walk_answer.specs.declared.Passage.{Passage}
+use Rattle.walk_answer.specs.declared.Passed.{Passed}
+use Rattle.walk_answer.specs.declared.Passed.the-variants.{Span as SpanV, Refused as RefusedV}
+use Rattle.walk_answer.proofs.Leaves.{Left, Leaves, same, left-cut, left-weak, left-on}
+use Rattle.walk_answer.proofs.ItemLeaves.{HeadLeft, head-left}
+use Rattle.walk_parts.proofs.StringCode.{size-indefinite, size-definite}
+use Rattle.walk_answer.proofs.WalkCycle.{Reached, reached, one-leaves, all-leaves, all-more, all-none, all-one, all-double}
+use Rattle.walk_parts.proofs.WalkItems.{all-told}
 use Rattle.path.specs.Following.{Place, at, astray, onto, behindOne, pastOne, stepTo, standing, nthFrom, childBy, childAt, childIn, numbered, followFrom, trace}
 use Rattle.path.specs.StepAnswers.{placeOf, ReachedInside, ReachedAt, Step, majorBy, itemsBefore, pastItems, Begins, tracedTo, Still, Traced}
 use Rattle.path.specs.declared.Cursor.{Cursor}

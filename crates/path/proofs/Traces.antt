@@ -15,11 +15,11 @@ use Rattle.cbor.specs.TypedArrays.{mayTag}
 use Rattle.cbor.specs.Valid.{Fits, Valid, ValidAll, ValidAll₂}
 use Rattle.cbor.specs.Decode.{Until, ended, contentAt, chunksOf, elements, entries, entryAt, extent, tagged, itemBy, item as itemAt}
 use Rattle.cbor.specs.Paths.{Spot, Found, found, nowhere, within, nth, nth₂, child, onward, descend, locate}
-use Rattle.walk.specs.WalkAnswers.{mapResult, below, oneOf, entryContents, contents}
+use Rattle.walk_answer.specs.WalkAnswers.{mapResult, below, oneOf, entryContents, contents}
 use Rattle.cbor.proofs.Results.{refuse-not-ok}
 use Rattle.cbor.proofs.Several.{tailOf, Meets, Begins, begins-more, step-over, Goes, goes}
 use Rattle.cbor.proofs.DecodeEncode.{enterAt, shown, plain-arrays, plain-maps, Plain, begins, opening-shown, closing-tail, shown-meets, item-of-encode}
-use Rattle.walk.proofs.WalkItems.{item-eq}
+use Rattle.walk_parts.proofs.WalkItems.{item-eq}
 use Rattle.path.specs.Following.{Place, at, astray, onto, behindOne, pastOne, nthFrom, childBy, childAt, childIn, numbered, followFrom, trace}
 use Rattle.path.proofs.Stepping.{nth-none, nth-zero, nth-more}
 

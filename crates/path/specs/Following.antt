@@ -7,7 +7,7 @@ use Rattle.cbor.specs.Refusals.{Result, ok, refuse}
 use Rattle.cbor.specs.Heads.{Head, majorNumber, nextHead}
 use Rattle.cbor.specs.Decode.{Until, ended, Step, finished, another, stepAt, extent}
 use Rattle.cbor.specs.Paths.{Found, found, nowhere}
-use Rattle.walk.specs.WalkAnswers.{oneOf}
+use Rattle.walk_answer.specs.WalkAnswers.{oneOf}
 
 pub data Place : Type 0 where
   at : List ℕ → Place

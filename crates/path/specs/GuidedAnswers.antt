@@ -7,7 +7,7 @@ use Rattle.cbor.specs.Refusals.{ok}
 use Rattle.cbor.specs.Valid.{Bytes}
 use Rattle.cbor.specs.Decode.{Until, counted, ended, another, stepAt, mostBytes}
 use Rattle.cbor.specs.Paths.{found}
-use Rattle.walk.specs.WalkAnswers.{allOf, untilBy}
+use Rattle.walk_answer.specs.WalkAnswers.{allOf, untilBy}
 use Rattle.path.specs.Following.{followFrom, trace}
 use Rattle.path.specs.declared.guided.Way.{Way}
 use Rattle.path.specs.declared.guided.Guided.{Guided}

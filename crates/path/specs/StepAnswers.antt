@@ -5,7 +5,7 @@ use mathlib.Core.List.{List}
 use mathlib.Core.Bool.{Bool, true, false}
 use lib.ListN.{length, drop, getD}
 use Rattle.cbor.specs.Decode.{counted}
-use Rattle.walk.specs.WalkAnswers.{allOf}
+use Rattle.walk_answer.specs.WalkAnswers.{allOf}
 use Rattle.cbor.specs.Paths.{Found, found, nowhere}
 use Rattle.path.specs.Following.{Place, at, astray, behindOne, trace}
 use Rattle.path.specs.declared.Destination.{Destination}

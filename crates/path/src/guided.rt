@@ -3,17 +3,17 @@
 use crate::behind;
 use crate::wide;
 use head::HeadRead;
-use walk::COUNTED;
-use walk::ENDED;
-use walk::is_over;
-use walk::quick::UNKNOWN;
-use walk::quick::end_in;
-use walk::quick::passed;
+use quick_walk::UNKNOWN;
+use quick_walk::end_in;
+use quick_walk::passed;
+use walk_answer::COUNTED;
+use walk_answer::ENDED;
+use walk_answer::is_over;
 ghost use mathlib.Core.List.{[], _∷_};
 ghost use Prim.Native.Nat.{_≤_};
 ghost use lib.ListN.{length};
 ghost use Rattle.cbor.specs.Decode.{mostBytes};
-ghost use Rattle.walk.specs.WalkAnswers.{untilBy};
+ghost use Rattle.walk_answer.specs.WalkAnswers.{untilBy};
 ghost use Rattle.path.specs.GuidedAnswers.{Passes, Below, Inside, Among, Through};
 
 // The item at the path goes from `start` to `end`; what the path was followed in ends before `behind`.
@@ -50,7 +50,7 @@ fn past_items(bytes: &[u8], from: usize, mode: u8, count: u64, levels: usize) ->
     ensures { λ r. ⌜ Passes (now (bytes .entry)) from levels (untilBy mode count) r ⌝ }
 {
     if is_over(bytes, from, mode, count) {
-        return walk::past(from, mode);
+        return walk_answer::past(from, mode);
     }
     let r = passed(&bytes[from..], mode, count, levels);
     if r == UNKNOWN {
@@ -100,7 +100,7 @@ fn among(
     match inner {
         Guided::Unknown => Guided::Unknown,
         Guided::Found(w) => {
-            let end = past_items(bytes, w.behind, mode, walk::less(left), levels);
+            let end = past_items(bytes, w.behind, mode, walk_answer::less(left), levels);
             if bytes.len() < end {
                 return Guided::Unknown;
             }
@@ -129,7 +129,7 @@ fn inside(bytes: &[u8], at: usize, path: &[u16], levels: usize) -> Guided
         HeadRead::Refused(_e) => Guided::Unknown,
         HeadRead::Head(h) => {
             let k = wide(path[0]);
-            let mode = walk::mode_of(h.info);
+            let mode = walk_answer::mode_of(h.info);
             if h.major == ARRAY {
                 return among(bytes, h.end, mode, h.argument, k, &path[1..], levels - 1);
             }

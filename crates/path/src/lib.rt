@@ -2,12 +2,12 @@
 pub mod guided;
 
 use head::HeadRead;
-use walk::Passed;
+use walk_answer::Passed;
 ghost use mathlib.Core.Path.{_≡_};
 ghost use Prim.Native.Nat.{_-_};
 ghost use lib.ListN.{drop};
 ghost use Rattle.cbor.specs.Decode.{ended};
-ghost use Rattle.walk.specs.WalkAnswers.{untilBy, Within};
+ghost use Rattle.walk_answer.specs.WalkAnswers.{untilBy, Within};
 ghost use Rattle.path.specs.Following.{standing, nthFrom, childIn};
 ghost use Rattle.path.specs.StepAnswers.{ReachedAt, Step, itemsBefore, majorBy, pastItems, Begins, Traced};
 
@@ -61,7 +61,11 @@ impl Cursor {
         ensures { λ r. ⌜ ReachedAt (now (bytes .entry)) r (pastItems n (drop (self .at) (now (bytes .entry)))) ⌝ }
     {
         let at = self.at;
-        let part = walk::after(at, 0, walk::elements(&bytes[at..], walk::COUNTED, n, 16));
+        let part = walk_answer::after(
+            at,
+            0,
+            walk::elements(&bytes[at..], walk_answer::COUNTED, n, 16),
+        );
         match part {
             Passed::Refused(_e) => Destination::Nowhere,
             Passed::Span(m) => Destination::To(Cursor { at: m.end }),
@@ -77,7 +81,7 @@ impl Cursor {
         match step {
             Destination::Nowhere => Destination::Nowhere,
             Destination::To(c) => {
-                if walk::is_over(bytes, c.at, mode, behind(count, wide(k))) {
+                if walk_answer::is_over(bytes, c.at, mode, behind(count, wide(k))) {
                     return Destination::Nowhere;
                 }
                 Destination::To(Cursor { at: c.at })
@@ -105,7 +109,7 @@ impl Cursor {
             HeadRead::Refused(_e) => Destination::Nowhere,
             HeadRead::Head(h) => {
                 let first = Cursor { at: h.end };
-                let mode = walk::mode_of(h.info);
+                let mode = walk_answer::mode_of(h.info);
                 if h.major == 4 {
                     return first.nth(bytes, mode, h.argument, false, k);
                 }

@@ -27,7 +27,7 @@ use Rattle.cbor.proofs.Table.{between}
 use Rattle.cbor.proofs.Heads.{major-back, major-most, taking-yes}
 use Rattle.cbor.proofs.DecodeEncode.{enterAt}
 use Rattle.notation.specs.Printing.{printString, printChunks, printChunked, printItem, printAll, printRest, printAll₂, printRest₂}
-use Rattle.walk.specs.WalkAnswers.{below, Within}
+use Rattle.walk_answer.specs.WalkAnswers.{below, Within}
 use Rattle.text_output.specs.PrintParts.{widthBy, sizeBy}
 use Rattle.printer.specs.PrintAnswers.{entryText, chunkText, separatorOf, joined, chunkedText, PrintHeaded}
 use Rattle.leaf_printer.proofs.PrintHeads.{width-low}

@@ -16,7 +16,7 @@ use Rattle.cbor.specs.Decode.{Until, counted, broken, ended, Step, finished, an
 use Rattle.cbor.proofs.Results.{refuse-not-ok}
 use Rattle.memory.proofs.Lists.{front}
 use Rattle.memory.specs.Sums.{capped}
-use Rattle.walk.specs.WalkAnswers.{mapResult as mapped, Within, untilBy, modeBy, behindBy, stepBy, Turned}
+use Rattle.walk_answer.specs.WalkAnswers.{mapResult as mapped, Within, untilBy, modeBy, behindBy, stepBy, Turned}
 use Rattle.text_output.specs.PrintParts.{Prints}
 use Rattle.printer.specs.PrintAnswers.{printOneOf, printAllOf, Moves, separatorOf, joined, openingBy, closingBy, Done, PrintTold}
 use Rattle.printer.specs.declared.Printed.{Printed}

@@ -21,7 +21,7 @@ use Rattle.memory.proofs.Buffer.{clipped-nil}
 use Rattle.cbor.proofs.Results.{refuse-not-ok}
 use Rattle.cbor.proofs.EncodeDecode.{encode-of-decode}
 use Rattle.notation.specs.Printing.{printItem, printText}
-use Rattle.walk.specs.WalkAnswers.{mapResult as mapped, below, untilBy}
+use Rattle.walk_answer.specs.WalkAnswers.{mapResult as mapped, below, untilBy}
 use Rattle.text_output.specs.PrintParts.{Prints}
 use Rattle.printer.specs.PrintAnswers.{printOneOf, printAllOf, joined, PrintTold, PrintedAll}
 use Rattle.printer.specs.declared.Printed.{Printed}

@@ -23,7 +23,7 @@ use Rattle.cbor.proofs.Results.{refuse-not-ok}
 use Rattle.cbor.proofs.DecodeEncode.{enterAt, by-head}
 use Rattle.notation.specs.Printing.{sizeOf, printInt, printString, printChunked, printItem, printSimple}
 use Rattle.memory.specs.Sums.{capped}
-use Rattle.walk.specs.WalkAnswers.{mapResult as mapped, below, Within, untilBy, modeBy, behindBy, stepBy, Turned}
+use Rattle.walk_answer.specs.WalkAnswers.{mapResult as mapped, below, Within, untilBy, modeBy, behindBy, stepBy, Turned}
 use Rattle.cbor.specs.Flags.{kindOf, signOf}
 use Rattle.text_output.specs.PrintParts.{Prints, widthBy, sizeBy}
 use Rattle.printer.specs.PrintAnswers.{entryText, chunkText, printOneOf, printAllOf, joined, openingBy, closingBy, containerText, chunkedText, tagText, PrintTold, PrintHeaded}

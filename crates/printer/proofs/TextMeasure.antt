@@ -28,7 +28,7 @@ use Rattle.memory.specs.Sums.{capped}
 use Rattle.memory.proofs.Lists.{front}
 use Rattle.memory.proofs.Buffer.{length-part}
 use Rattle.notation.specs.Printing.{decimalOf, indicatorOf, sizeOf, printInt, printString, printSimple, printText, printRest}
-use Rattle.walk.specs.WalkAnswers.{Within}
+use Rattle.walk_answer.specs.WalkAnswers.{Within}
 use Rattle.text_output.specs.PrintParts.{widthBy, sizeBy}
 use Rattle.text_output.specs.Runs.{PlainRun}
 use Rattle.text_output.proofs.PlainRuns.{run-part}

@@ -11,7 +11,7 @@ use Rattle.cbor.specs.Refusals.{Result, ok}
 use Rattle.cbor.specs.Items.{Kind, Chunk, Item, tag, Items}
 use Rattle.cbor.specs.Heads.{majorOf, nextHead}
 use Rattle.cbor.specs.Decode.{Until, several, chunkAt, Entry, entryAt, decode}
-use Rattle.walk.specs.WalkAnswers.{mapResult as mapped, below}
+use Rattle.walk_answer.specs.WalkAnswers.{mapResult as mapped, below}
 use Rattle.cbor.specs.Flags.{kindOf}
 use Rattle.head.specs.declared.HeadAt.{HeadAt}
 use Rattle.notation.specs.Printing.{printString, printChunked, sizeOf, printItem, printText}

@@ -13,12 +13,12 @@ use Rattle.cbor.specs.Decode.{decode}
 use Rattle.memory.specs.Buffer.{over, overIfFits, copied}
 use Rattle.memory.proofs.Buffer.{clipped-fits, copied-yes, written-fits}
 use Rattle.refusal.specs.RefusalKinds.{kindNumber}
-use Rattle.walk.specs.WalkAnswers.{passTold, mapResult, toldOf, walkAllOf, contentsAll}
+use Rattle.walk_answer.specs.WalkAnswers.{passTold, mapResult, toldOf, walkAllOf, contentsAll}
 use Rattle.refusal.specs.declared.Refusal.{Refusal}
 use Rattle.refusal.specs.declared.RefusalKind.the-variants.{NoRoom}
-use Rattle.walk.specs.declared.Passage.{Passage}
-use Rattle.walk.specs.declared.Passed.{Passed}
-use Rattle.walk.specs.declared.Passed.the-variants.{Span as SpanV, Refused as RefusedV}
+use Rattle.walk_answer.specs.declared.Passage.{Passage}
+use Rattle.walk_answer.specs.declared.Passed.{Passed}
+use Rattle.walk_answer.specs.declared.Passed.the-variants.{Span as SpanV, Refused as RefusedV}
 use Rattle.notation.specs.Printing.{printText}
 use Rattle.one_pass.specs.PassAnswers.{PassTold}
 use Rattle.printer.specs.PrintAnswers.{PrintedAll, TextSize}

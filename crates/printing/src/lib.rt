@@ -4,7 +4,7 @@ use outcome::fits;
 use outcome::refuse;
 use outcome::turns_for;
 use refusal::RefusalKind;
-use walk::Passed;
+use walk_answer::Passed;
 ghost use mathlib.Core.Path.{_≡_};
 ghost use Rattle.operations.specs.Operations.{print};
 ghost use Rattle.outcome.specs.Outcomes.{outcomeOf};

@@ -22,11 +22,12 @@ use Rattle.notation.specs.Reading.{marked}
 use Rattle.scanning.specs.Stands.{span}
 use Rattle.scanning.specs.ScanAnswers.{Classed, isNext, Peeked}
 use Rattle.token.specs.TokenAnswers.{itemCode, beginCode, codeOf, itemMark, beginMark, markOf, itemNumber, beginNumber, numberOf, BeginsAs, Written, Says, Refused, TokenMade}
-use Rattle.numbers.specs.NumberAnswers.{heavy, Counts, ScansDigits, Counted, DigitAt}
+use Rattle.amounts.specs.AmountAnswers.{heavy, Counts, ScansDigits, Counted}
+use Rattle.numbers.specs.NumberAnswers.{DigitAt}
 use Rattle.cbor.specs.Flags.{signOf}
 use Rattle.words.specs.WordAnswers.{WordPart, Enclosed, otherWord, valueWord, prefixWord, Simples, SimpleIn, frontClass, Stood}
-use Rattle.numbers.specs.declared.amount.Amount.{Amount}
-use Rattle.numbers.specs.declared.amount.Digits.{Digits}
+use Rattle.amounts.specs.declared.Amount.{Amount}
+use Rattle.amounts.specs.declared.Digits.{Digits}
 use Rattle.token.specs.declared.Token.{Token as Cut}
 use Rattle.notation.proofs.ScanningElements.{clash, class-digit}
 use Rattle.scanning.proofs.Marked.{front, length-marked, at-byte, at-end, past-end, span-none, span-split, span-length}

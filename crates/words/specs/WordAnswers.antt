@@ -11,8 +11,8 @@ use Rattle.notation.specs.Words.{same, falseWord, trueWord, nullWord, undefined
 use Rattle.notation.specs.Reading.{marked}
 use Rattle.scanning.specs.Stands.{span}
 use Rattle.token.specs.TokenAnswers.{Says}
-use Rattle.numbers.specs.NumberAnswers.{Counts}
-use Rattle.numbers.specs.declared.amount.Amount.{Amount}
+use Rattle.amounts.specs.AmountAnswers.{Counts}
+use Rattle.amounts.specs.declared.Amount.{Amount}
 use Rattle.token.specs.declared.Token.{Token as Cut}
 
 -- a part of a text

@@ -1,6 +1,6 @@
 // Words and simple values.
-use numbers::amount::Amount;
-use numbers::amount::count_digits;
+use amounts::Amount;
+use amounts::count_digits;
 use numbers::number::number;
 use scanning::class::DIGIT;
 use scanning::class::class;

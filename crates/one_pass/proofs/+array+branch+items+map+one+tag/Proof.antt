@@ -32,10 +32,10 @@ use Rattle.one_pass.proofs.parts.odd.Reads as odd-reads
 use Rattle.one_pass.proofs.parts.opening.Reads as opening-reads
 use Rattle.one_pass.proofs.parts.separator.Reads as separator-reads
 use Rattle.one_pass.proofs.parts.tag_opening.Reads as tag-opening-reads
-use Rattle.walk.proofs.is_over.Reads as is-over-reads
-use Rattle.walk.proofs.less.Reads as less-reads
-use Rattle.walk.proofs.mode_of.Reads as mode-of-reads
-use Rattle.walk.proofs.past.Reads as past-reads
+use Rattle.walk_answer.proofs.is_over.Reads as is-over-reads
+use Rattle.walk_answer.proofs.less.Reads as less-reads
+use Rattle.walk_answer.proofs.mode_of.Reads as mode-of-reads
+use Rattle.walk_answer.proofs.past.Reads as past-reads
 use Rattle.one_pass.proofs.+array+branch+items+map+one+tag.{statement}
 use Rattle.one_pass.proofs.+array+branch+items+map+one+tag.Tie.{close}
 use borrow.Author.Needs.{needs}

@@ -33,12 +33,12 @@ use Rattle.printer.proofs.+behind+below+chunked+container+entry+one+pri
 use Rattle.head.proofs.read_head.Reads as read-head-reads
 use Rattle.printer.proofs.chunk.Reads as chunk-reads
 use Rattle.printer.proofs.closing.Reads as closing-reads
-use Rattle.walk.proofs.is_over.Reads as is-over-reads
-use Rattle.walk.proofs.less.Reads as less-reads
-use Rattle.walk.proofs.mode_of.Reads as mode-of-reads
+use Rattle.walk_answer.proofs.is_over.Reads as is-over-reads
+use Rattle.walk_answer.proofs.less.Reads as less-reads
+use Rattle.walk_answer.proofs.mode_of.Reads as mode-of-reads
 use Rattle.printer.proofs.moves.Reads as moves-reads
 use Rattle.printer.proofs.opening.Reads as opening-reads
-use Rattle.walk.proofs.past.Reads as past-reads
+use Rattle.walk_answer.proofs.past.Reads as past-reads
 use Rattle.printer.proofs.separator.Reads as separator-reads
 use Rattle.printer.proofs.string.Reads as string-reads
 use Rattle.text_output.proofs.put.Reads as put-reads

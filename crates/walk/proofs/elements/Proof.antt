@@ -1,7 +1,7 @@
 -- `walk::elements` meets its contract.
 -- Assumes nothing.
 use borrow.Author.Needs.{needs}
-use Rattle.walk.proofs.QuickWays.{quick-told}
+use Rattle.quick_walk.proofs.QuickWays.{quick-told}
 use Rattle.walk.proofs.elements.Statement.{statement}
 use Rattle.walk.proofs.elements.Tie as tie
 

@@ -2,7 +2,7 @@
 -- Assumes nothing.
 use Rattle.walk.proofs.item.Statement.{statement}
 use Rattle.walk.proofs.item.Tie as tie
-use Rattle.walk.proofs.WalkItems.{item-is}
+use Rattle.walk_parts.proofs.WalkItems.{item-is}
 use borrow.Author.Needs.{needs}
 
 pub item-spec : {M : Type 1} → statement M

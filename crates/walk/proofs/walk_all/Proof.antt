@@ -3,7 +3,7 @@
 use borrow.Author.Needs.{needs}
 use Rattle.walk.proofs.walk_all.Statement.{statement}
 use Rattle.walk.proofs.walk_all.Tie as tie
-use Rattle.walk.proofs.WalkItems.{all-ways}
+use Rattle.walk_parts.proofs.WalkItems.{all-ways}
 
 pub walk-all-spec : {M : Type 1} → statement M
 walk-all-spec =

@@ -15,9 +15,9 @@ use Rattle.path.proofs.behind.Reads as behind-reads
 use Rattle.path.proofs.guided.past_items.Reads as past-items-reads
 use Rattle.path.proofs.guided.whole.Reads as whole-reads
 use Rattle.path.proofs.wide.Reads as wide-reads
-use Rattle.walk.proofs.is_over.Reads as is-over-reads
-use Rattle.walk.proofs.less.Reads as less-reads
-use Rattle.walk.proofs.mode_of.Reads as mode-of-reads
+use Rattle.walk_answer.proofs.is_over.Reads as is-over-reads
+use Rattle.walk_answer.proofs.less.Reads as less-reads
+use Rattle.walk_answer.proofs.mode_of.Reads as mode-of-reads
 use Rattle.path.proofs.guided.+among+inside.{statement}
 use Rattle.path.proofs.guided.+among+inside.Tie.{close}
 use borrow.Author.Needs.{needs}

@@ -1,0 +1,2 @@
+pub mod GroupCode
+pub mod BlankCode

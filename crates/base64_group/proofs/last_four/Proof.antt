@@ -1,0 +1,17 @@
+-- `base64_group::last_four` meets its contract.
+-- Assumes nothing.
+use Rattle.base64_group.proofs.GroupCode.{four-ways}
+use borrow.Author.Needs.{needs}
+use Rattle.base64_group.proofs.last_four.Statement.{statement}
+use Rattle.base64_group.proofs.last_four.Tie as tie
+
+pub last-four-spec : {M : Type 1} → statement M
+last-four-spec =
+    tie.close (tie.spec
+    (λ c κs. search needs)  -- last-two-requires
+    (λ c. search four-ways)  -- returns
+    (λ c κs. search needs)  -- last-three-requires
+    (λ c. search four-ways)  -- returns-2
+    (λ c κs. search needs)  -- full-size-requires
+    (λ c. search four-ways)  -- returns-3
+    )

@@ -1,0 +1,15 @@
+-- `base64_group::last_three` meets its contract.
+-- Assumes nothing.
+use Rattle.base64_group.proofs.GroupCode.{three-ways}
+use Rattle.base64_group.proofs.last_three.Statement.{statement}
+use Rattle.base64_group.proofs.last_three.Tie as tie
+
+pub last-three-spec : {M : Type 1} → statement M
+last-three-spec =
+    tie.close (tie.spec
+    (λ c. search three-ways)  -- returns
+    (λ c. search three-ways)  -- returns-2
+    (λ c. search three-ways)  -- returns-3
+    (λ c. search three-ways)  -- returns-4
+    (λ c. search three-ways)  -- returns-5
+    )

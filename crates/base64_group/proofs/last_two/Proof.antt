@@ -1,0 +1,14 @@
+-- `base64_group::last_two` meets its contract.
+-- Assumes nothing.
+use Rattle.base64_group.proofs.GroupCode.{two-ways}
+use Rattle.base64_group.proofs.last_two.Statement.{statement}
+use Rattle.base64_group.proofs.last_two.Tie as tie
+
+pub last-two-spec : {M : Type 1} → statement M
+last-two-spec =
+    tie.close (tie.spec
+    (λ c. search two-ways)  -- returns
+    (λ c. search two-ways)  -- returns-2
+    (λ c. search two-ways)  -- returns-3
+    (λ c. search two-ways)  -- returns-4
+    )

@@ -1,0 +1,2 @@
+pub mod LeafRun
+pub mod QuickWays

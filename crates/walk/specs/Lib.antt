@@ -1,3 +1,0 @@
-pub mod WalkAnswers
-pub mod WalkLeaves
-pub mod QuickAnswers

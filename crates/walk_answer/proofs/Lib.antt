@@ -1,0 +1,5 @@
+pub mod Leaves
+pub mod ItemLeaves
+pub mod Turns
+pub mod AnswerCode
+pub mod WalkCycle

@@ -1,0 +1,13 @@
+-- `walk_answer::mode_of` meets its contract.
+-- Assumes nothing.
+use Rattle.walk_answer.proofs.mode_of.Statement.{statement}
+use Rattle.walk_answer.proofs.mode_of.Tie as tie
+use Rattle.walk_answer.proofs.Turns.{mode-ways}
+use borrow.Author.Needs.{needs}
+
+pub mode-of-spec : {M : Type 1} → statement M
+mode-of-spec =
+    tie.close (tie.spec
+    (λ c. search mode-ways)  -- returns
+    (λ c. search mode-ways)  -- returns-2
+    )

@@ -1,0 +1,2 @@
+pub mod StringCode
+pub mod WalkItems
