@@ -41,7 +41,7 @@ fn stop_at(b: u8, i: u8) -> u8
     requires { ⌜ i ≤ 32 ⌝ }
     ensures { λ r. ⌜ Stop b i r ⌝ }
 {
-    if text_output::more(b) + high(b) == 0 {
+    if plain_bytes::more(b) + high(b) == 0 {
         return 32;
     }
     i
@@ -84,9 +84,9 @@ fn digits(bytes: &[u8], from: usize, n: usize, out: &mut [u8], pos: usize)
     ensures { λ _. ⌜ Laid (now (out .entry)) (now (out .exit)) pos (hexOf (take n (drop from (now (bytes .entry))))) (pos + 2 * n) ⌝ }
 {
     let half = from + HALF;
-    text_output::hex_pairs(&bytes[from..half], out, pos);
+    hex_output::hex_pairs(&bytes[from..half], out, pos);
     if HALF < n {
-        text_output::hex_pairs(&bytes[half..from + BLOCK], out, pos + BLOCK);
+        hex_output::hex_pairs(&bytes[half..from + BLOCK], out, pos + BLOCK);
     }
 }
 
