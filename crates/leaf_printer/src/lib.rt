@@ -63,10 +63,10 @@ pub fn integer(negative: bool, info: u8, n: u64, out: &mut [u8], pos: usize) -> 
 {
     if negative {
         let p = text_output::put(out, pos, b'-');
-        let q = text_output::successor(n, out, p);
+        let q = decimal_output::successor(n, out, p);
         return indicator(info, n, out, q);
     }
-    let p = text_output::decimal(n, out, pos);
+    let p = decimal_output::decimal(n, out, pos);
     indicator(info, n, out, p)
 }
 
@@ -74,7 +74,7 @@ fn other_simple(n: u64, out: &mut [u8], pos: usize) -> usize
     ensures { λ r. ⌜ Prints (now (out .entry)) (now (out .exit)) pos (otherSimple n) r ⌝ }
 {
     let p = text_output::put_all(b"simple(", out, pos);
-    let q = text_output::decimal(n, out, p);
+    let q = decimal_output::decimal(n, out, p);
     text_output::put(out, q, b')')
 }
 
@@ -110,7 +110,7 @@ pub fn string(bytes: &[u8], info: u8, text: bool, out: &mut [u8], pos: usize) ->
     ensures { λ r. ⌜ Prints (now (out .entry)) (now (out .exit)) pos (printString (kindOf text) (widthBy info) (now (bytes .entry))) r ⌝ }
 {
     let p = open_quote(text, out, pos);
-    let q = text_output::content(bytes, text, out, p);
+    let q = string_output::content(bytes, text, out, p);
     let e = text_output::put(out, q, quote(text));
     indicator(info, bytes.len() as u64, out, e)
 }
@@ -155,7 +155,7 @@ fn successor_size(n: u64) -> usize
     if n == 18446744073709551615 {
         return 20;
     }
-    text_output::digits(n + 1)
+    decimal_output::digits(n + 1)
 }
 
 pub fn integer_size(negative: bool, info: u8, n: u64) -> usize
@@ -165,7 +165,7 @@ pub fn integer_size(negative: bool, info: u8, n: u64) -> usize
     if negative {
         return sum(sum(1, successor_size(n)), mark);
     }
-    sum(text_output::digits(n), mark)
+    sum(decimal_output::digits(n), mark)
 }
 
 pub fn simple_size(n: u64) -> usize
@@ -176,7 +176,7 @@ pub fn simple_size(n: u64) -> usize
         21 => 4,
         22 => 4,
         23 => 9,
-        _ => sum(8, text_output::digits(n)),
+        _ => sum(8, decimal_output::digits(n)),
     }
 }
 
@@ -190,7 +190,7 @@ fn quotes_size(text: bool) -> usize
 pub fn string_size(bytes: &[u8], info: u8, text: bool) -> usize
     ensures { λ r. ⌜ r ≡ capped 0 (length (printString (kindOf text) (widthBy info) (now (bytes .entry)))) ⌝ }
 {
-    let quoted = sum(text_output::content_size(bytes, text), quotes_size(text));
+    let quoted = sum(string_output::content_size(bytes, text), quotes_size(text));
     sum(quoted, indicator_size(info, bytes.len() as u64))
 }
 

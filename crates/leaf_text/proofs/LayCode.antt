@@ -13,7 +13,7 @@ use Rattle.memory.specs.Buffer.{over, overIfFits}
 use Rattle.memory.proofs.Buffer.{over-one, length-over, clipped-fits, written-fits}
 use Rattle.notation.specs.Printing.{decimalOf}
 use Rattle.text_output.specs.PrintParts.{Prints}
-use Rattle.text_output.proofs.PrintLeaves.{decimal-one, decimal-more}
+use Rattle.decimal_output.proofs.DecimalCode.{decimal-one, decimal-more}
 use Rattle.leaf_text.specs.Laying.{Laid, digitOf, tailOf, minusOf}
 
 -- LAYING

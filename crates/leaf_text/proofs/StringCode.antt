@@ -26,9 +26,10 @@ use Rattle.memory.proofs.Buffer.{copied-yes, length-part}
 use Rattle.notation.specs.Printing.{escapeOf, escapedOf, hexByteOf, hexOf, indicatorOf, printString, printSimple, printItem}
 use Rattle.utf8.proofs.Runs.{ascii-good}
 use Rattle.text_output.specs.PrintParts.{Prints, contentOf}
-use Rattle.text_output.specs.Runs.{More, AllPlain}
-use Rattle.text_output.proofs.PrintLeaves.{hex-append}
-use Rattle.text_output.proofs.PlainRuns.{hex-length, content-plain}
+use Rattle.plain_bytes.specs.Runs.{More, AllPlain}
+use Rattle.hex_output.proofs.HexCode.{hex-append}
+use Rattle.hex_output.proofs.HexCode.{hex-length}
+use Rattle.plain_bytes.proofs.PlainRuns.{content-plain}
 use Rattle.leaf_text.specs.Laying.{Laid}
 use Rattle.leaf_text.specs.LeafKinds.{KindOf}
 use Rattle.leaf_text.specs.LeafTexts.{Room, LeafTold, High, Stop, Stops, quotedHex}

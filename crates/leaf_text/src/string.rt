@@ -43,7 +43,7 @@ fn stop_at(b: u8, i: u8) -> u8
     requires { ⌜ i ≤ 32 ⌝ }
     ensures { λ r. ⌜ Stop b i r ⌝ }
 {
-    if text_output::more(b) + high(b) == 0 {
+    if plain_bytes::more(b) + high(b) == 0 {
         return 32;
     }
     i
@@ -87,11 +87,11 @@ fn digits(bytes: &[u8], from: usize, n: usize, out: &mut [u8], pos: usize)
 {
     let quarter = from + QUARTER;
     let half = from + HALF;
-    text_output::hex_pairs(&bytes[from..quarter], out, pos);
+    hex_output::hex_pairs(&bytes[from..quarter], out, pos);
     if QUARTER < n {
-        text_output::hex_pairs(&bytes[quarter..half], out, pos + HALF);
+        hex_output::hex_pairs(&bytes[quarter..half], out, pos + HALF);
         if HALF < n {
-            text_output::hex_pairs(&bytes[half..from + BLOCK], out, pos + BLOCK);
+            hex_output::hex_pairs(&bytes[half..from + BLOCK], out, pos + BLOCK);
         }
     }
 }

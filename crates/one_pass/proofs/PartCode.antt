@@ -30,7 +30,7 @@ use Rattle.walk_answer.specs.declared.WalkedItem.{WalkedItem}
 use Rattle.text_output.specs.PrintParts.{Prints, widthBy, sizeBy}
 use Rattle.leaf_printer.proofs.PrintHeads.{width-low}
 use Rattle.cbor.specs.Flags.{signOf}
-use Rattle.text_output.proofs.PrintLeaves.{decimal-length}
+use Rattle.decimal_output.proofs.DecimalCode.{decimal-length}
 use Rattle.printer.proofs.PrintBounds.{indicator-length}
 use Rattle.printer.specs.PrintAnswers.{Done, PrintTold}
 use Rattle.printer.specs.declared.Printed.{Printed}

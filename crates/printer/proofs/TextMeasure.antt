@@ -30,8 +30,8 @@ use Rattle.memory.proofs.Buffer.{length-part}
 use Rattle.notation.specs.Printing.{decimalOf, indicatorOf, sizeOf, printInt, printString, printSimple, printText, printRest}
 use Rattle.walk_answer.specs.WalkAnswers.{Within}
 use Rattle.text_output.specs.PrintParts.{widthBy, sizeBy}
-use Rattle.text_output.specs.Runs.{PlainRun}
-use Rattle.text_output.proofs.PlainRuns.{run-part}
+use Rattle.plain_bytes.specs.Runs.{PlainRun}
+use Rattle.plain_bytes.proofs.PlainRuns.{run-part}
 use Rattle.printer.specs.PrintAnswers.{Moves, PrintHeaded, TextSize}
 use Rattle.printer.specs.TextSizes.{isBroken, isNone, bracketsSize, chunkedSize, partOf, partAt, scanBy, scan, PartSize, PartEnd, PartInside}
 use Rattle.printer.proofs.PrintSeveral.{bind-ok}

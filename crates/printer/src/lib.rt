@@ -382,7 +382,7 @@ fn string_size(bytes: &[u8], from: usize, to: usize, info: u8, text: bool) -> us
     ensures { λ r. ⌜ r ≡ capped 0 (length (printString (kindOf text) (widthBy info) (take (to - from) (drop from (now (bytes .entry)))))) ⌝ }
 {
     if text {
-        if to <= text_output::plain_run(bytes, from) {
+        if to <= plain_bytes::plain_run(bytes, from) {
             return leaf_printer::plain_size(to - from, info);
         }
     }

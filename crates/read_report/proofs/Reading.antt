@@ -11,7 +11,7 @@ use Rattle.cbor.specs.Decode.{mostBytes}
 use Rattle.refusal.specs.declared.Refusal.{Refusal}
 use Rattle.notation.specs.Reading.{readText}
 use Rattle.text_output.specs.PrintParts.{Prints}
-use Rattle.text_output.proofs.PrintLeaves.{decimal-length}
+use Rattle.decimal_output.proofs.DecimalCode.{decimal-length}
 use Rattle.printer.proofs.PrintBounds.{hex-length}
 use Rattle.operations.specs.Operations.{bytesOf, read}
 use Rattle.outcome.specs.Outcomes.{outcomeOf}

@@ -11,7 +11,8 @@ use lib.ListN.{length, length-append}
 use Rattle.cbor.specs.Ascii.{ascii}
 use Rattle.notation.specs.Printing.{decimalOf}
 use Rattle.text_output.specs.PrintParts.{Prints, contentOf}
-use Rattle.text_output.proofs.PrintLeaves.{prints-more, decimal-length}
+use Rattle.text_output.proofs.PrintLeaves.{prints-more}
+use Rattle.decimal_output.proofs.DecimalCode.{decimal-length}
 use Rattle.operations.specs.Programs.{acceptedLine, acceptedLines, atPlace, refusedLine}
 use Rattle.report_lines.specs.Reports.{Reports}
 

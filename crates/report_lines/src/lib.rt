@@ -12,7 +12,7 @@ fn accepted_line(n: u64, out: &mut [u8]) -> usize
     ensures { λ r. ⌜ Prints (now (out .entry)) (now (out .exit)) 0 (acceptedLine n) r ⌝ }
 {
     let p = text_output::put_all(b"accepted ", out, 0);
-    let q = text_output::decimal(n, out, p);
+    let q = decimal_output::decimal(n, out, p);
     text_output::put(out, q, 0x0a)
 }
 
@@ -21,7 +21,7 @@ pub fn accepted(bytes: &[u8], out: &mut [u8]) -> usize
     ensures { λ r. ⌜ Prints (now (out .entry)) (now (out .exit)) 0 (acceptedLines (now (bytes .entry))) r ⌝ }
 {
     let p = accepted_line(bytes.len() as u64, out);
-    let q = text_output::content(bytes, false, out, p);
+    let q = string_output::content(bytes, false, out, p);
     text_output::put(out, q, 0x0a)
 }
 
@@ -30,7 +30,7 @@ fn at_place(place: usize, out: &mut [u8], pos: usize) -> usize
     ensures { λ r. ⌜ Prints (now (out .entry)) (now (out .exit)) pos (atPlace place) r ⌝ }
 {
     let p = text_output::put_all(b" at ", out, pos);
-    let q = text_output::decimal(place as u64, out, p);
+    let q = decimal_output::decimal(place as u64, out, p);
     text_output::put(out, q, 0x0a)
 }
 
@@ -41,7 +41,7 @@ pub fn refused(e: Refusal, out: &mut [u8]) -> usize
     let kind = e.kind;
     let n = refusal::number(kind) as u64;
     let p = text_output::put_all(b"refused ", out, 0);
-    let q = text_output::decimal(n, out, p);
+    let q = decimal_output::decimal(n, out, p);
     at_place(e.place, out, q)
 }
 

@@ -1,3 +1,1 @@
 pub mod PrintLeaves
-pub mod PlainRuns
-pub mod Decimals

@@ -1,2 +1,1 @@
 pub mod PrintParts
-pub mod Runs

@@ -1,5 +1,5 @@
 -- Of the code: what is written, and what the code has for the parts of a head.
-use Prim.Native.Nat.{ℕ, _+_, _^_, _≤_, _<_}
+use Prim.Native.Nat.{ℕ, _+_, _^_, _<_}
 use mathlib.Core.Path.{_≡_}
 use mathlib.Core.Bool.{Bool, true, false}
 use mathlib.Core.List.{List, [], _∷_, _++_}
@@ -44,17 +44,3 @@ openQuote false = ascii "h'"
 
 unfoldable pub otherSimple : ℕ → List ℕ
 otherSimple n = simpleWord ++ (0x28 ∷ (decimalOf n ++ 0x29 ∷ []))
-
--- DIGITS
-
-pub record Longer (n least digits before r : ℕ) : Type 0 where
-  pub yes : least ≤ n → r ≡ digits
-  pub no : n < least → r ≡ before
-
--- a number of at most k digits has r
-pub record DigitsTo (n k r : ℕ) : Type 0 where
-  pub is : n < 10 ^ k → r ≡ length (decimalOf n)
-
-pub record DigitsFit (n size pos : ℕ) (b : List ℕ) : Type 0 where
-  pub is : size ≡ length (decimalOf n)
-  pub room : pos + size ≤ length b

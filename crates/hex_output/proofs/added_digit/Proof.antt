@@ -1,0 +1,13 @@
+use borrow.Author.Needs.{needs}
+use Rattle.hex_output.proofs.HexCode.{hex-fits, hex-is}
+use Rattle.hex_output.proofs.added_digit.Statement.{statement}
+use Rattle.hex_output.proofs.added_digit.Tie as tie
+
+pub added-digit-spec : {M : Type 1} → statement M
+added-digit-spec =
+    tie.close (tie.spec
+    (λ c. search needs)  -- add-result
+    (λ c κs. search needs)  -- to-letters-requires
+    (λ c. search hex-fits)  -- add-result-2
+    (λ c. search hex-is)  -- returns
+    )

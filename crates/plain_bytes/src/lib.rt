@@ -1,0 +1,161 @@
+// Bytes that stand for themselves between quotes, by blocks, and how many bytes more the others take.
+use saturating::sum;
+ghost use mathlib.Core.Path.{_≡_};
+ghost use Prim.Native.Nat.{_+_, _≤_, min, max};
+ghost use lib.ListN.{length};
+ghost use Rattle.memory.specs.Sums.{capped};
+ghost use Rattle.notation.specs.Printing.{escapedOf};
+ghost use Rattle.plain_bytes.specs.Runs.{moreBelow, moreAt, More, MoreOf, Plain, PlainRun, Stop, Stops};
+
+// HOW MANY BYTES MORE
+
+// So many bytes are looked at together.
+pub const BLOCK: usize = 32;
+
+fn more_below(b: u8) -> u8
+    ensures { λ r. ⌜ r ≡ moreBelow b ⌝ }
+{
+    if b < b' ' {
+        return 5;
+    }
+    0
+}
+
+fn more_at(b: u8, c: u8) -> u8
+    ensures { λ r. ⌜ r ≡ moreAt b c ⌝ }
+{
+    if b == c {
+        return 1;
+    }
+    0
+}
+
+// How many bytes more than one a byte takes between quotes.
+pub fn more(b: u8) -> u8
+    ensures { λ r. ⌜ More b r ⌝ }
+{
+    more_below(b) + more_at(b, b'"') + more_at(b, b'\\')
+}
+
+// The same of a block. The loop has no way out, so the compiler makes wide steps of it.
+fn more_block(bytes: &[u8]) -> u8
+    requires { ⌜ 32 ≤ length (now bytes) ⌝ }
+    ensures { λ r. ⌜ MoreOf (now (bytes .entry)) 32 r ⌝ }
+{
+    let mut size: u8 = 0;
+    let mut i: usize = 0;
+    while i < BLOCK {
+        size += more(bytes[i]);
+        i += 1;
+    }
+    size
+}
+
+fn bytes_size(bytes: &[u8]) -> usize
+    ensures { λ r. ⌜ r ≡ capped 0 (length (escapedOf (now (bytes .entry)))) ⌝ }
+{
+    let mut size: usize = 0;
+    let mut i: usize = 0;
+    while i < bytes.len() {
+        size = sum(size, 1 + more(bytes[i]) as usize);
+        i += 1;
+    }
+    size
+}
+
+pub fn escaped_size(bytes: &[u8]) -> usize
+    ensures { λ r. ⌜ r ≡ capped 0 (length (escapedOf (now (bytes .entry)))) ⌝ }
+{
+    let mut size: usize = 0;
+    let mut i: usize = 0;
+    while BLOCK <= bytes.len() - i {
+        size = sum(size, BLOCK + more_block(&bytes[i..]) as usize);
+        i += BLOCK;
+    }
+    sum(size, bytes_size(&bytes[i..]))
+}
+
+// RUNS OF BYTES THAT STAND FOR THEMSELVES
+
+fn larger(a: u8, b: u8) -> u8
+    ensures { λ r. ⌜ r ≡ max a b ⌝ }
+{
+    if a < b {
+        return b;
+    }
+    a
+}
+
+// Whether each byte stands for itself between quotes. The loop has no way out, so the compiler makes wide steps of it.
+pub fn is_plain(bytes: &[u8]) -> bool
+    ensures { λ r. ⌜ Plain (now (bytes .entry)) r ⌝ }
+{
+    let mut most: u8 = 0;
+    let mut i: usize = 0;
+    while i < bytes.len() {
+        most = larger(most, more(bytes[i]));
+        i += 1;
+    }
+    most == 0
+}
+
+// Past whole blocks whose bytes stand for themselves.
+pub fn plain_end(bytes: &[u8], from: usize) -> usize
+    requires { ⌜ from ≤ length (now bytes) ⌝ }
+    ensures { λ r. ⌜ PlainRun (now (bytes .entry)) from r ⌝ }
+{
+    let mut end = from;
+    while BLOCK <= bytes.len() - end {
+        let next = end + BLOCK;
+        if !is_plain(&bytes[end..next]) {
+            return end;
+        }
+        end = next;
+    }
+    end
+}
+
+fn smaller(a: u8, b: u8) -> u8
+    ensures { λ r. ⌜ r ≡ min a b ⌝ }
+{
+    if a < b {
+        return a;
+    }
+    b
+}
+
+// The place i of a byte that does not stand for itself, else the end of a block.
+fn stop_at(b: u8, i: u8) -> u8
+    requires { ⌜ i ≤ 32 ⌝ }
+    ensures { λ r. ⌜ Stop b i r ⌝ }
+{
+    if more(b) == 0 {
+        return 32;
+    }
+    i
+}
+
+// How many bytes of a block stand for themselves before the first that does not. The loop has no way out, so the compiler makes wide steps of it.
+fn first_stop(bytes: &[u8], from: usize) -> u8
+    requires { ⌜ from + 32 ≤ length (now bytes) ⌝ }
+    ensures { λ r. ⌜ Stops (now (bytes .entry)) from 32 r ⌝ }
+{
+    let mut first: u8 = 32;
+    let mut i: u8 = 0;
+    while i < 32 {
+        first = smaller(first, stop_at(bytes[from + i as usize], i));
+        i += 1;
+    }
+    first
+}
+
+// Past bytes that stand for themselves, as far as a block shows it at a glance.
+pub fn plain_run(bytes: &[u8], from: usize) -> usize
+    requires { ⌜ from ≤ length (now bytes) ⌝ }
+    ensures { λ r. ⌜ PlainRun (now (bytes .entry)) from r ⌝ }
+{
+    if bytes.len() - from < BLOCK {
+        return from;
+    }
+    from + first_stop(bytes, from) as usize
+}
