@@ -70,11 +70,14 @@ pub fn indicator_at(text: &[u8], at: usize) -> Mark
     }
 }
 
+// The largest argument that stands in the initial byte (RFC 8949, section 3).
+const LAST_IMMEDIATE: u64 = 23;
+
 fn limit_of(width: u8) -> u64
     ensures { λ r. ⌜ r ≡ limitBy width ⌝ }
 {
     match width {
-        IMMEDIATE => 23,
+        IMMEDIATE => LAST_IMMEDIATE,
         ONE_BYTE => 0xff,
         TWO_BYTES => 0xffff,
         FOUR_BYTES => 0xffff_ffff,
@@ -85,7 +88,7 @@ fn limit_of(width: u8) -> u64
 fn shortest(n: u64) -> u8
     ensures { λ r. ⌜ r ≡ widthNumber (shortest n) ⌝ }
 {
-    if n <= 23 {
+    if n <= LAST_IMMEDIATE {
         return IMMEDIATE;
     }
     if n <= 0xff {

@@ -4,6 +4,8 @@ use decimals::digit_at;
 use decimals::eight::decimal;
 use decimals::ends;
 use decimals::leads;
+use encoding::major::NEGATIVE_INTEGER;
+use encoding::major::UNSIGNED_INTEGER;
 use leaf_answer::LeafRead;
 use leaf_answer::leaf;
 use leaf_answer::odd;
@@ -23,9 +25,9 @@ fn major_of(minus: bool) -> u8
     ensures { λ r. ⌜ IntegerMajor minus r ⌝ }
 {
     if minus {
-        return 1;
+        return NEGATIVE_INTEGER;
     }
-    0
+    UNSIGNED_INTEGER
 }
 
 // -n has the argument n - 1.

@@ -5,9 +5,8 @@ use mathlib.Core.List.{List, [], _∷_, _++_}
 use mathlib.Core.Bool.{Bool, true, false}
 use Prim.Native.Nat.{ℕ, zero, suc, _+_, _-_, _≤_, _<_}
 use native.Mathlib.Omega.{arith}
-use lib.Dec.{leb, eqb}
 use lib.ListN.{length, take, drop, getD}
-use borrow.Author.Tests.{le-leb, lt-leb, ne-eqb}
+use borrow.Author.Tests.{ne-eqb}
 use Rattle.cbor.specs.Refusals.{Result, ok, bind, noToken, unknownWord, float, badIndicator}
 use Rattle.cbor.specs.Items.{Kind, byteString, definite, indefinite}
 use Rattle.notation.specs.Classes.{isWord}
@@ -28,6 +27,8 @@ use Rattle.tokens.specs.CutAnswers.{quoteKind, quoteByte, literalContent
 use Rattle.literal_body.specs.declared.LiteralScan.{LiteralScan}
 use Rattle.numbers.specs.declared.indicator.Mark.{Mark}
 use Rattle.token.specs.declared.Token.{Token as Cut}
+use Rattle.words.specs.declared.Prefix.{Prefix}
+use Rattle.words.specs.declared.Prefix.the-variants.{Form, Refused as PrefixRefused}
 use Rattle.notation.proofs.ScanningElements.{clash}
 use Rattle.scanning.proofs.Marked.{here}
 use Rattle.scanning.proofs.ScanCode.{whether-yes, whether-no}
@@ -229,41 +230,50 @@ module _ {s : List ℕ} {place at form : ℕ} {t : Cut} {r : LiteralScan} (p : E
 pub ruleset encoded-ways = (encoded-bad, encoded-wrong, encoded-good)
 
 -- WORDS
-abbrev prefixedBy : ℕ → List ℕ → Result Token
-prefixedBy k r = elim (leb 4 k) [ true ↦ fault k | false ↦ encodedLiteral (literalContent k) r ]
+abbrev prefixedBy : Prefix → List ℕ → Result Token
+prefixedBy (Form f) r = encodedLiteral (literalContent f) r
+prefixedBy (PrefixRefused k) r = fault k
 
 prefixed-is : (w r : List ℕ) → prefixed w r ≡ prefixedBy (prefixWord w) r
 unfolding prefixed prefixWord otherWord literalContent
 prefixed-is w r = go (same w hexPrefix) (same w base64Prefix) (isFloatWord w)
   where
     go : (a b c : Bool) → _≡_ {A = Result Token} (elim a [ true ↦ encodedLiteral hexContent r | false ↦ elim b [ true ↦ encodedLiteral base64Content r | false ↦ elim c [ true ↦ fault float | false ↦ fault unknownWord ] ] ])
-        (prefixedBy (elim a [ true ↦ 2 | false ↦ elim b [ true ↦ 3 | false ↦ elim c [ true ↦ 6 | false ↦ 4 ] ] ]) r)
+        (prefixedBy (elim a [ true ↦ Form 2 | false ↦ elim b [ true ↦ Form 3 | false ↦ PrefixRefused (elim c [ true ↦ float | false ↦ unknownWord ]) ] ]) r)
     go true b c = refl
     go false true c = refl
     go false false true = refl
     go false false false = refl
 
-prefix-least : (w : List ℕ) → 2 ≤ prefixWord w
-unfolding prefixWord otherWord
-prefix-least w = go (same w hexPrefix) (same w base64Prefix) (isFloatWord w)
+-- a form that a prefix gives is one of an encoded literal
+abbrev Encodes : Prefix → Type 0
+Encodes (Form f) = 2 ≤ f
+Encodes (PrefixRefused k) = Unit
+
+prefix-encodes : (w : List ℕ) → Encodes (prefixWord w)
+unfolding prefixWord
+prefix-encodes w = go (same w hexPrefix) (same w base64Prefix)
   where
-    go : (a b c : Bool) → 2 ≤ elim a [ true ↦ 2 | false ↦ elim b [ true ↦ 3 | false ↦ elim c [ true ↦ 6 | false ↦ 4 ] ] ]
-    go true b c = omega arith
-    go false true c = omega arith
-    go false false true = omega arith
-    go false false false = omega arith
+    go : (a b : Bool) → Encodes (elim a [ true ↦ Form 2 | false ↦ elim b [ true ↦ Form 3 | false ↦ PrefixRefused (otherWord w) ] ])
+    go true b = omega arith
+    go false true = omega arith
+    go false false = tt
 
-pub prefix-encoded : {s : List ℕ} {place end : ℕ} → Enclosed s place end → (k : ℕ) → k ≡ prefixWord (span place end (marked s)) → EncodedAt s (end + 1) k
-prefix-encoded {s} {place} {end} p k e = record { inside = p .inside; encoded = rw e (prefix-least (span place end (marked s))) }
+module _ {s : List ℕ} {place end : ℕ} (p : Enclosed s place end) {x : Prefix} (e : x ≡ prefixWord (span place end (marked s))) where
+  pub prefix-encoded : (form : ℕ) → x ≡ Form form → EncodedAt s (end + 1) form
+  prefix-encoded form f = record { inside = p .inside; encoded = rw (sym e ∙ f) at (prefix-encodes (span place end (marked s))) }
 
-module _ {s : List ℕ} {place end : ℕ} {t : Cut} (p : Enclosed s place end) (k : ℕ) (e : k ≡ prefixWord (span place end (marked s))) where
-  pub prefixed-refused : 4 ≤ k → Refused k place t → Says s place t (prefixed (span place end (marked s)) (drop (end + 1) (marked s)))
-  prefixed-refused h r =
-      says-as (prefixed-is (span place end (marked s)) (drop (end + 1) (marked s)) ∙ (ap (λ (j : ℕ). prefixedBy j (drop (end + 1) (marked s))) (sym e) ∙ rw (le-leb 4 k h, prefixedBy))) (says-refuse 0 r)
+  prefixed-by : {y : Prefix} → x ≡ y → prefixed (span place end (marked s)) (drop (end + 1) (marked s)) ≡ prefixedBy y (drop (end + 1) (marked s))
+  prefixed-by f = prefixed-is (span place end (marked s)) (drop (end + 1) (marked s)) ∙ ap (λ (y : Prefix). prefixedBy y (drop (end + 1) (marked s))) (sym e ∙ f)
 
-  pub prefixed-encoded : k < 4 → Says s place t (encodedLiteral (literalContent k) (drop (end + 1) (marked s))) → Says s place t (prefixed (span place end (marked s)) (drop (end + 1) (marked s)))
-  prefixed-encoded h r =
-      says-as (prefixed-is (span place end (marked s)) (drop (end + 1) (marked s)) ∙ (ap (λ (j : ℕ). prefixedBy j (drop (end + 1) (marked s))) (sym e) ∙ rw (lt-leb 4 k h, prefixedBy))) r
+  module _ {t : Cut} where
+    pub prefixed-encoded : (form : ℕ) → x ≡ Form form → Says s place t (encodedLiteral (literalContent form) (drop (end + 1) (marked s))) → Says s place t (prefixed (span place end (marked s)) (drop (end + 1) (marked s)))
+    prefixed-encoded form f h = says-as (prefixed-by f) h
+
+    pub prefixed-refused : (k : ℕ) → x ≡ PrefixRefused k → Refused k place t → Says s place t (prefixed (span place end (marked s)) (drop (end + 1) (marked s)))
+    prefixed-refused k f r = says-as (prefixed-by f) (says-refuse 0 r)
+
+pub ruleset prefixed-ways = (prefixed-encoded, prefixed-refused)
 
 module _ {s : List ℕ} (place : ℕ) {end : ℕ} (r : Ran s isWord (place + 1) end) where
   pub word-part : WordPart s place end

@@ -20,8 +20,8 @@ use token::reason::BAD_CONTENT;
 use token::reason::BAD_INDICATOR;
 use token::reason::NO_REFUSAL;
 use token::reason::NOTHING;
-use token::reason::UNKNOWN_WORD;
 use token::refuse;
+use words::Prefix;
 use words::prefix_word;
 use words::worded;
 ghost use mathlib.Core.Path.{_≡_};
@@ -156,11 +156,11 @@ fn prefixed(text: &[u8], place: usize, end: usize) -> Token
     requires { ⌜ Enclosed (now text) place end ⌝ }
     ensures { λ r. ⌜ Says (now (text .entry)) place r (prefixed (span place end (marked (now (text .entry)))) (drop (end + 1) (marked (now (text .entry))))) ⌝ }
 {
-    let k = prefix_word(text, place, end);
-    if UNKNOWN_WORD <= k {
-        return refuse(k, place);
+    let prefix = prefix_word(text, place, end);
+    match prefix {
+        Prefix::Form(form) => encoded(text, place, end + 1, form),
+        Prefix::Refused(reason) => refuse(reason, place),
     }
-    encoded(text, place, end + 1, k)
 }
 
 // A word: a simple value, or the prefix of a literal.

@@ -5,9 +5,9 @@ use mathlib.Core.List.{List, [], _∷_, _++_}
 use mathlib.Core.Bool.{Bool, true, false, _&&_, _||_, not}
 use Prim.Native.Nat.{ℕ, zero, suc, _+_, _-_, _*_, _≤_, _<_, min}
 use native.Mathlib.Omega.{arith}
-use lib.Dec.{leb, ltb, eqb}
+use lib.Dec.{leb, eqb}
 use lib.ListN.{length, drop, getD, drop-of-length-le, length-append}
-use borrow.Author.Tests.{le-leb, lt-leb, lt-ltb, le-ltb, eq-eqb, ne-eqb, not-true, not-false}
+use borrow.Author.Tests.{le-leb, lt-leb, eq-eqb, ne-eqb, not-true, not-false}
 use Rattle.cbor.specs.Refusals.{Result, bind, noToken, unknownWord, float}
 use Rattle.cbor.specs.Items.{simple}
 use Rattle.cbor.specs.Valid.{isSimple}
@@ -29,6 +29,10 @@ use Rattle.words.specs.WordAnswers.{WordPart, Enclosed, otherWord, value
 use Rattle.amounts.specs.declared.Amount.{Amount}
 use Rattle.amounts.specs.declared.Digits.{Digits}
 use Rattle.token.specs.declared.Token.{Token as Cut}
+use Rattle.words.specs.declared.WordMeaning.{WordMeaning}
+use Rattle.words.specs.declared.WordMeaning.the-variants.{Value, SimpleOf, Refused as WordRefused}
+use Rattle.words.specs.declared.Prefix.{Prefix}
+use Rattle.words.specs.declared.Prefix.the-variants.{Form, Refused as PrefixRefused}
 use Rattle.notation.proofs.ScanningElements.{clash, class-digit}
 use Rattle.scanning.proofs.Marked.{front, length-marked, at-byte, at-end, past-end, span-none, span-split, span-length}
 use Rattle.scanning.proofs.ScanCode.{eqb-sym, peeked-yes, whether-yes, whether-no, expect-yes, expect-no}
@@ -99,7 +103,7 @@ module _ {s : List ℕ} {from end : ℕ} (u : List ℕ) (p : WordPart s from end
   pub other-size : (end - from ≡ length u → ⊥) → false ≡ same (span from end (marked s)) u
   other-size n = same-length (span from end (marked s)) u (λ e. n (sym size ∙ e))
 
--- WORDS BY NUMBER
+-- WHAT WORDS STAND FOR
 module _ (w : List ℕ) (a : Bool) (e₁ : a ≡ same w nanWord) where
   pub other-nan : a ≡ true → 6 ≡ otherWord w
   unfolding otherWord isFloatWord
@@ -116,49 +120,49 @@ module _ (w : List ℕ) (a : Bool) (e₁ : a ≡ same w nanWord) where
 pub ruleset other-ways = (other-nan, other-infinity, other-unknown)
 
 module _ (w : List ℕ) (a : Bool) (e₁ : a ≡ same w falseWord) where
-  pub value-false : a ≡ true → 20 ≡ valueWord w
+  pub value-false : a ≡ true → Value 20 ≡ valueWord w
   unfolding valueWord
   value-false h = rw (sym e₁ ∙ h, valueWord)
 
   module _ (h₁ : a ≡ false) (b : Bool) (e₂ : b ≡ same w trueWord) where
-    pub value-true : b ≡ true → 21 ≡ valueWord w
+    pub value-true : b ≡ true → Value 21 ≡ valueWord w
     unfolding valueWord
     value-true h = rw (sym e₁ ∙ h₁, valueWord) (rw (sym e₂ ∙ h))
 
     module _ (h₂ : b ≡ false) (c : Bool) (e₃ : c ≡ same w nullWord) where
-      pub value-null : c ≡ true → 22 ≡ valueWord w
+      pub value-null : c ≡ true → Value 22 ≡ valueWord w
       unfolding valueWord
       value-null h = rw (sym e₁ ∙ h₁, valueWord) (rw (sym e₂ ∙ h₂) (rw (sym e₃ ∙ h)))
 
       module _ (h₃ : c ≡ false) (d : Bool) (e₄ : d ≡ same w undefinedWord) where
-        pub value-undefined : d ≡ true → 23 ≡ valueWord w
+        pub value-undefined : d ≡ true → Value 23 ≡ valueWord w
         unfolding valueWord
         value-undefined h = rw (sym e₁ ∙ h₁, valueWord) (rw (sym e₂ ∙ h₂) (rw (sym e₃ ∙ h₃) (rw (sym e₄ ∙ h))))
 
         module _ (h₄ : d ≡ false) (f : Bool) (e₅ : f ≡ same w simpleWord) where
-          pub value-simple : f ≡ true → 24 ≡ valueWord w
+          pub value-simple : f ≡ true → SimpleOf ≡ valueWord w
           unfolding valueWord
           value-simple h = rw (sym e₁ ∙ h₁, valueWord) (rw (sym e₂ ∙ h₂) (rw (sym e₃ ∙ h₃) (rw (sym e₄ ∙ h₄) (rw (sym e₅ ∙ h)))))
 
-          pub value-other : (k : ℕ) → f ≡ false → k ≡ otherWord w → k ≡ valueWord w
+          pub value-other : (k : ℕ) → f ≡ false → k ≡ otherWord w → WordRefused k ≡ valueWord w
           unfolding valueWord
-          value-other k h g = rw (sym e₁ ∙ h₁, valueWord) (rw (sym e₂ ∙ h₂) (rw (sym e₃ ∙ h₃) (rw (sym e₄ ∙ h₄) (rw (sym e₅ ∙ h) g))))
+          value-other k h g = rw (sym e₁ ∙ h₁, valueWord) (rw (sym e₂ ∙ h₂) (rw (sym e₃ ∙ h₃) (rw (sym e₄ ∙ h₄) (rw (sym e₅ ∙ h) (ap WordRefused g)))))
 
 pub ruleset value-ways = (value-false, value-true, value-null, value-undefined, value-simple, value-other)
 
 module _ (w : List ℕ) (a : Bool) (e₁ : a ≡ same w hexPrefix) where
-  pub prefix-hex : a ≡ true → 2 ≡ prefixWord w
+  pub prefix-hex : a ≡ true → Form 2 ≡ prefixWord w
   unfolding prefixWord
   prefix-hex h = rw (sym e₁ ∙ h, prefixWord)
 
   module _ (h₁ : a ≡ false) (b : Bool) (e₂ : b ≡ same w base64Prefix) where
-    pub prefix-base64 : b ≡ true → 3 ≡ prefixWord w
+    pub prefix-base64 : b ≡ true → Form 3 ≡ prefixWord w
     unfolding prefixWord
     prefix-base64 h = rw (sym e₁ ∙ h₁, prefixWord) (rw (sym e₂ ∙ h))
 
-    pub prefix-other : (k : ℕ) → b ≡ false → k ≡ otherWord w → k ≡ prefixWord w
+    pub prefix-other : (k : ℕ) → b ≡ false → k ≡ otherWord w → PrefixRefused k ≡ prefixWord w
     unfolding prefixWord
-    prefix-other k h g = rw (sym e₁ ∙ h₁, prefixWord) (rw (sym e₂ ∙ h) g)
+    prefix-other k h g = rw (sym e₁ ∙ h₁, prefixWord) (rw (sym e₂ ∙ h) (ap PrefixRefused g))
 
 pub ruleset prefix-ways = (prefix-hex, prefix-base64, prefix-other)
 
@@ -278,8 +282,10 @@ module _ {s : List ℕ} {at place : ℕ} {t : Cut} {u : Bool} (p : Peeked s at 0
 pub ruleset simple-tokens = (simple-bare, simple-open, simple-whole)
 
 -- A WORD WITH NO QUOTE
-abbrev wordedBy : ℕ → List ℕ → Result Token
-wordedBy k r = elim (eqb k 24) [ true ↦ simpleToken r | false ↦ elim (ltb k 20) [ true ↦ fault k | false ↦ value k r ] ]
+abbrev wordedBy : WordMeaning → List ℕ → Result Token
+wordedBy (Value v) r = value v r
+wordedBy SimpleOf r = simpleToken r
+wordedBy (WordRefused k) r = fault k
 
 worded-is : (w r : List ℕ) → worded w r ≡ wordedBy (valueWord w) r
 unfolding worded valueWord otherWord
@@ -291,7 +297,13 @@ worded-is w r = go (same w falseWord) (same w trueWord) (same w nullWord) (same 
         | true ↦ value 21 r
         | false ↦ elim c [ true ↦ value 22 r | false ↦ elim d [ true ↦ value 23 r | false ↦ elim e [ true ↦ simpleToken r | false ↦ elim f [ true ↦ fault float | false ↦ fault unknownWord ] ] ] ]
       ]
-    ]) (wordedBy (elim a [ true ↦ 20 | false ↦ elim b [ true ↦ 21 | false ↦ elim c [ true ↦ 22 | false ↦ elim d [ true ↦ 23 | false ↦ elim e [ true ↦ 24 | false ↦ elim f [ true ↦ 6 | false ↦ 4 ] ] ] ] ] ]) r)
+    ]) (wordedBy (elim a [
+      | true ↦ Value 20
+      | false ↦ elim b [
+        | true ↦ Value 21
+        | false ↦ elim c [ true ↦ Value 22 | false ↦ elim d [ true ↦ Value 23 | false ↦ elim e [ true ↦ SimpleOf | false ↦ WordRefused (elim f [ true ↦ float | false ↦ unknownWord ]) ] ] ]
+      ]
+    ]) r)
     go true b c d e f = refl
     go false true c d e f = refl
     go false false true d e f = refl
@@ -300,21 +312,21 @@ worded-is w r = go (same w falseWord) (same w trueWord) (same w nullWord) (same 
     go false false false false false true = refl
     go false false false false false false = refl
 
-by-number : (w r : List ℕ) (k : ℕ) → k ≡ valueWord w → worded w r ≡ wordedBy k r
-by-number w r k e = worded-is w r ∙ ap (λ (j : ℕ). wordedBy j r) (sym e)
+by-meaning : (w r : List ℕ) {m n : WordMeaning} → m ≡ valueWord w → m ≡ n → worded w r ≡ wordedBy n r
+by-meaning w r e f = worded-is w r ∙ ap (λ (k : WordMeaning). wordedBy k r) (sym e ∙ f)
 
-module _ {s : List ℕ} {place end : ℕ} {t : Cut} (p : WordPart s place end) (k : ℕ) (e : k ≡ valueWord (span place end (marked s))) where
-  pub worded-simple : k ≡ 24 → Says s place t (simpleToken (drop end (marked s))) → Says s place t (worded (span place end (marked s)) (drop end (marked s)))
-  worded-simple f h = says-as (by-number (span place end (marked s)) (drop end (marked s)) k e ∙ rw f) h
-
-  pub worded-refused : (k ≡ 24 → ⊥) → k < 20 → Refused k place t → Says s place t (worded (span place end (marked s)) (drop end (marked s)))
-  worded-refused n l r = says-as (by-number (span place end (marked s)) (drop end (marked s)) k e ∙ (rw (ne-eqb k 24 n, wordedBy) (rw (lt-ltb k 20 l)))) (says-refuse 0 r)
-
-  pub worded-value : (k ≡ 24 → ⊥) → 20 ≤ k → TokenMade 3 0 k place end t → Says s place t (worded (span place end (marked s)) (drop end (marked s)))
+module _ {s : List ℕ} {place end : ℕ} {t : Cut} (p : WordPart s place end) {m : WordMeaning} (e : m ≡ valueWord (span place end (marked s))) where
+  pub worded-value : (v : ℕ) → m ≡ Value v → TokenMade 3 0 v place end t → Says s place t (worded (span place end (marked s)) (drop end (marked s)))
   unfolding value codeOf beginCode itemCode markOf beginMark itemMark numberOf beginNumber itemNumber Written BeginsAs
-  worded-value n l m = says-as (by-number (span place end (marked s)) (drop end (marked s)) k e ∙ (rw (ne-eqb k 24 n, wordedBy) (rw (le-ltb k 20 l)))) (says-made m (begins (leaf (simple k))) refl refl refl tt (p .inside))
+  worded-value v f h = says-as (by-meaning (span place end (marked s)) (drop end (marked s)) e f) (says-made h (begins (leaf (simple v))) refl refl refl tt (p .inside))
 
-pub ruleset worded-ways = (worded-simple, worded-refused, worded-value)
+  pub worded-simple : m ≡ SimpleOf → Says s place t (simpleToken (drop end (marked s))) → Says s place t (worded (span place end (marked s)) (drop end (marked s)))
+  worded-simple f h = says-as (by-meaning (span place end (marked s)) (drop end (marked s)) e f) h
+
+  pub worded-refused : (k : ℕ) → m ≡ WordRefused k → Refused k place t → Says s place t (worded (span place end (marked s)) (drop end (marked s)))
+  worded-refused k f r = says-as (by-meaning (span place end (marked s)) (drop end (marked s)) e f) (says-refuse 0 r)
+
+pub ruleset worded-ways = (worded-value, worded-simple, worded-refused)
 
 -- BEHIND `-`
 pub stood-byte : {s : List ℕ} {at k : ℕ} → at < length s → Classed (getD s at 0) k → Stood s at k

@@ -4,6 +4,7 @@ use mathlib.Core.Path.{_≡_}
 use mathlib.Core.Bool.{Bool, true, false}
 use mathlib.Core.List.{List, [], _∷_}
 use lib.ListN.{length, drop}
+use Rattle.cbor.specs.Refusals.{unknownWord, float}
 use Rattle.cbor.specs.Valid.{isSimple}
 use Rattle.notation.specs.Classes.{classNumber, classOf}
 use Rattle.notation.specs.Numbers.{numberFrom}
@@ -14,6 +15,10 @@ use Rattle.token.specs.TokenAnswers.{Says}
 use Rattle.amounts.specs.AmountAnswers.{Counts}
 use Rattle.amounts.specs.declared.Amount.{Amount}
 use Rattle.token.specs.declared.Token.{Token as Cut}
+use Rattle.words.specs.declared.WordMeaning.{WordMeaning}
+use Rattle.words.specs.declared.WordMeaning.the-variants.{Value, SimpleOf, Refused as WordRefused}
+use Rattle.words.specs.declared.Prefix.{Prefix}
+use Rattle.words.specs.declared.Prefix.the-variants.{Form, Refused as PrefixRefused}
 
 -- a part of a text
 pub record WordPart (s : List ℕ) (from end : ℕ) : Type 0 where
@@ -25,22 +30,27 @@ pub record Enclosed (s : List ℕ) (from end : ℕ) : Type 0 where
   pub ahead : from ≤ end
   pub inside : end + 1 ≤ length s
 
--- a word by number: 20 to 23 simple values, 24 `simple`; 2 and 3 the forms of literals that a prefix gives; 6 and 4 are refusals
+-- why a word is refused
 unfoldable pub otherWord : List ℕ → ℕ
-otherWord w = elim (isFloatWord w) [ true ↦ 6 | false ↦ 4 ]
+otherWord w = elim (isFloatWord w) [ true ↦ float | false ↦ unknownWord ]
 
-unfoldable pub valueWord : List ℕ → ℕ
+-- what a word stands for
+unfoldable pub valueWord : List ℕ → WordMeaning
 valueWord w =
     elim (same w falseWord) [
-      | true ↦ 20
+      | true ↦ Value 20
       | false ↦ elim (same w trueWord) [
-        | true ↦ 21
-        | false ↦ elim (same w nullWord) [ true ↦ 22 | false ↦ elim (same w undefinedWord) [ true ↦ 23 | false ↦ elim (same w simpleWord) [ true ↦ 24 | false ↦ otherWord w ] ] ]
+        | true ↦ Value 21
+        | false ↦ elim (same w nullWord) [
+          | true ↦ Value 22
+          | false ↦ elim (same w undefinedWord) [ true ↦ Value 23 | false ↦ elim (same w simpleWord) [ true ↦ SimpleOf | false ↦ WordRefused (otherWord w) ] ]
+        ]
       ]
     ]
 
-unfoldable pub prefixWord : List ℕ → ℕ
-prefixWord w = elim (same w hexPrefix) [ true ↦ 2 | false ↦ elim (same w base64Prefix) [ true ↦ 3 | false ↦ otherWord w ] ]
+-- the form of literal that a prefix gives: 2 is `h`, and 3 `b64`
+unfoldable pub prefixWord : List ℕ → Prefix
+prefixWord w = elim (same w hexPrefix) [ true ↦ Form 2 | false ↦ elim (same w base64Prefix) [ true ↦ Form 3 | false ↦ PrefixRefused (otherWord w) ] ]
 
 -- whether an amount is a simple value
 pub record Simples (a : Amount) (r : Bool) : Type 0 where

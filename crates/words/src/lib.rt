@@ -28,7 +28,20 @@ ghost use Rattle.scanning.specs.Stands.{span};
 ghost use Rattle.token.specs.TokenAnswers.{Says};
 ghost use Rattle.words.specs.WordAnswers.{WordPart, Enclosed, otherWord, valueWord, prefixWord, Simples, SimpleIn, Stood};
 
-// The simple values that have words (RFC 8949, section 3.3), and the word before others.
+// What a word stands for: a simple value, or `simple`, behind which one stands in brackets; or why it is refused.
+enum WordMeaning {
+    Value(u8),
+    SimpleOf,
+    Refused(u8),
+}
+
+// The form of literal that a prefix gives, or why it is refused.
+pub enum Prefix {
+    Form(u8),
+    Refused(u8),
+}
+
+// The simple values that have words (RFC 8949, section 3.3).
 const FALSE: u8 = 20;
 
 const TRUE: u8 = 21;
@@ -36,8 +49,6 @@ const TRUE: u8 = 21;
 const NULL: u8 = 22;
 
 const UNDEFINED: u8 = 23;
-
-const SIMPLE_OF: u8 = 24;
 
 // Whether a word begins at a place.
 fn starts_with(text: &[u8], at: usize, word: &[u8]) -> bool
@@ -79,41 +90,39 @@ fn other_word(text: &[u8], from: usize, end: usize) -> u8
     UNKNOWN_WORD
 }
 
-// What a word stands for: a simple value, SIMPLE_OF, or the number of a refusal, which is below them.
-fn value_word(text: &[u8], from: usize, end: usize) -> u8
+fn value_word(text: &[u8], from: usize, end: usize) -> WordMeaning
     requires { ⌜ WordPart (now text) from end ⌝ }
     ensures { λ r. ⌜ r ≡ valueWord (span from end (marked (now (text .entry)))) ⌝ }
 {
     if is_same(text, from, end, b"false") {
-        return FALSE;
+        return WordMeaning::Value(FALSE);
     }
     if is_same(text, from, end, b"true") {
-        return TRUE;
+        return WordMeaning::Value(TRUE);
     }
     if is_same(text, from, end, b"null") {
-        return NULL;
+        return WordMeaning::Value(NULL);
     }
     if is_same(text, from, end, b"undefined") {
-        return UNDEFINED;
+        return WordMeaning::Value(UNDEFINED);
     }
     if is_same(text, from, end, b"simple") {
-        return SIMPLE_OF;
+        return WordMeaning::SimpleOf;
     }
-    other_word(text, from, end)
+    WordMeaning::Refused(other_word(text, from, end))
 }
 
-// The form of literal that a prefix gives, or the number of a refusal, which is above them.
-pub fn prefix_word(text: &[u8], from: usize, end: usize) -> u8
+pub fn prefix_word(text: &[u8], from: usize, end: usize) -> Prefix
     requires { ⌜ WordPart (now text) from end ⌝ }
     ensures { λ r. ⌜ r ≡ prefixWord (span from end (marked (now (text .entry)))) ⌝ }
 {
     if is_same(text, from, end, b"h") {
-        return HEX;
+        return Prefix::Form(HEX);
     }
     if is_same(text, from, end, b"b64") {
-        return BASE64;
+        return Prefix::Form(BASE64);
     }
-    other_word(text, from, end)
+    Prefix::Refused(other_word(text, from, end))
 }
 
 // Whether digits are a decimal without leading zero.
@@ -192,14 +201,12 @@ pub fn worded(text: &[u8], place: usize, end: usize) -> Token
     requires { ⌜ WordPart (now text) place end ⌝ }
     ensures { λ r. ⌜ Says (now (text .entry)) place r (worded (span place end (marked (now (text .entry)))) (drop end (marked (now (text .entry))))) ⌝ }
 {
-    let k = value_word(text, place, end);
-    if k == SIMPLE_OF {
-        return simple_token(text, place, end);
+    let meaning = value_word(text, place, end);
+    match meaning {
+        WordMeaning::Value(v) => made(SIMPLE, NONE, v as u64, place, end),
+        WordMeaning::SimpleOf => simple_token(text, place, end),
+        WordMeaning::Refused(reason) => refuse(reason, place),
     }
-    if k < FALSE {
-        return refuse(k, place);
-    }
-    made(SIMPLE, NONE, k as u64, place, end)
 }
 
 // The class of the byte at a place, or that the text ends there, or has ended before.
