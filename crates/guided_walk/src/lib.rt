@@ -1,8 +1,8 @@
 // A walk over all of the bytes that a path guides: what stands before the item at the path, that item, what stands behind it, each once.
 // It finds what it finds; all else is left to the check and to the steps of the path, one behind the other.
-use crate::behind;
-use crate::wide;
 use head::HeadRead;
+use path::behind;
+use path::wide;
 use quick_walk::UNKNOWN;
 use quick_walk::end_in;
 use quick_walk::passed;
@@ -14,7 +14,7 @@ ghost use Prim.Native.Nat.{_≤_};
 ghost use lib.ListN.{length};
 ghost use Rattle.cbor.specs.Decode.{mostBytes};
 ghost use Rattle.walk_answer.specs.WalkAnswers.{untilBy};
-ghost use Rattle.path.specs.GuidedAnswers.{Passes, Below, Inside, Among, Through};
+ghost use Rattle.guided_walk.specs.GuidedAnswers.{Passes, Below, Inside, Among, Through};
 
 // The item at the path goes from `start` to `end`; what the path was followed in ends before `behind`.
 pub struct Way {

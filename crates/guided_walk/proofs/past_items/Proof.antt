@@ -1,9 +1,9 @@
--- `path::guided::past_items` meets its contract.
+-- `guided_walk::past_items` meets its contract.
 -- Assumes nothing.
 use borrow.Author.Needs.{needs}
-use Rattle.path.proofs.Guiding.{pass-ways}
-use Rattle.path.proofs.guided.past_items.Statement.{statement}
-use Rattle.path.proofs.guided.past_items.Tie as tie
+use Rattle.guided_walk.proofs.Guiding.{pass-ways}
+use Rattle.guided_walk.proofs.past_items.Statement.{statement}
+use Rattle.guided_walk.proofs.past_items.Tie as tie
 
 pub past-items-spec : {M : Type 1} → statement M
 past-items-spec =

@@ -26,14 +26,14 @@ use Rattle.walk_answer.specs.declared.Passed.the-variants.{Span as SpanV}
 use Rattle.walk_answer.proofs.Leaves.{Left}
 use Rattle.walk_answer.proofs.WalkCycle.{reached, tail-is, all-leaves, all-one, all-double}
 use Rattle.walk_parts.proofs.WalkItems.{all-told}
 use Rattle.path.specs.Following.{Place, at, onto, behindOne, pastOne, stepTo, standing, nthFrom, childBy, childIn, numbered, followFrom, trace}
 use Rattle.path.specs.StepAnswers.{Step as StepOf}
-use Rattle.path.specs.GuidedAnswers.{Walks, Passes, Below, Leads, WayInside, WayAmong, WayThrough, IfFound, Inside, Among, Through}
-use Rattle.path.specs.declared.guided.Way.{Way}
-use Rattle.path.specs.declared.guided.Guided.{Guided}
-use Rattle.path.specs.declared.guided.Guided.the-variants.{Found, Unknown}
+use Rattle.guided_walk.specs.GuidedAnswers.{Walks, Passes, Below, Leads, WayInside, WayAmong, WayThrough, IfFound, Inside, Among, Through}
+use Rattle.guided_walk.specs.declared.Way.{Way}
+use Rattle.guided_walk.specs.declared.Guided.{Guided}
+use Rattle.guided_walk.specs.declared.Guided.the-variants.{Found, Unknown}
 use Rattle.path.proofs.Stepping.{left-of, lessBy, less-mode, pastSome, skip, Got, got, mode-is, child-is}
-use Rattle.path.proofs.Joining.{all-over, all-on, Last, last-of, not-ended, all-join, all-raised, array-one, map-one}
+use Rattle.guided_walk.proofs.Joining.{all-over, all-on, Last, last-of, not-ended, all-join, all-raised, array-one, map-one}
 
 -- every element of a slice of bytes is a byte
 pub bytes-of : (s : List ℕ) → ((i : ℕ) → Fits w8 (getD s i 0)) → Bytes s

@@ -1,9 +1,9 @@
--- `path::guided::whole` meets its contract.
+-- `guided_walk::whole` meets its contract.
 -- Assumes nothing.
 use borrow.Author.Needs.{needs}
-use Rattle.path.proofs.Guiding.{whole-ways}
-use Rattle.path.proofs.guided.whole.Statement.{statement}
-use Rattle.path.proofs.guided.whole.Tie as tie
+use Rattle.guided_walk.proofs.Guiding.{whole-ways}
+use Rattle.guided_walk.proofs.whole.Statement.{statement}
+use Rattle.guided_walk.proofs.whole.Tie as tie
 
 pub whole-spec : {M : Type 1} → statement M
 whole-spec =
