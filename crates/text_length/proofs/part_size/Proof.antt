@@ -1,7 +1,7 @@
 use borrow.Author.Needs.{needs}
-use Rattle.printer.proofs.part_size.Statement.{statement}
-use Rattle.printer.proofs.part_size.Tie as tie
-use Rattle.printer.proofs.TextMeasure.{part-ways}
+use Rattle.text_length.proofs.part_size.Statement.{statement}
+use Rattle.text_length.proofs.part_size.Tie as tie
+use Rattle.text_length.proofs.TextMeasure.{part-ways}
 
 pub part-size-spec : {M : Type 1} → statement M
 part-size-spec =

@@ -1,10 +1,10 @@
-use Rattle.printer.proofs.text_size.Statement.{statement}
-use Rattle.printer.proofs.text_size.Tie as tie
+use Rattle.text_length.proofs.text_size.Statement.{statement}
+use Rattle.text_length.proofs.text_size.Tie as tie
 use borrow.Author.Needs.{needs}
 use Prim.Native.Nat.{_-_}
 use lib.ListN.{length}
 use Rattle.printer.proofs.PrintSeveral.{turn-less}
-use Rattle.printer.proofs.TextMeasure.{Sized, sized-start, sized-lost, sized-room, sized-within, sized-stuck, sized-on, sized-ways, sized-part}
+use Rattle.text_length.proofs.TextMeasure.{Sized, sized-start, sized-lost, sized-room, sized-within, sized-stuck, sized-on, sized-ways, sized-part}
 
 abbrev Inv-loop : tie.InvT-loop
 Inv-loop bytes size₀ at₀ size at = Sized bytes at size

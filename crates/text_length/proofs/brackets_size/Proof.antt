@@ -1,7 +1,7 @@
 use borrow.Author.Needs.{needs}
-use Rattle.printer.proofs.brackets_size.Statement.{statement}
-use Rattle.printer.proofs.brackets_size.Tie as tie
-use Rattle.printer.proofs.TextMeasure.{brackets-ways}
+use Rattle.text_length.proofs.brackets_size.Statement.{statement}
+use Rattle.text_length.proofs.brackets_size.Tie as tie
+use Rattle.text_length.proofs.TextMeasure.{brackets-ways}
 
 pub brackets-size-spec : {M : Type 1} → statement M
 brackets-size-spec =

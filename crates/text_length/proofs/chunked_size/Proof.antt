@@ -1,7 +1,7 @@
 use borrow.Author.Needs.{needs}
-use Rattle.printer.proofs.TextMeasure.{chunked-ways}
-use Rattle.printer.proofs.chunked_size.Statement.{statement}
-use Rattle.printer.proofs.chunked_size.Tie as tie
+use Rattle.text_length.proofs.TextMeasure.{chunked-ways}
+use Rattle.text_length.proofs.chunked_size.Statement.{statement}
+use Rattle.text_length.proofs.chunked_size.Tie as tie
 
 pub chunked-size-spec : {M : Type 1} → statement M
 chunked-size-spec =

@@ -1,7 +1,7 @@
 use borrow.Author.Needs.{needs}
-use Rattle.printer.proofs.TextMeasure.{broken-ways}
-use Rattle.printer.proofs.is_broken.Statement.{statement}
-use Rattle.printer.proofs.is_broken.Tie as tie
+use Rattle.text_length.proofs.TextMeasure.{broken-ways}
+use Rattle.text_length.proofs.is_broken.Statement.{statement}
+use Rattle.text_length.proofs.is_broken.Tie as tie
 
 pub is-broken-spec : {M : Type 1} → statement M
 is-broken-spec =

@@ -32,14 +32,15 @@ use Rattle.walk_answer.specs.WalkAnswers.{Within}
 use Rattle.text_output.specs.PrintParts.{widthBy, sizeBy}
 use Rattle.plain_bytes.specs.Runs.{PlainRun}
 use Rattle.plain_bytes.proofs.PlainRuns.{run-part}
-use Rattle.printer.specs.PrintAnswers.{Moves, PrintHeaded, TextSize}
-use Rattle.printer.specs.TextSizes.{isBroken, isNone, bracketsSize, chunkedSize, partOf, partAt, scanBy, scan, PartSize, PartEnd, PartInside}
+use Rattle.printer.specs.PrintAnswers.{Moves, PrintHeaded}
+use Rattle.text_length.specs.TextSizes.{TextSize}
+use Rattle.text_length.specs.TextSizes.{isBroken, isNone, bracketsSize, chunkedSize, partOf, partAt, scanBy, scan, PartSize, PartEnd, PartInside}
 use Rattle.printer.proofs.PrintSeveral.{bind-ok}
 use Rattle.printer.proofs.PrintCycle.{headed, by-size, taking-ok}
 use Rattle.printer.proofs.PrintWays.{int-major, string-major}
 use Rattle.printer.proofs.PrintBounds.{rest-length}
 use Rattle.printer.proofs.PrintText.{bytes-of}
-use Rattle.printer.proofs.TextScan.{Summed, sum-at, part-by, text-sum, text-length}
+use Rattle.text_length.proofs.TextScan.{Summed, sum-at, part-by, text-sum, text-length}
 
 -- BREAKS AND BRACKETS
 

@@ -20,7 +20,7 @@ use Rattle.cbor.proofs.Heads.{head-read, opening-read, taking-all}
 use Rattle.cbor.proofs.Several.{Begins, begins-more}
 use Rattle.cbor.proofs.DecodeEncode.{plain-arrays, plain-maps, shortest-simple, begins, shown, opening-shown}
 use Rattle.notation.specs.Printing.{decimalOf, indicatorOf, sizeOf, printInt, printString, printChunks, printChunked, printItem, printAll, printRest, printAll₂, printRest₂, printSimple, printText}
-use Rattle.printer.specs.TextSizes.{isBroken, isNone, bracketsSize, chunkedSize, partOf, partAt, scanBy, scan}
+use Rattle.text_length.specs.TextSizes.{isBroken, isNone, bracketsSize, chunkedSize, partOf, partAt, scanBy, scan}
 
 -- the heads of s take t bytes in all
 pub record Summed (s : List ℕ) (t : ℕ) : Type 0 where

@@ -7,9 +7,10 @@ use mathlib.Core.List.{List, [], _∷_, _++_}
 use lib.Dec.{eqb}
 use lib.ListN.{length, drop}
 use Rattle.cbor.specs.Refusals.{Result, ok, refuse, bind}
-use Rattle.cbor.specs.Items.{Size, definite, indefinite}
+use Rattle.cbor.specs.Items.{Size, definite, indefinite, Items}
 use Rattle.cbor.specs.Heads.{Major, integers, strings, arrays, maps, tags, simples, majorOf, break, taking, nextHead}
-use Rattle.notation.specs.Printing.{decimalOf, indicatorOf, sizeOf, printInt, printString, printSimple}
+use Rattle.cbor.specs.Decode.{decode}
+use Rattle.notation.specs.Printing.{decimalOf, indicatorOf, sizeOf, printInt, printString, printSimple, printText}
 use Rattle.text_output.specs.PrintParts.{sizeBy}
 
 -- whether a break stands at the front
@@ -69,3 +70,7 @@ pub record PartEnd (s : List ℕ) (major info n end e : ℕ) : Type 0 where
 pub record PartInside (s : List ℕ) (from to : ℕ) : Type 0 where
   pub ahead : from ≤ to
   pub inside : to ≤ length s
+
+-- the length of a whole text
+pub record TextSize (s : List ℕ) (r : ℕ) : Type 0 where
+  pub size : (xs : Items) → decode s ≡ ok xs [] → r ≡ length (printText xs)

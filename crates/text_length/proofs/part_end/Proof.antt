@@ -1,7 +1,7 @@
 use borrow.Author.Needs.{needs}
-use Rattle.printer.proofs.TextMeasure.{end-ways}
-use Rattle.printer.proofs.part_end.Statement.{statement}
-use Rattle.printer.proofs.part_end.Tie as tie
+use Rattle.text_length.proofs.TextMeasure.{end-ways}
+use Rattle.text_length.proofs.part_end.Statement.{statement}
+use Rattle.text_length.proofs.part_end.Tie as tie
 
 pub part-end-spec : {M : Type 1} → statement M
 part-end-spec =

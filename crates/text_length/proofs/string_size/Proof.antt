@@ -1,7 +1,7 @@
 use borrow.Author.Needs.{needs}
-use Rattle.printer.proofs.TextMeasure.{string-plain}
-use Rattle.printer.proofs.string_size.Statement.{statement}
-use Rattle.printer.proofs.string_size.Tie as tie
+use Rattle.text_length.proofs.TextMeasure.{string-plain}
+use Rattle.text_length.proofs.string_size.Statement.{statement}
+use Rattle.text_length.proofs.string_size.Tie as tie
 
 pub string-size-spec : {M : Type 1} → statement M
 string-size-spec =

@@ -1,7 +1,7 @@
 use borrow.Author.Needs.{needs}
-use Rattle.printer.proofs.TextMeasure.{none-ways}
-use Rattle.printer.proofs.is_none.Statement.{statement}
-use Rattle.printer.proofs.is_none.Tie as tie
+use Rattle.text_length.proofs.TextMeasure.{none-ways}
+use Rattle.text_length.proofs.is_none.Statement.{statement}
+use Rattle.text_length.proofs.is_none.Tie as tie
 
 pub is-none-spec : {M : Type 1} → statement M
 is-none-spec =
