@@ -27,15 +27,15 @@ use Rattle.cbor.proofs.Paths.{part-at-path}
 use Rattle.walk_answer.proofs.Leaves.{Left}
 use Rattle.walk_answer.proofs.WalkCycle.{Reached, reached, tail-is, after-told, all-leaves, all-one, all-rest}
 use Rattle.walk_parts.proofs.WalkItems.{item-told, all-long, all-short}
-use Rattle.path.proofs.Guiding.{bytes-of}
+use Rattle.guided_walk.proofs.Guiding.{bytes-of}
 use Rattle.path.proofs.Stepping.{trace-none, trace-few, items-not, items-behind}
 use Rattle.operations.specs.Operations.{itemsOf, andThen, spotOf, lookUp, partOf}
 use Rattle.path.specs.Following.{at, astray, trace}
 use Rattle.path.specs.StepAnswers.{pastItems, Begins, tracedTo, Still, Traced}
-use Rattle.path.specs.GuidedAnswers.{WayThrough, IfFound, Through}
-use Rattle.path.specs.declared.guided.Way.{Way}
-use Rattle.path.specs.declared.guided.Guided.{Guided}
-use Rattle.path.specs.declared.guided.Guided.the-variants.{Found as FoundWay}
+use Rattle.guided_walk.specs.GuidedAnswers.{WayThrough, IfFound, Through}
+use Rattle.guided_walk.specs.declared.Way.{Way}
+use Rattle.guided_walk.specs.declared.Guided.{Guided}
+use Rattle.guided_walk.specs.declared.Guided.the-variants.{Found as FoundWay}
 use Rattle.looking.specs.Answers.{Checks, Accepts, NotedTold, NotedAs, AllTold, AllNoted, TooLarge, Begun, partFound, locateRefused, locateTold, locateOf, Ordered, Parts}
 use Rattle.path.specs.declared.Cursor.{Cursor}
 use Rattle.looking.specs.declared.Noted.{Noted}

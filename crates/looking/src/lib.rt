@@ -1,8 +1,8 @@
 // The part of bytes at a path.
+use guided_walk::Guided;
+use guided_walk::walk_through;
 use path::Trace;
 use path::follow_from;
-use path::guided::Guided;
-use path::guided::walk_through;
 use refusal::Refusal;
 use refusal::RefusalKind;
 use walk_answer::Passed;

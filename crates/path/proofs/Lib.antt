@@ -1,4 +1,2 @@
 pub mod Stepping
 pub mod Traces
-pub mod Joining
-pub mod Guiding

@@ -1,6 +1,4 @@
 // A path, followed step by step.
-pub mod guided;
-
 use head::HeadRead;
 use walk_answer::Passed;
 ghost use mathlib.Core.Path.{_≡_};
@@ -28,7 +26,7 @@ pub enum Trace {
     Lost(usize),
 }
 
-fn wide(k: u16) -> u64
+pub fn wide(k: u16) -> u64
     ensures { λ r. ⌜ Step k r ⌝ }
 {
     k as u64
@@ -45,7 +43,7 @@ fn items_before(pairs: bool, k: u16) -> u64
 }
 
 // What is left of a number behind some.
-fn behind(count: u64, k: u64) -> u64
+pub fn behind(count: u64, k: u64) -> u64
     ensures { λ r. ⌜ r ≡ count - k ⌝ }
 {
     if count <= k {

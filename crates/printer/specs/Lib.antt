@@ -1,2 +1,1 @@
 pub mod PrintAnswers
-pub mod TextSizes

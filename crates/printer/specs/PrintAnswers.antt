@@ -94,6 +94,3 @@ pub record PrintedAll (s b b′ : List ℕ) (r : ℕ) : Type 0 where
   pub same : length b′ ≡ length b
   pub size : (xs : Items) → decode s ≡ ok xs [] → r ≡ length (printText xs)
   pub is : (xs : Items) → decode s ≡ ok xs [] → b′ ≡ clipped b 0 (printText xs)
-
-pub record TextSize (s : List ℕ) (r : ℕ) : Type 0 where
-  pub size : (xs : Items) → decode s ≡ ok xs [] → r ≡ length (printText xs)

@@ -12,17 +12,15 @@ use walk_answer::past;
 ghost use mathlib.Core.Path.{_≡_};
 ghost use Prim.Native.Nat.{_+_, _-_};
 ghost use mathlib.Core.Bool.{true};
-ghost use lib.ListN.{length, take, drop};
+ghost use lib.ListN.{length, drop};
 ghost use lib.Dec.{eqb};
 ghost use Rattle.cbor.specs.Heads.{taking};
 ghost use Rattle.cbor.specs.Decode.{chunkAt, entryAt, item};
-ghost use Rattle.notation.specs.Printing.{printItem, printInt, printString, printSimple, sizeOf};
-ghost use Rattle.memory.specs.Sums.{capped};
+ghost use Rattle.notation.specs.Printing.{printItem, printString};
 ghost use Rattle.walk_answer.specs.WalkAnswers.{mapResult as mapped, below, untilBy, modeBy, Within};
-ghost use Rattle.cbor.specs.Flags.{kindOf, signOf};
-ghost use Rattle.text_output.specs.PrintParts.{Prints, widthBy, sizeBy};
-ghost use Rattle.printer.specs.PrintAnswers.{entryText, chunkText, printOneOf, printAllOf, Moves, separatorOf, joined, openingBy, closingBy, containerText, chunkedText, tagText, PrintTold, PrintHeaded, PrintedAll, TextSize};
-ghost use Rattle.printer.specs.TextSizes.{isBroken, isNone, bracketsSize, chunkedSize, PartSize, PartEnd, PartInside};
+ghost use Rattle.cbor.specs.Flags.{kindOf};
+ghost use Rattle.text_output.specs.PrintParts.{Prints, widthBy};
+ghost use Rattle.printer.specs.PrintAnswers.{entryText, chunkText, printOneOf, printAllOf, Moves, separatorOf, joined, openingBy, closingBy, containerText, chunkedText, tagText, PrintTold, PrintHeaded, PrintedAll};
 
 // The major types of items that have parts, or a content.
 const TEXT: u8 = 3;
@@ -36,9 +34,6 @@ const TAG: u8 = 6;
 // Additional information: the length is indefinite, or it is a break.
 const OPEN: u8 = 31;
 
-// A break, as the byte that it is.
-const BREAK: u8 = 0xff;
-
 // The levels of items: 16 inside each other, and the text around them.
 const LEVELS: usize = 17;
 
@@ -48,7 +43,7 @@ pub struct Printed {
 }
 
 // Whether a part that starts at a place ends behind it, and within the bytes.
-fn moves(at: usize, end: usize, size: usize) -> bool
+pub fn moves(at: usize, end: usize, size: usize) -> bool
     ensures { λ r. ⌜ Moves at end size r ⌝ }
 {
     if end <= at {
@@ -316,129 +311,4 @@ pub fn print_items(bytes: &[u8], out: &mut [u8]) -> usize
     }
     let part = several(bytes, 0, ENDED, 0, ARRAY, LEVELS, b'\n', out, 0);
     text_output::put(out, part.pos, b'\n')
-}
-
-// THE SIZE of a text: of all heads, one behind the other, whatever stands inside what.
-
-fn is_broken(bytes: &[u8], at: usize) -> bool
-    ensures { λ r. ⌜ r ≡ isBroken (drop at (now (bytes .entry))) ⌝ }
-{
-    if bytes.len() <= at {
-        return false;
-    }
-    bytes[at] == BREAK
-}
-
-// Whether nothing stands inside brackets.
-fn is_none(bytes: &[u8], from: usize, info: u8, n: u64) -> bool
-    ensures { λ r. ⌜ r ≡ isNone (sizeBy info) n (drop from (now (bytes .entry))) ⌝ }
-{
-    if info == OPEN {
-        return is_broken(bytes, from);
-    }
-    n == 0
-}
-
-// Brackets, and what separates them from others; where something stands inside, the first of it is separated from nothing.
-fn brackets_size(bytes: &[u8], from: usize, info: u8, n: u64) -> usize
-    ensures { λ r. ⌜ r ≡ capped 0 (bracketsSize (sizeBy info) n (drop from (now (bytes .entry)))) ⌝ }
-{
-    let mark = leaf_printer::mark_size(info, n);
-    if is_none(bytes, from, info, n) {
-        return sum(mark, 4);
-    }
-    sum(mark, 2)
-}
-
-fn chunked_size(bytes: &[u8], from: usize) -> usize
-    ensures { λ r. ⌜ r ≡ chunkedSize (drop from (now (bytes .entry))) ⌝ }
-{
-    if is_broken(bytes, from) {
-        return 5;
-    }
-    4
-}
-
-// Where the part behind a head ends.
-fn part_end(bytes: &[u8], major: u8, info: u8, n: u64, end: usize) -> usize
-    requires { ⌜ Within (now bytes) end ⌝ }
-    ensures { λ r. ⌜ PartEnd (now (bytes .entry)) major info n end r ⌝ }
-{
-    if major <= 1 {
-        return end;
-    }
-    if TEXT < major {
-        return end;
-    }
-    if info == OPEN {
-        return end;
-    }
-    sum(end, n as usize)
-}
-
-// How long the text of a string with this content is. Most texts are seen at a glance to stand for themselves.
-fn string_size(bytes: &[u8], from: usize, to: usize, info: u8, text: bool) -> usize
-    requires { ⌜ PartInside (now bytes) from to ⌝ }
-    ensures { λ r. ⌜ r ≡ capped 0 (length (printString (kindOf text) (widthBy info) (take (to - from) (drop from (now (bytes .entry)))))) ⌝ }
-{
-    if text {
-        if to <= plain_bytes::plain_run(bytes, from) {
-            return leaf_printer::plain_size(to - from, info);
-        }
-    }
-    leaf_printer::string_size(&bytes[from..to], info, text)
-}
-
-// How many bytes of a text the part behind a head takes, up to the next.
-fn part_size(bytes: &[u8], major: u8, info: u8, n: u64, end: usize, next: usize) -> usize
-    requires { ⌜ PartInside (now bytes) end next ⌝ }
-    requires { ⌜ PartEnd (now bytes) major info n end next ⌝ }
-    ensures { λ r. ⌜ PartSize (now (bytes .entry)) major info n end r ⌝ }
-{
-    if major <= 1 {
-        return sum(leaf_printer::integer_size(major == 1, info, n), 2);
-    }
-    if major <= TEXT {
-        if info == OPEN {
-            return chunked_size(bytes, end);
-        }
-        return sum(string_size(bytes, end, next, info, major == TEXT), 2);
-    }
-    if major <= MAP {
-        return brackets_size(bytes, end, info, n);
-    }
-    if major == TAG {
-        return sum(leaf_printer::integer_size(false, info, n), 2);
-    }
-    if info == OPEN {
-        return 0;
-    }
-    sum(leaf_printer::simple_size(n), 2)
-}
-
-// The length of the text of all items.
-pub fn text_size(bytes: &[u8]) -> usize
-    ensures { λ r. ⌜ TextSize (now (bytes .entry)) r ⌝ }
-{
-    let mut size: usize = 0;
-    let mut at: usize = 0;
-    while at < bytes.len() {
-        let end = head::head_end(bytes, at);
-        if end == 0 {
-            return 0;
-        }
-        let n = head::head_argument(bytes, at);
-        let major = bytes[at] / 32;
-        let info = bytes[at] % 32;
-        let next = part_end(bytes, major, info, n, end);
-        if !moves(at, next, bytes.len()) {
-            return 0;
-        }
-        size = sum(size, part_size(bytes, major, info, n, end, next));
-        at = next;
-    }
-    if size == 0 {
-        return 0;
-    }
-    size - 1
 }

@@ -16,7 +16,7 @@ ghost use Rattle.printing.specs.PrintOutcomes.{Lays, AtOnce};
 fn lay(bytes: &[u8], out: &mut [u8]) -> Answer
     ensures { λ r. ⌜ Lays (now (bytes .entry)) (now (out .entry)) (now (out .exit)) r ⌝ }
 {
-    let size = printer::text_size(bytes);
+    let size = text_length::text_size(bytes);
     if fits(size, out.len()) {
         printer::print_items(bytes, out);
         return Answer::Written(size);

@@ -1,0 +1,2 @@
+pub mod TextScan
+pub mod TextMeasure
