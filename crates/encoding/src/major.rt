@@ -3,17 +3,17 @@ pub const UNSIGNED_INTEGER: u8 = 0;
 
 pub const NEGATIVE_INTEGER: u8 = 1;
 
-pub const BYTE_STRING: u8 = 2;
+pub(crate) const BYTE_STRING: u8 = 2;
 
-pub const TEXT_STRING: u8 = 3;
+pub(crate) const TEXT_STRING: u8 = 3;
 
 pub const ARRAY: u8 = 4;
 
 pub const MAP: u8 = 5;
 
-pub const TAGGED: u8 = 6;
+pub(crate) const TAGGED: u8 = 6;
 
-pub const SIMPLE_VALUE: u8 = 7;
+pub(crate) const SIMPLE_VALUE: u8 = 7;
 
 pub const ENDLESS_ARRAY: u8 = 0x9f;
 
