@@ -3,9 +3,9 @@ pub const UNSIGNED_INTEGER: u8 = 0;
 
 pub const NEGATIVE_INTEGER: u8 = 1;
 
-pub(crate) const BYTE_STRING: u8 = 2;
+pub const BYTE_STRING: u8 = 2;
 
-pub(crate) const TEXT_STRING: u8 = 3;
+pub const TEXT_STRING: u8 = 3;
 
 pub const ARRAY: u8 = 4;
 

@@ -3,6 +3,7 @@
 use base64::read_base64;
 use encoding::heads::head_size;
 use encoding::heads::info_by;
+use encoding::major::BYTE_STRING;
 use hex::read_hex;
 use leaf_answer::LeafRead;
 use leaf_answer::leaf;
@@ -12,7 +13,6 @@ use literal_body::scan_body;
 use literal_body::unended;
 use numbers::indicator::choose;
 use numbers::indicator::indicator_at;
-use plain_string::string::BYTES;
 use plain_string::string::LONGEST;
 use plain_string::string::major_of;
 use quoted::read_quoted;
@@ -177,7 +177,7 @@ pub fn hex_literal(text: &[u8], at: usize, buf: &mut [u8], pos: usize) -> LeafRe
 {
     if hex_at(text, at) {
         let c = hex_content(text, at, at + 2, buf, pos);
-        return headed(text, at, c, BYTES, true, buf, pos);
+        return headed(text, at, c, BYTE_STRING, true, buf, pos);
     }
     nothing(at)
 }
@@ -189,7 +189,7 @@ pub fn base64_literal(text: &[u8], at: usize, buf: &mut [u8], pos: usize) -> Lea
 {
     if base64_at(text, at) {
         let c = base64_content(text, at, at + 4, buf, pos);
-        return headed(text, at, c, BYTES, true, buf, pos);
+        return headed(text, at, c, BYTE_STRING, true, buf, pos);
     }
     nothing(at)
 }

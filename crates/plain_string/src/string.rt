@@ -2,6 +2,8 @@
 use crate::block::is_short;
 use crate::block::put_short;
 use crate::block::put_short_hex;
+use encoding::major::BYTE_STRING;
+use encoding::major::TEXT_STRING;
 use hex_pairs::hex_run;
 use hex_pairs::put_pairs;
 use leaf_answer::LeafRead;
@@ -28,11 +30,6 @@ const SHORT_ROOM: usize = 33;
 const SHORT_HEX: usize = 16;
 
 const SHORT_HEX_ROOM: usize = 17;
-
-// The major types of strings.
-pub const BYTES: u8 = 2;
-
-const TEXT: u8 = 3;
 
 // Writes n bytes of the text behind a head, if they fit.
 fn copy_behind(text: &[u8], from: usize, n: usize, buf: &mut [u8], pos: usize, head: usize)
@@ -102,7 +99,7 @@ fn put_hex(text: &[u8], from: usize, n: usize, buf: &mut [u8], pos: usize) -> us
         put_short_hex(text, from, n, buf, pos);
         return n + 1;
     }
-    let head = put_head(buf, pos, BYTES, n as u64);
+    let head = put_head(buf, pos, BYTE_STRING, n as u64);
     pairs_behind(text, from, n, buf, pos, head);
     head + n
 }
@@ -111,9 +108,9 @@ pub fn major_of(quote: u8) -> u8
     ensures { λ r. ⌜ StringMajor quote r ⌝ }
 {
     if quote == b'"' {
-        return TEXT;
+        return TEXT_STRING;
     }
-    BYTES
+    BYTE_STRING
 }
 
 // The string at a place, where its quote stands.
