@@ -1,2 +1,1 @@
-pub mod PartCode
 pub mod PassCode

@@ -33,8 +33,9 @@ use Rattle.leaf_text.specs.Laying.{Laid}
 use Rattle.leaf_text.specs.LeafTexts.{Room, HasBlock, HasSpace, LeafTold}
 use Rattle.leaf_text.specs.declared.Written.{Written}
 use Rattle.leaf_text.proofs.LayCode.{laid-none, laid-more, laid-kept, laid-as, laid-after}
-use Rattle.one_pass.specs.PassAnswers.{commaOf, separatorOf, textOf, tagOpening, ItemMade, ItemTold, AllMade, AllTold, Closed, MayTag, AllPrinted, PassTold}
-use Rattle.one_pass.proofs.PartCode.{take-less}
+use Rattle.pass_parts.specs.PartAnswers.{commaOf, separatorOf, tagOpening, ItemMade, ItemTold, Closed, MayTag}
+use Rattle.one_pass.specs.PassAnswers.{textOf, AllMade, AllTold, AllPrinted, PassTold}
+use Rattle.pass_parts.proofs.PartCode.{take-less}
 
 -- ONE MORE OF SEVERAL
 

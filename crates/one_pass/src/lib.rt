@@ -1,18 +1,16 @@
 // Printing in one pass: items are checked and written at the same time, into a buffer that they may fill as they like. Where something is refused, or there is no
 // room, nothing is told, and the whole way has to be gone: it says why.
-pub mod parts;
-
-use crate::parts::closed;
-use crate::parts::comma;
-use crate::parts::may_tag;
-use crate::parts::odd;
-use crate::parts::opening;
-use crate::parts::separator;
-use crate::parts::tag_opening;
 use leaf_text::Written;
 use leaf_text::has_block;
 use leaf_text::has_space;
 use leaf_text::none;
+use pass_parts::closed;
+use pass_parts::comma;
+use pass_parts::may_tag;
+use pass_parts::odd;
+use pass_parts::opening;
+use pass_parts::separator;
+use pass_parts::tag_opening;
 use walk_answer::COUNTED;
 use walk_answer::ENDED;
 use walk_answer::is_over;
@@ -23,7 +21,8 @@ ghost use Prim.Native.Nat.{_+_, _-_, _≤_, _<_};
 ghost use lib.ListN.{length};
 ghost use Rattle.walk_answer.specs.WalkAnswers.{untilBy, Within};
 ghost use Rattle.printer.specs.PrintAnswers.{PrintHeaded};
-ghost use Rattle.one_pass.specs.PassAnswers.{ItemTold, AllTold, PassTold};
+ghost use Rattle.pass_parts.specs.PartAnswers.{ItemTold};
+ghost use Rattle.one_pass.specs.PassAnswers.{AllTold, PassTold};
 
 // The major types of items that have parts.
 const ARRAY: u8 = 4;

@@ -25,13 +25,13 @@ use Rattle.leaf_text.proofs.has_block.Reads as has-block-reads
 use Rattle.leaf_text.proofs.has_space.Reads as has-space-reads
 use Rattle.leaf_text.proofs.leaf.Reads as leaf-reads
 use Rattle.leaf_text.proofs.none.Reads as none-reads
-use Rattle.one_pass.proofs.parts.closed.Reads as closed-reads
-use Rattle.one_pass.proofs.parts.comma.Reads as comma-reads
-use Rattle.one_pass.proofs.parts.may_tag.Reads as may-tag-reads
-use Rattle.one_pass.proofs.parts.odd.Reads as odd-reads
-use Rattle.one_pass.proofs.parts.opening.Reads as opening-reads
-use Rattle.one_pass.proofs.parts.separator.Reads as separator-reads
-use Rattle.one_pass.proofs.parts.tag_opening.Reads as tag-opening-reads
+use Rattle.pass_parts.proofs.closed.Reads as closed-reads
+use Rattle.pass_parts.proofs.comma.Reads as comma-reads
+use Rattle.pass_parts.proofs.may_tag.Reads as may-tag-reads
+use Rattle.pass_parts.proofs.odd.Reads as odd-reads
+use Rattle.pass_parts.proofs.opening.Reads as opening-reads
+use Rattle.pass_parts.proofs.separator.Reads as separator-reads
+use Rattle.pass_parts.proofs.tag_opening.Reads as tag-opening-reads
 use Rattle.walk_answer.proofs.is_over.Reads as is-over-reads
 use Rattle.walk_answer.proofs.less.Reads as less-reads
 use Rattle.walk_answer.proofs.mode_of.Reads as mode-of-reads
@@ -42,7 +42,7 @@ use borrow.Author.Needs.{needs}
 use native.Mathlib.Omega.{arith}
 use lib.ListN.{length}
 use Rattle.printer.proofs.PrintWays.{item-within}
-use Rattle.one_pass.proofs.PartCode.{told-lost}
+use Rattle.pass_parts.proofs.PartCode.{told-lost}
 use Rattle.one_pass.proofs.PassCode.{Run, run-start, run-within, run-full, run-stop, run-less, run-on, run-end, leaf-told, other-told, leaf-room, block-inside, two-more, leaf-more, at-within, head-room, headed-by, array-told, map-told, tag-told}
 
 abbrev μ-array : Measures 2 array-kinds.ps ℕ

@@ -40,7 +40,7 @@ use Rattle.leaf_text.specs.Laying.{Laid}
 use Rattle.leaf_text.specs.declared.Written.{Written}
 use Rattle.leaf_text.proofs.LayCode.{laid-none, laid-more, laid-kept, laid-as, laid-front, laid-prints}
 use Rattle.leaf_text.proofs.LeafCode.{low-information, indicator-none, shortest-0, item-plain}
-use Rattle.one_pass.specs.PassAnswers.{commaOf, separatorOf, tagOpening, IsItem, ItemTold, Closed, ShortString, MayTag}
+use Rattle.pass_parts.specs.PartAnswers.{commaOf, separatorOf, tagOpening, IsItem, ItemTold, Closed, ShortString, MayTag}
 
 -- BETWEEN ITEMS
 

@@ -1,4 +1,4 @@
-// What stands around items and between them; and items that are not written at a glance.
+// Of printing in one pass: what stands around items and between them; and items that are not written at a glance.
 use leaf_text::Written;
 use leaf_text::none;
 use leaf_text::up_to;
@@ -12,7 +12,7 @@ ghost use Rattle.notation.specs.Printing.{sizeOf};
 ghost use Rattle.text_output.specs.PrintParts.{sizeBy};
 ghost use Rattle.walk_answer.specs.WalkAnswers.{Within};
 ghost use Rattle.leaf_text.specs.Laying.{Laid};
-ghost use Rattle.one_pass.specs.PassAnswers.{commaOf, separatorOf, tagOpening, ItemTold, IsItem, Closed, MayTag, ShortString};
+ghost use Rattle.pass_parts.specs.PartAnswers.{commaOf, separatorOf, tagOpening, ItemTold, IsItem, Closed, MayTag, ShortString};
 
 // Additional information: the least that is no argument itself; an indefinite length.
 const WIDE: u8 = 24;
@@ -23,7 +23,7 @@ const OPEN: u8 = 31;
 const BYTES: u8 = 2;
 
 // What stands before an item, of which `left` are left: in a map a colon before a value.
-pub(crate) fn comma(map: bool, left: u64) -> u8
+pub fn comma(map: bool, left: u64) -> u8
     ensures { λ r. ⌜ r ≡ commaOf map left ⌝ }
 {
     if map {
@@ -35,7 +35,7 @@ pub(crate) fn comma(map: bool, left: u64) -> u8
 }
 
 // It is written before the first as well, and written over.
-pub(crate) fn separator(first: bool, comma: u8, blank: u8, out: &mut [u8], pos: usize) -> usize
+pub fn separator(first: bool, comma: u8, blank: u8, out: &mut [u8], pos: usize) -> usize
     requires { ⌜ pos + 2 ≤ length (now out) ⌝ }
     ensures { λ r. ⌜ Laid (now (out .entry)) (now (out .exit)) pos (separatorOf first comma blank) r ⌝ }
     ensures { λ r. ⌜ r ≤ pos + 2 ⌝ }
@@ -66,7 +66,7 @@ fn mark(info: u8, n: u64, out: &mut [u8], pos: usize) -> usize
 }
 
 // An opening bracket, and what stands behind it.
-pub(crate) fn opening(bracket: u8, info: u8, n: u64, out: &mut [u8], pos: usize) -> usize
+pub fn opening(bracket: u8, info: u8, n: u64, out: &mut [u8], pos: usize) -> usize
     requires { ⌜ pos + 80 ≤ length (now out) ⌝ }
     ensures { λ r. ⌜ Laid (now (out .entry)) (now (out .exit)) pos (bracket ∷ sizeOf (sizeBy info) n) r ⌝ }
 {
@@ -75,7 +75,7 @@ pub(crate) fn opening(bracket: u8, info: u8, n: u64, out: &mut [u8], pos: usize)
 }
 
 // The number of a tag, and the bracket behind it.
-pub(crate) fn tag_opening(info: u8, n: u64, out: &mut [u8], pos: usize) -> usize
+pub fn tag_opening(info: u8, n: u64, out: &mut [u8], pos: usize) -> usize
     requires { ⌜ pos + 80 ≤ length (now out) ⌝ }
     ensures { λ r. ⌜ Laid (now (out .entry)) (now (out .exit)) pos (tagOpening info n) r ⌝ }
 {
@@ -84,7 +84,7 @@ pub(crate) fn tag_opening(info: u8, n: u64, out: &mut [u8], pos: usize) -> usize
 }
 
 // A bracket behind what was written, if there is room.
-pub(crate) fn closed(part: Written, bracket: u8, out: &mut [u8]) -> Written
+pub fn closed(part: Written, bracket: u8, out: &mut [u8]) -> Written
     ensures { λ r. ⌜ Closed (now (out .entry)) (now (out .exit)) part bracket r ⌝ }
 {
     if part.end == 0 {
@@ -97,7 +97,7 @@ pub(crate) fn closed(part: Written, bracket: u8, out: &mut [u8]) -> Written
 }
 
 // Whether a byte string stands there whose head is its initial byte.
-pub(crate) fn is_short_string(b: u8) -> bool
+fn is_short_string(b: u8) -> bool
     ensures { λ r. ⌜ ShortString b r ⌝ }
 {
     if b / 32 != BYTES {
@@ -107,7 +107,7 @@ pub(crate) fn is_short_string(b: u8) -> bool
 }
 
 // Whether it is seen that a tag may stand before what stands behind it: whatever it is, or a short byte string.
-pub(crate) fn may_tag(bytes: &[u8], from: usize, n: u64) -> bool
+pub fn may_tag(bytes: &[u8], from: usize, n: u64) -> bool
     ensures { λ r. ⌜ MayTag (now (bytes .entry)) from n r ⌝ }
 {
     if bytes.len() <= from {
@@ -131,7 +131,7 @@ fn whole(bytes: &[u8], at: usize, levels: usize, out: &mut [u8], pos: usize) -> 
 }
 
 // Any item: checked first, and then written.
-pub(crate) fn odd(bytes: &[u8], at: usize, levels: usize, out: &mut [u8], pos: usize) -> Written
+pub fn odd(bytes: &[u8], at: usize, levels: usize, out: &mut [u8], pos: usize) -> Written
     requires { ⌜ Within (now bytes) at ⌝ }
     requires { ⌜ pos ≤ length (now out) ⌝ }
     ensures { λ r. ⌜ ItemTold (now (bytes .entry)) at levels (now (out .entry)) (now (out .exit)) pos r ⌝ }

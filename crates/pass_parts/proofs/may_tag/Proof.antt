@@ -1,7 +1,7 @@
 use borrow.Author.Needs.{needs}
-use Rattle.one_pass.proofs.PartCode.{may-ways}
-use Rattle.one_pass.proofs.parts.may_tag.Statement.{statement}
-use Rattle.one_pass.proofs.parts.may_tag.Tie as tie
+use Rattle.pass_parts.proofs.PartCode.{may-ways}
+use Rattle.pass_parts.proofs.may_tag.Statement.{statement}
+use Rattle.pass_parts.proofs.may_tag.Tie as tie
 
 pub may-tag-spec : {M : Type 1} → statement M
 may-tag-spec =

@@ -1,7 +1,7 @@
 use borrow.Author.Needs.{needs}
-use Rattle.one_pass.proofs.PartCode.{is-item, told-lost}
-use Rattle.one_pass.proofs.parts.odd.Statement.{statement}
-use Rattle.one_pass.proofs.parts.odd.Tie as tie
+use Rattle.pass_parts.proofs.PartCode.{is-item, told-lost}
+use Rattle.pass_parts.proofs.odd.Statement.{statement}
+use Rattle.pass_parts.proofs.odd.Tie as tie
 
 pub odd-spec : {M : Type 1} → statement M
 odd-spec =

@@ -1,7 +1,7 @@
 use borrow.Author.Needs.{needs}
-use Rattle.one_pass.proofs.PartCode.{whole-ways}
-use Rattle.one_pass.proofs.parts.whole.Statement.{statement}
-use Rattle.one_pass.proofs.parts.whole.Tie as tie
+use Rattle.pass_parts.proofs.PartCode.{whole-ways}
+use Rattle.pass_parts.proofs.whole.Statement.{statement}
+use Rattle.pass_parts.proofs.whole.Tie as tie
 
 pub whole-spec : {M : Type 1} → statement M
 whole-spec =

@@ -1,7 +1,7 @@
 use borrow.Author.Needs.{needs}
-use Rattle.one_pass.proofs.PartCode.{number-room, tag-laid}
-use Rattle.one_pass.proofs.parts.tag_opening.Statement.{statement}
-use Rattle.one_pass.proofs.parts.tag_opening.Tie as tie
+use Rattle.pass_parts.proofs.PartCode.{number-room, tag-laid}
+use Rattle.pass_parts.proofs.tag_opening.Statement.{statement}
+use Rattle.pass_parts.proofs.tag_opening.Tie as tie
 
 pub tag-opening-spec : {M : Type 1} → statement M
 tag-opening-spec =

@@ -1,7 +1,7 @@
-use Rattle.one_pass.proofs.parts.comma.Statement.{statement}
-use Rattle.one_pass.proofs.parts.comma.Tie as tie
+use Rattle.pass_parts.proofs.comma.Statement.{statement}
+use Rattle.pass_parts.proofs.comma.Tie as tie
 use borrow.Author.Needs.{needs}
-use Rattle.one_pass.proofs.PartCode.{comma-ways}
+use Rattle.pass_parts.proofs.PartCode.{comma-ways}
 
 pub comma-spec : {M : Type 1} → statement M
 comma-spec =

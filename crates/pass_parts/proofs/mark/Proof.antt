@@ -1,8 +1,8 @@
 use borrow.Author.Needs.{needs}
 use Rattle.printer.proofs.PrintBounds.{size-length}
-use Rattle.one_pass.proofs.PartCode.{mark-none, mark-open, mark-wide}
-use Rattle.one_pass.proofs.parts.mark.Statement.{statement}
-use Rattle.one_pass.proofs.parts.mark.Tie as tie
+use Rattle.pass_parts.proofs.PartCode.{mark-none, mark-open, mark-wide}
+use Rattle.pass_parts.proofs.mark.Statement.{statement}
+use Rattle.pass_parts.proofs.mark.Tie as tie
 
 pub mark-spec : {M : Type 1} → statement M
 mark-spec =

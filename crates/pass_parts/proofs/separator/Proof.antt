@@ -1,8 +1,8 @@
 use borrow.Author.Needs.{needs}
 use native.Mathlib.Omega.{arith}
-use Rattle.one_pass.proofs.PartCode.{separator-ways}
-use Rattle.one_pass.proofs.parts.separator.Statement.{statement}
-use Rattle.one_pass.proofs.parts.separator.Tie as tie
+use Rattle.pass_parts.proofs.PartCode.{separator-ways}
+use Rattle.pass_parts.proofs.separator.Statement.{statement}
+use Rattle.pass_parts.proofs.separator.Tie as tie
 
 pub separator-spec : {M : Type 1} → statement M
 separator-spec =

@@ -1,7 +1,7 @@
 use borrow.Author.Needs.{needs}
-use Rattle.one_pass.proofs.PartCode.{closed-ways}
-use Rattle.one_pass.proofs.parts.closed.Statement.{statement}
-use Rattle.one_pass.proofs.parts.closed.Tie as tie
+use Rattle.pass_parts.proofs.PartCode.{closed-ways}
+use Rattle.pass_parts.proofs.closed.Statement.{statement}
+use Rattle.pass_parts.proofs.closed.Tie as tie
 
 pub closed-spec : {M : Type 1} → statement M
 closed-spec =

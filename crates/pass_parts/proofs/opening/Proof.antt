@@ -1,7 +1,7 @@
 use borrow.Author.Needs.{needs}
-use Rattle.one_pass.proofs.PartCode.{opening-laid}
-use Rattle.one_pass.proofs.parts.opening.Statement.{statement}
-use Rattle.one_pass.proofs.parts.opening.Tie as tie
+use Rattle.pass_parts.proofs.PartCode.{opening-laid}
+use Rattle.pass_parts.proofs.opening.Statement.{statement}
+use Rattle.pass_parts.proofs.opening.Tie as tie
 
 pub opening-spec : {M : Type 1} → statement M
 opening-spec =
