@@ -43,10 +43,10 @@ extern "C" {
 /* The bytes of stack that a call of each function uses at most, as measured by `make stack` (examples/stack.c) on the deepest and the largest
  * inputs, good and refused, and rounded up to the next kilobyte of 1,024 bytes. Reading, printing and correcting build their result, up to
  * EDN_MOST bytes, on the stack, so that a refusal changes nothing. */
-#define EDN_STACK_READ (78 * 1024)
+#define EDN_STACK_READ (79 * 1024)
 #define EDN_STACK_PRINT (77 * 1024)
 #define EDN_STACK_LOOK_UP (8 * 1024)
-#define EDN_STACK_CORRECT (78 * 1024)
+#define EDN_STACK_CORRECT (79 * 1024)
 #define EDN_STACK_CHECK (7 * 1024)
 
 /* What a function returns: the name, the number, the words of edn_name. The numbers 0 to 17 are the archive's, 255 is this header's. */
