@@ -16,6 +16,7 @@ use Rattle.cbor.proofs.DecodeEncode.{shortest-simple}
 use Rattle.notation.specs.Words.{falseWord, trueWord, nullWord, undefinedWord, simpleWord}
 use Rattle.notation.specs.Printing.{decimalOf, hexByteOf, hexOf, escapeOf, escapedOf, widthName, indicatorOf, printString, printChunks, printChunked, blankBehind, sizeOf, printSimple, printInt, printItem, printAll, printRest, printAll₂, printRest₂}
 use Rattle.decimal_output.proofs.DecimalCode.{decimal-length}
+use Rattle.hex_output.proofs.HexCode.{hex-length}
 
 -- NUMBERS AND STRINGS
 
@@ -43,11 +44,6 @@ size-length (definite w) n = go (eqb (argumentBytes w) (argumentBytes (shortest 
     go : (t : Bool) → length (blankBehind (elim t [ true ↦ [] | false ↦ 0x5f ∷ widthName w ∷ [] ])) ≤ 3
     go true = omega arith
     go false = omega arith
-
-pub hex-length : (b : List ℕ) → length (hexOf b) ≤ 6 * length b
-unfolding hexOf hexByteOf
-hex-length [] = omega arith
-hex-length (x ∷ b) = let i = hex-length b in omega arith
 
 escape-length : (x : ℕ) → length (escapeOf x) ≤ 6
 unfolding escapeOf hexByteOf

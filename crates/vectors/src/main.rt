@@ -1,6 +1,10 @@
 // Runs the examples on standard input through the public functions, and compares each with what it should be. The file `stdin`
 // beside this folder says how a row is written. A line is written for each group and for each row that is wrong, and a last one with
 // the counts.
+mod correct;
+mod lines;
+mod run;
+
 ghost use mathlib.Core.Path.{_≡_};
 ghost use lib.ListN.{length};
 use libc::STDIN_FILENO;
@@ -23,5 +27,5 @@ fn main() {
     if 131071 < n {
         io::write_all(STDOUT_FILENO, b"there are more rows than are read\n");
     }
-    row_runner::lines::run_all(&text[..n]);
+    lines::run_all(&text[..n]);
 }

@@ -1,0 +1,109 @@
+// Goes through the lines: comments, groups and rows.
+use crate::run::run;
+use rows::cut::find;
+use rows::cut::part;
+use rows::cut::pieces;
+ghost use Prim.Native.Nat.{_≤_};
+
+// How many rows were right, how many wrong, and where they end.
+struct Tally {
+    right: u64,
+    wrong: u64,
+    end: usize,
+}
+
+// Tally stop at a million.
+fn sum(a: u64, b: u64) -> u64 {
+    if a < 1000000 {
+        if b < 1000000 {
+            return a + b;
+        }
+    }
+    1000000
+}
+
+fn one_if(a: u8, b: u8) -> u64 {
+    if a == b { 1 } else { 0 }
+}
+
+// A line: what the group is, and its counts.
+fn show(name: &[u8], right: u64, wrong: u64) {
+    io::write_all(1, name);
+    io::write_all(1, b": ");
+    io::print_decimal(1, right);
+    io::write_all(1, b" right, ");
+    io::print_decimal(1, wrong);
+    io::write_all(1, b" wrong\n");
+}
+
+fn say_wrong(number: usize) {
+    io::write_all(1, b"line ");
+    io::print_decimal(1, number as u64);
+    io::write_all(1, b": wrong\n");
+}
+
+// What a line is: 0 a comment, 1 a row that is right, 2 one that is wrong, 3 the first line of a group.
+fn kind_of(line: &[u8]) -> u8 {
+    if line.len() == 0 {
+        return 0;
+    }
+    let b = line[0];
+    match b {
+        b'/' => 0,
+        b'=' => 3,
+        _ => {
+            if run(line) {
+                return 1;
+            }
+            2
+        }
+    }
+}
+
+// The rows from a place on, up to the next group.
+fn rows(text: &[u8], from: usize) -> Tally
+    ensures { λ r. ⌜ from ≤ r .end ⌝ }
+{
+    let mut right: u64 = 0;
+    let mut wrong: u64 = 0;
+    let mut at = from;
+    while at < text.len() {
+        let end = find(text, at, b'\n');
+        let kind = kind_of(part(text, at, end));
+        if kind == 3 {
+            return Tally {
+                right,
+                wrong,
+                end: at,
+            };
+        }
+        if kind == 2 {
+            say_wrong(pieces(part(text, 0, at), b'\n'));
+        }
+        right = sum(right, one_if(kind, 1));
+        wrong = sum(wrong, one_if(kind, 2));
+        at = end + 1;
+    }
+    Tally {
+        right,
+        wrong,
+        end: at,
+    }
+}
+
+// All rows. Those before the first group are counted in the last line alone.
+pub(crate) fn run_all(text: &[u8]) {
+    let before = rows(text, 0);
+    let mut right = before.right;
+    let mut wrong = before.wrong;
+    let mut at = before.end;
+    while at < text.len() {
+        let end = find(text, at, b'\n');
+        let group = rows(text, end + 1);
+        show(part(text, at + 2, end), group.right, group.wrong);
+        right = sum(right, group.right);
+        wrong = sum(wrong, group.wrong);
+        at = group.end;
+    }
+    show(b"all", right, wrong);
+}
