@@ -1,5 +1,1 @@
-pub mod LayCode
-pub mod LeafCode
-pub mod KindCode
-pub mod IntegerCode
-pub mod StringCode
+pub mod WordCode

@@ -1,66 +1,20 @@
 // The text of leaves, written at a glance: integers of up to 32 bits, short strings and words, whose heads are the shortest. Room for the longest was seen to before.
-// What is written too much, the next text is written over.
-pub mod digits;
-pub mod integer;
-pub mod kind;
-pub mod string;
 pub mod word;
 
-use crate::integer::four;
-use crate::integer::one;
-use crate::integer::small;
-use crate::integer::two;
-use crate::kind::Kind;
-use crate::kind::kind_of;
-use crate::string::short_bytes;
-use crate::string::short_text;
 use crate::word::five_letters;
 use crate::word::four_letters;
-ghost use mathlib.Core.Path.{_≡_};
-ghost use Prim.Native.Nat.{_<_};
-ghost use lib.ListN.{length};
-ghost use Rattle.leaf_text.specs.LeafTexts.{Room, HasBlock, HasSpace, LeafTold};
-
-// An item ends before `end`, and its text before `pos`. Nothing is told where `end` is 0.
-pub struct Written {
-    pub end: usize,
-    pub pos: usize,
-}
-
-pub fn none() -> Written
-    ensures { λ r. ⌜ r ≡ record { end = 0; pos = 0 } ⌝ }
-{
-    Written { end: 0, pos: 0 }
-}
-
-pub fn up_to(end: usize, pos: usize) -> Written
-    ensures { λ r. ⌜ r ≡ record { end = end; pos = pos } ⌝ }
-{
-    Written { end, pos }
-}
-
-// The initial byte of a leaf and the block behind it; the longest text of a leaf, and two bytes before it.
-const BLOCK: usize = 33;
-
-const SPACE: usize = 82;
-
-pub fn has_block(bytes: &[u8], at: usize) -> bool
-    ensures { λ r. ⌜ HasBlock (now (bytes .entry)) at r ⌝ }
-{
-    if bytes.len() < BLOCK {
-        return false;
-    }
-    at <= bytes.len() - BLOCK
-}
-
-pub fn has_space(out: &[u8], pos: usize) -> bool
-    ensures { λ r. ⌜ HasSpace (now (out .entry)) pos r ⌝ }
-{
-    if out.len() < SPACE {
-        return false;
-    }
-    pos <= out.len() - SPACE
-}
+use leaf_integer::four;
+use leaf_integer::one;
+use leaf_integer::small;
+use leaf_integer::two;
+use leaf_kind::Kind;
+use leaf_kind::kind_of;
+use leaf_string::short_bytes;
+use leaf_string::short_text;
+use leaf_written::Written;
+use leaf_written::none;
+use leaf_written::up_to;
+ghost use Rattle.leaf_written.specs.LeafTexts.{Room, LeafTold};
 
 // The leaf at a place.
 pub fn leaf(bytes: &[u8], at: usize, out: &mut [u8], pos: usize) -> Written

@@ -1,16 +1,9 @@
 // Words, letter by letter.
+use leaf_written::put;
 ghost use mathlib.Core.List.{[], _∷_};
-ghost use Prim.Native.Nat.{_+_, _<_, _≤_};
+ghost use Prim.Native.Nat.{_+_, _≤_};
 ghost use lib.ListN.{length};
-ghost use Rattle.leaf_text.specs.Laying.{Laid};
-
-pub fn put(v: u8, out: &mut [u8], pos: usize) -> usize
-    requires { ⌜ pos < length (now out) ⌝ }
-    ensures { λ r. ⌜ Laid (now (out .entry)) (now (out .exit)) pos (v ∷ []) r ⌝ }
-{
-    out[pos] = v;
-    pos + 1
-}
+ghost use Rattle.leaf_written.specs.Laying.{Laid};
 
 pub(crate) fn four_letters(a: u8, b: u8, c: u8, d: u8, out: &mut [u8], pos: usize) -> usize
     requires { ⌜ pos + 4 ≤ length (now out) ⌝ }

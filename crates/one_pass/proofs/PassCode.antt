@@ -29,10 +29,10 @@ use Rattle.printer.specs.PrintAnswers.{PrintHeaded}
 use Rattle.printer.proofs.PrintSeveral.{bind-ok, ok-rest}
 use Rattle.printer.proofs.PrintCycle.{headed, by-size}
 use Rattle.printer.proofs.PrintWays.{until-is}
-use Rattle.leaf_text.specs.Laying.{Laid}
-use Rattle.leaf_text.specs.LeafTexts.{Room, HasBlock, HasSpace, LeafTold}
-use Rattle.leaf_text.specs.declared.Written.{Written}
-use Rattle.leaf_text.proofs.LayCode.{laid-none, laid-more, laid-kept, laid-as, laid-after}
+use Rattle.leaf_written.specs.Laying.{Laid}
+use Rattle.leaf_written.specs.LeafTexts.{Room, HasBlock, HasSpace, LeafTold}
+use Rattle.leaf_written.specs.declared.Written.{Written}
+use Rattle.leaf_written.proofs.LayCode.{laid-none, laid-more, laid-kept, laid-as, laid-after}
 use Rattle.pass_parts.specs.PartAnswers.{commaOf, separatorOf, tagOpening, ItemMade, ItemTold, Closed, MayTag}
 use Rattle.one_pass.specs.PassAnswers.{textOf, AllMade, AllTold, AllPrinted, PassTold}
 use Rattle.pass_parts.proofs.PartCode.{take-less}

@@ -8,8 +8,8 @@ use Rattle.cbor.specs.Refusals.{ok}
 use Rattle.cbor.specs.Items.{Items, none, more}
 use Rattle.cbor.specs.Decode.{Until, elements, item, decode}
 use Rattle.notation.specs.Printing.{printItem, printText}
-use Rattle.leaf_text.specs.Laying.{Laid}
-use Rattle.leaf_text.specs.declared.Written.{Written}
+use Rattle.leaf_written.specs.Laying.{Laid}
+use Rattle.leaf_written.specs.declared.Written.{Written}
 use Rattle.pass_parts.specs.PartAnswers.{commaOf, separatorOf}
 
 unfoldable pub textOf : Bool → ℕ → Bool → ℕ → Items → List ℕ

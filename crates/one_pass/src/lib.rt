@@ -1,9 +1,9 @@
 // Printing in one pass: items are checked and written at the same time, into a buffer that they may fill as they like. Where something is refused, or there is no
 // room, nothing is told, and the whole way has to be gone: it says why.
-use leaf_text::Written;
-use leaf_text::has_block;
-use leaf_text::has_space;
-use leaf_text::none;
+use leaf_written::Written;
+use leaf_written::has_block;
+use leaf_written::has_space;
+use leaf_written::none;
 use pass_parts::closed;
 use pass_parts::comma;
 use pass_parts::may_tag;

@@ -36,10 +36,10 @@ use Rattle.printer.specs.PrintAnswers.{Done, PrintTold}
 use Rattle.printer.specs.declared.Printed.{Printed}
 use Rattle.printer.proofs.PrintSeveral.{mapped-is}
 use Rattle.printer.proofs.PrintCycle.{taking-ok, made, content-ok}
-use Rattle.leaf_text.specs.Laying.{Laid}
-use Rattle.leaf_text.specs.declared.Written.{Written}
-use Rattle.leaf_text.proofs.LayCode.{laid-none, laid-more, laid-kept, laid-as, laid-front, laid-prints}
-use Rattle.leaf_text.proofs.LeafCode.{low-information, indicator-none, shortest-0, item-plain}
+use Rattle.leaf_written.specs.Laying.{Laid}
+use Rattle.leaf_written.specs.declared.Written.{Written}
+use Rattle.leaf_written.proofs.LayCode.{laid-none, laid-more, laid-kept, laid-as, laid-front, laid-prints}
+use Rattle.leaf_written.proofs.LeafCode.{low-information, indicator-none, shortest-0, item-plain}
 use Rattle.pass_parts.specs.PartAnswers.{commaOf, separatorOf, tagOpening, IsItem, ItemTold, Closed, ShortString, MayTag}
 
 -- BETWEEN ITEMS

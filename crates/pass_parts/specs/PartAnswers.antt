@@ -11,8 +11,8 @@ use Rattle.cbor.specs.TypedArrays.{mayTag}
 use Rattle.cbor.specs.Decode.{item}
 use Rattle.notation.specs.Printing.{decimalOf, indicatorOf, printItem}
 use Rattle.text_output.specs.PrintParts.{widthBy}
-use Rattle.leaf_text.specs.Laying.{Laid}
-use Rattle.leaf_text.specs.declared.Written.{Written}
+use Rattle.leaf_written.specs.Laying.{Laid}
+use Rattle.leaf_written.specs.declared.Written.{Written}
 
 -- what stands before an item, of which `left` are left; in a map, that counts keys and values, before a value
 unfoldable pub commaOf : Bool → ℕ → ℕ

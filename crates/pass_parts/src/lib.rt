@@ -1,8 +1,8 @@
 // Of printing in one pass: what stands around items and between them; and items that are not written at a glance.
-use leaf_text::Written;
-use leaf_text::none;
-use leaf_text::up_to;
-use leaf_text::word::put;
+use leaf_written::Written;
+use leaf_written::none;
+use leaf_written::put;
+use leaf_written::up_to;
 use walk_answer::Walked;
 ghost use mathlib.Core.Path.{_≡_};
 ghost use mathlib.Core.List.{_∷_};
@@ -11,7 +11,7 @@ ghost use lib.ListN.{length};
 ghost use Rattle.notation.specs.Printing.{sizeOf};
 ghost use Rattle.text_output.specs.PrintParts.{sizeBy};
 ghost use Rattle.walk_answer.specs.WalkAnswers.{Within};
-ghost use Rattle.leaf_text.specs.Laying.{Laid};
+ghost use Rattle.leaf_written.specs.Laying.{Laid};
 ghost use Rattle.pass_parts.specs.PartAnswers.{commaOf, separatorOf, tagOpening, ItemTold, IsItem, Closed, MayTag, ShortString};
 
 // Additional information: the least that is no argument itself; an indefinite length.

@@ -1,7 +1,7 @@
 use borrow.Author.Needs.{needs}
-use Rattle.leaf_text.proofs.LeafCode.{told-none}
-use Rattle.leaf_text.proofs.KindCode.{kind-as}
-use Rattle.leaf_text.proofs.StringCode.{false-told, true-told, null-told}
+use Rattle.leaf_written.proofs.LeafCode.{told-none}
+use Rattle.leaf_kind.proofs.KindCode.{kind-as}
+use Rattle.leaf_text.proofs.WordCode.{false-told, true-told, null-told}
 use Rattle.leaf_text.proofs.leaf.Statement.{statement}
 use Rattle.leaf_text.proofs.leaf.Tie as tie
 

@@ -21,10 +21,10 @@ use Rattle.one_pass.proofs.tag.Kinds as tag-kinds
 use Rattle.one_pass.proofs.+array+branch+items+map+one+tag.Lts-tag as tag-lts
 use Rattle.head.proofs.head_argument.Reads as head-argument-reads
 use Rattle.head.proofs.head_end.Reads as head-end-reads
-use Rattle.leaf_text.proofs.has_block.Reads as has-block-reads
-use Rattle.leaf_text.proofs.has_space.Reads as has-space-reads
+use Rattle.leaf_written.proofs.has_block.Reads as has-block-reads
+use Rattle.leaf_written.proofs.has_space.Reads as has-space-reads
 use Rattle.leaf_text.proofs.leaf.Reads as leaf-reads
-use Rattle.leaf_text.proofs.none.Reads as none-reads
+use Rattle.leaf_written.proofs.none.Reads as none-reads
 use Rattle.pass_parts.proofs.closed.Reads as closed-reads
 use Rattle.pass_parts.proofs.comma.Reads as comma-reads
 use Rattle.pass_parts.proofs.may_tag.Reads as may-tag-reads

@@ -1,5 +1,5 @@
 use borrow.Author.Needs.{needs}
-use Rattle.leaf_text.proofs.LayCode.{five-laid}
+use Rattle.leaf_text.proofs.WordCode.{five-laid}
 use Rattle.leaf_text.proofs.word.five_letters.Statement.{statement}
 use Rattle.leaf_text.proofs.word.five_letters.Tie as tie
 

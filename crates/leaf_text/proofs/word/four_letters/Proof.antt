@@ -1,5 +1,5 @@
 use borrow.Author.Needs.{needs}
-use Rattle.leaf_text.proofs.LayCode.{four-laid}
+use Rattle.leaf_text.proofs.WordCode.{four-laid}
 use Rattle.leaf_text.proofs.word.four_letters.Statement.{statement}
 use Rattle.leaf_text.proofs.word.four_letters.Tie as tie
 

@@ -1,0 +1,13 @@
+use borrow.Author.Needs.{needs}
+use Rattle.leaf_digits.proofs.DigitCode.{tail-more}
+use Rattle.leaf_digits.proofs.tens.Statement.{statement}
+use Rattle.leaf_digits.proofs.tens.Tie as tie
+
+pub tens-spec : {M : Type 1} → statement M
+tens-spec =
+    tie.close (tie.spec
+    (λ c κs. search needs)  -- digit-requires
+    (λ c κs. search needs)  -- units-requires
+    (λ c. search needs)  -- same-length
+    (λ c. search (tail-more 0))  -- returns
+    )

@@ -1,0 +1,2 @@
+pub mod LayCode
+pub mod LeafCode
