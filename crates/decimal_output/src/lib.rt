@@ -69,7 +69,7 @@ fn digits_to_20(n: u64) -> usize
 }
 
 // How many digits a number has.
-pub fn digits(n: u64) -> usize
+fn digits(n: u64) -> usize
     ensures { λ r. ⌜ r ≡ length (decimalOf n) ⌝ }
 {
     if n < 10_000_000_000 {

@@ -1,2 +1,1 @@
 pub mod PrintHeads
-pub mod LeafSizes

@@ -1,13 +1,9 @@
 // What is printed of a head: numbers, indicators, quotes, simple values. `info` is the head's additional information.
-use saturating::sum;
 ghost use mathlib.Core.Path.{_≡_};
-ghost use Prim.Native.Nat.{suc, _+_};
-ghost use lib.ListN.{length};
-ghost use Rattle.memory.specs.Sums.{capped};
 ghost use mathlib.Core.List.{[]};
 ghost use lib.Dec.{eqb};
 ghost use Rattle.cbor.specs.Widths.{argumentBytes, shortest};
-ghost use Rattle.notation.specs.Printing.{decimalOf, widthName, indicatorOf, sizeOf, printSimple, printInt, printString, printChunked};
+ghost use Rattle.notation.specs.Printing.{widthName, indicatorOf, sizeOf, printSimple, printInt, printString, printChunked};
 ghost use Rattle.cbor.specs.Flags.{kindOf, signOf};
 ghost use Rattle.text_output.specs.PrintParts.{Prints, widthBy, sizeBy, quoteOf, openQuote, otherSimple};
 
@@ -123,80 +119,4 @@ pub fn no_chunks(text: bool, out: &mut [u8], pos: usize) -> usize
         return text_output::put_all(b"\"\"_", out, pos);
     }
     text_output::put_all(b"''_", out, pos)
-}
-
-// SIZES of what is not written
-
-fn indicator_size(info: u8, n: u64) -> usize
-    ensures { λ r. ⌜ r ≡ length (indicatorOf (widthBy info) n) ⌝ }
-{
-    if is_shortest(info, n) {
-        return 0;
-    }
-    2
-}
-
-pub fn mark_size(info: u8, n: u64) -> usize
-    ensures { λ r. ⌜ r ≡ length (sizeOf (sizeBy info) n) ⌝ }
-{
-    if info == OPEN {
-        return 2;
-    }
-    if is_shortest(info, n) {
-        return 0;
-    }
-    3
-}
-
-// The digits of the number after n.
-fn successor_size(n: u64) -> usize
-    ensures { λ r. ⌜ r ≡ length (decimalOf (suc n)) ⌝ }
-{
-    if n == 18446744073709551615 {
-        return 20;
-    }
-    decimal_output::digits(n + 1)
-}
-
-pub fn integer_size(negative: bool, info: u8, n: u64) -> usize
-    ensures { λ r. ⌜ r ≡ capped 0 (length (printInt (signOf negative) (widthBy info) n)) ⌝ }
-{
-    let mark = indicator_size(info, n);
-    if negative {
-        return sum(sum(1, successor_size(n)), mark);
-    }
-    sum(decimal_output::digits(n), mark)
-}
-
-pub fn simple_size(n: u64) -> usize
-    ensures { λ r. ⌜ r ≡ capped 0 (length (printSimple n)) ⌝ }
-{
-    match n {
-        20 => 5,
-        21 => 4,
-        22 => 4,
-        23 => 9,
-        _ => sum(8, decimal_output::digits(n)),
-    }
-}
-
-// The quotes of a string.
-fn quotes_size(text: bool) -> usize
-    ensures { λ r. ⌜ r ≡ length (openQuote text) + 1 ⌝ }
-{
-    if text { 2 } else { 3 }
-}
-
-pub fn string_size(bytes: &[u8], info: u8, text: bool) -> usize
-    ensures { λ r. ⌜ r ≡ capped 0 (length (printString (kindOf text) (widthBy info) (now (bytes .entry)))) ⌝ }
-{
-    let quoted = sum(string_output::content_size(bytes, text), quotes_size(text));
-    sum(quoted, indicator_size(info, bytes.len() as u64))
-}
-
-// The same of a text string of n bytes that stand for themselves.
-pub fn plain_size(n: usize, info: u8) -> usize
-    ensures { λ r. ⌜ r ≡ capped 0 (2 + n + length (indicatorOf (widthBy info) n)) ⌝ }
-{
-    sum(sum(2, n), indicator_size(info, n as u64))
 }

@@ -15,7 +15,7 @@ use Rattle.cbor.specs.Ascii.{ascii}
 use Rattle.notation.specs.Printing.{hexByteOf, escapeOf, escapedOf}
 use Rattle.memory.specs.Sums.{capped}
 use Rattle.text_output.specs.PrintParts.{contentOf}
-use Rattle.plain_bytes.specs.Runs.{moreBelow, moreAt, More, MoreOf, AllPlain, Plain, PlainRun, Stop, Stops}
+use Rattle.plain_bytes.specs.Runs.{moreBelow, moreAt, More, MoreOf, AllPlain, Plain, PlainRun}
 use borrow.Author.Count.{below-more}
 use Rattle.text_output.proofs.PrintLeaves.{take-next, take-whole}
 
@@ -202,54 +202,6 @@ module _ {s : List ℕ} where
             let q : j < at - from = omega (arith, length-take (at - from) (drop from s)) in
             rw (getD-take (at - from) (drop from s) j 0 q, getD-drop from s j 0) (r .is (from + j) (omega arith) (omega arith));
       }
-
--- A RUN AT A GLANCE
-
-module _ {b i x : ℕ} (m : More b x) where
-  pub stop-none : x ≡ 0 → Stop b i 32
-  stop-none e = record { is = λ h. omega (arith, m .is); most = omega arith }
-
-  pub stop-here : i ≤ 32 → Stop b i i
-  stop-here l = record { is = λ h. absurd (omega arith); most = l }
-
-pub ruleset stop-ways = (stop-none, stop-here)
-
-pub stops-start : {s : List ℕ} {from : ℕ} → Stops s from 0 32
-stops-start = record { is = λ j h k. absurd (omega arith); most = omega arith }
-
-module _ {s : List ℕ} {from i r : ℕ} (inv : Stops s from i r) where
-  pub stops-on : {x k : ℕ} → Stop (getD s (from + i) 0) i x → k ≡ min r x → Stops s from (i + 1) k
-  stops-on {x} {k} w e =
-      record {
-        is = below-more (λ j. j < k → length (escapeOf (getD s (from + j) 0)) ≡ 1) i (λ j h l. inv .is j h (omega arith)) (λ l. w .is (omega arith));
-        most = omega (arith, inv .most);
-      }
-
-  pub stops-end : 32 ≤ i → Stops s from 32 r
-  stops-end h = record { is = λ j g k. inv .is j (omega arith) k; most = inv .most }
-
-pub glance-none : {s : List ℕ} {from : ℕ} → from ≤ length s → PlainRun s from from
-glance-none h = record { is = λ j a b. absurd (omega arith); inside = h; ahead = omega arith }
-
-pub glance-some : {s : List ℕ} {from r : ℕ} → from ≤ length s → 32 ≤ length s - from → Stops s from 32 r → PlainRun s from (from + r)
-glance-some {s} {from} {r} l h w =
-    record {
-      is = λ j a b.
-          let z : from + (j - from) ≡ j = omega arith in
-          let v = w .is (j - from) (omega (arith, w .most)) (omega arith) in
-          rw z at v;
-      inside = omega (arith, w .most);
-      ahead = omega arith;
-    }
-
-pub ruleset glance-ways = (glance-none, glance-some)
-
--- the text of a part of a run is the part
-pub run-part : (s : List ℕ) {from at to : ℕ} → PlainRun s from at → to ≤ at → escapedOf (take (to - from) (drop from s)) ≡ take (to - from) (drop from s)
-run-part s {from} {at} {to} r h =
-    plain-all (take (to - from) (drop from s)) (λ j k.
-    let q : j < to - from = omega (arith, length-take (to - from) (drop from s)) in
-    rw (getD-take (to - from) (drop from s) j 0 q, getD-drop from s j 0) (r .is (from + j) (omega arith) (omega arith)))
 
 pub plain-yes : {s : List ℕ} {t : Bool} → Plain s t → t ≡ true → AllPlain s
 plain-yes p e = p .is e

@@ -35,13 +35,3 @@ pub record PlainRun (s : List ℕ) (from at : ℕ) : Type 0 where
   pub is : (j : ℕ) → from ≤ j → j < at → length (escapeOf (getD s j 0)) ≡ 1
   pub inside : at ≤ length s
   pub ahead : from ≤ at
-
--- a byte b at a place i below r stands for itself
-pub record Stop (b i r : ℕ) : Type 0 where
-  pub is : i < r → length (escapeOf b) ≡ 1
-  pub most : r ≤ 32
-
--- so does each from one place on, before the first i and before r
-pub record Stops (s : List ℕ) (from i r : ℕ) : Type 0 where
-  pub is : (j : ℕ) → j < i → j < r → length (escapeOf (getD s (from + j) 0)) ≡ 1
-  pub most : r ≤ 32

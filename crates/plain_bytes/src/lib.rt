@@ -1,11 +1,11 @@
 // Bytes that stand for themselves between quotes, by blocks, and how many bytes more the others take.
 use saturating::sum;
 ghost use mathlib.Core.Path.{_≡_};
-ghost use Prim.Native.Nat.{_+_, _≤_, min, max};
+ghost use Prim.Native.Nat.{_≤_, max};
 ghost use lib.ListN.{length};
 ghost use Rattle.memory.specs.Sums.{capped};
 ghost use Rattle.notation.specs.Printing.{escapedOf};
-ghost use Rattle.plain_bytes.specs.Runs.{moreBelow, moreAt, More, MoreOf, Plain, PlainRun, Stop, Stops};
+ghost use Rattle.plain_bytes.specs.Runs.{moreBelow, moreAt, More, MoreOf, Plain, PlainRun};
 
 // HOW MANY BYTES MORE
 
@@ -113,49 +113,4 @@ pub fn plain_end(bytes: &[u8], from: usize) -> usize
         end = next;
     }
     end
-}
-
-fn smaller(a: u8, b: u8) -> u8
-    ensures { λ r. ⌜ r ≡ min a b ⌝ }
-{
-    if a < b {
-        return a;
-    }
-    b
-}
-
-// The place i of a byte that does not stand for itself, else the end of a block.
-fn stop_at(b: u8, i: u8) -> u8
-    requires { ⌜ i ≤ 32 ⌝ }
-    ensures { λ r. ⌜ Stop b i r ⌝ }
-{
-    if more(b) == 0 {
-        return 32;
-    }
-    i
-}
-
-// How many bytes of a block stand for themselves before the first that does not. The loop has no way out, so the compiler makes wide steps of it.
-fn first_stop(bytes: &[u8], from: usize) -> u8
-    requires { ⌜ from + 32 ≤ length (now bytes) ⌝ }
-    ensures { λ r. ⌜ Stops (now (bytes .entry)) from 32 r ⌝ }
-{
-    let mut first: u8 = 32;
-    let mut i: u8 = 0;
-    while i < 32 {
-        first = smaller(first, stop_at(bytes[from + i as usize], i));
-        i += 1;
-    }
-    first
-}
-
-// Past bytes that stand for themselves, as far as a block shows it at a glance.
-pub fn plain_run(bytes: &[u8], from: usize) -> usize
-    requires { ⌜ from ≤ length (now bytes) ⌝ }
-    ensures { λ r. ⌜ PlainRun (now (bytes .entry)) from r ⌝ }
-{
-    if bytes.len() - from < BLOCK {
-        return from;
-    }
-    from + first_stop(bytes, from) as usize
 }

@@ -22,18 +22,20 @@ use Rattle.walk_answer.specs.declared.Passed.the-variants.{Span as SpanV, Refus
 use Rattle.notation.specs.Printing.{printText}
 use Rattle.one_pass.specs.PassAnswers.{PassTold}
 use Rattle.printer.specs.PrintAnswers.{PrintedAll}
-use Rattle.text_length.specs.TextSizes.{TextSize}
 use Rattle.operations.specs.Operations.{written, itemsOf, textOf, andThen, print}
 use Rattle.cbor.specs.Valid.{Bytes}
 use Rattle.cbor.proofs.EncodeDecode.{encode-of-decode}
 use Rattle.looking.specs.Answers.{Checks}
 use Rattle.outcome.specs.Outcomes.{outcomeOf, laid, Refuses}
-use Rattle.printing.specs.PrintOutcomes.{Lays, AtOnce}
+use Rattle.printing.specs.PrintOutcomes.{TextSize, Lays, AtOnce}
 use Rattle.outcome.specs.declared.Answer.{Answer}
 use Rattle.outcome.specs.declared.Answer.the-variants.{Written, Refused}
 use Rattle.outcome.proofs.Room.{laid-room, laid-yes, laid-no}
 
 -- PRINTING
+pub measured : {s b b′ : List ℕ} {n : ℕ} → PrintedAll s b b′ n → TextSize s n
+measured p = record { size = p .size }
+
 module _ {s : List ℕ} (b : List ℕ) {n : ℕ} (t : TextSize s n) {v : Bool} (f : v ≡ leb n (min (length b) 65535)) where
   pub lay-done : {b′ : List ℕ} {k : ℕ} → v ≡ true → PrintedAll s b b′ k → Lays s b b′ (Written n)
   lay-done {b′} h p = record {

@@ -8,15 +8,23 @@ use walk_answer::Passed;
 ghost use mathlib.Core.Path.{_≡_};
 ghost use Rattle.operations.specs.Operations.{print};
 ghost use Rattle.outcome.specs.Outcomes.{outcomeOf};
-ghost use Rattle.printing.specs.PrintOutcomes.{Lays, AtOnce};
+ghost use Rattle.printing.specs.PrintOutcomes.{TextSize, Lays, AtOnce};
 
 // THE WHOLE WAY, which says why there is no text
+
+// The length of the text of bytes that were checked: what is printed with no room at all is measured.
+fn text_size(bytes: &[u8]) -> usize
+    ensures { λ r. ⌜ TextSize (now (bytes .entry)) r ⌝ }
+{
+    let mut nowhere = [0; 0];
+    printer::print_items(bytes, &mut nowhere)
+}
 
 // The text of bytes that were checked. Its size is known before its first byte is written.
 fn lay(bytes: &[u8], out: &mut [u8]) -> Answer
     ensures { λ r. ⌜ Lays (now (bytes .entry)) (now (out .entry)) (now (out .exit)) r ⌝ }
 {
-    let size = text_length::text_size(bytes);
+    let size = text_size(bytes);
     if fits(size, out.len()) {
         printer::print_items(bytes, out);
         return Answer::Written(size);

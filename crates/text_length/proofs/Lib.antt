@@ -1,2 +1,0 @@
-pub mod TextScan
-pub mod TextMeasure
