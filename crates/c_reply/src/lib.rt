@@ -1,5 +1,5 @@
 // What an operation returns in numbers, and what it writes into `value`.
-use checking::Checked;
+use checked::Checked;
 use outcome::Answer;
 use part::Located;
 use refusal::Refusal;

@@ -1,7 +1,7 @@
 // The notation and its bytes: check, look up, scan, read, print, correct. Each function is handed on from the crate that has its code.
-pub use checking::Checked;
-pub use checking::ItemAt;
-pub use checking::Scanned;
+pub use checked::Checked;
+pub use checked::ItemAt;
+pub use checked::Scanned;
 pub use checking::check;
 pub use checking::scan;
 pub use correcting::correct;
