@@ -10,7 +10,7 @@ use Rattle.cbor.specs.Items.{Item}
 use Rattle.cbor.specs.Heads.{majorNumber, itemMajor, Head, nextHead}
 use Rattle.cbor.specs.Decode.{item as itemAt, decode}
 use Rattle.refusal.specs.RefusalKinds.{kindNumber}
-use Rattle.head.specs.HeadAnswers.{headTold, sizeInformation, headFrom, headAt}
+use Rattle.head.specs.HeadAnswers.{headTold, headFrom, headAt}
 use Rattle.walk_answer.specs.WalkAnswers.{passTold, walkTold, walkOf, walkAllOf, itemAfter}
 use Rattle.refusal.specs.declared.Refusal.{Refusal}
 use Rattle.head.specs.declared.HeadAt.{HeadAt}
