@@ -17,13 +17,13 @@ use Rattle.refusal.specs.declared.RefusalKind.the-variants.{TooLong, NotUtf8, N
 use Rattle.outcome.specs.Outcomes.{outcomeOf}
 use Rattle.outcome.specs.declared.Answer.{Answer}
 use Rattle.outcome.specs.declared.Answer.the-variants.{Written, Refused}
-use Rattle.checking.specs.CheckAnswers.{checkTold, checkOf}
-use Rattle.looking.specs.Answers.{locateTold, locateOf}
-use Rattle.checking.specs.declared.Checked.{Checked}
-use Rattle.checking.specs.declared.Checked.the-variants.{Accepted, Refused as CheckRefused}
-use Rattle.looking.specs.declared.Part.{Part}
-use Rattle.looking.specs.declared.Located.{Located}
-use Rattle.looking.specs.declared.Located.the-variants.{Part as PartV, Refused as PartRefused}
+use Rattle.checked.specs.CheckAnswers.{checkTold, checkOf}
+use Rattle.part.specs.PartAnswers.{locateTold, locateOf}
+use Rattle.checked.specs.declared.Checked.{Checked}
+use Rattle.checked.specs.declared.Checked.the-variants.{Accepted, Refused as CheckRefused}
+use Rattle.part.specs.declared.Part.{Part}
+use Rattle.part.specs.declared.Located.{Located}
+use Rattle.part.specs.declared.Located.the-variants.{Part as PartV, Refused as PartRefused}
 use Rattle.c_reply.specs.Replies.{code, succeeds, lengthIn, spotIn, placeIn, answerOf, CheckReplied, PartReplied}
 
 -- past its end a list stays as it is

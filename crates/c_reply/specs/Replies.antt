@@ -11,10 +11,10 @@ use Rattle.cbor.specs.Items.{Items}
 use Rattle.cbor.specs.Paths.{Spot, start, end}
 use Rattle.outcome.specs.Outcomes.{outcomeOf}
 use Rattle.outcome.specs.declared.Answer.{Answer}
-use Rattle.checking.specs.CheckAnswers.{checkTold, checkOf}
-use Rattle.looking.specs.Answers.{locateTold, locateOf}
-use Rattle.checking.specs.declared.Checked.{Checked}
-use Rattle.looking.specs.declared.Located.{Located}
+use Rattle.checked.specs.CheckAnswers.{checkTold, checkOf}
+use Rattle.part.specs.PartAnswers.{locateTold, locateOf}
+use Rattle.checked.specs.declared.Checked.{Checked}
+use Rattle.part.specs.declared.Located.{Located}
 
 -- 0, or the number of the refusal
 unfoldable pub code : {A : Type 0} → Verdict A → ℕ

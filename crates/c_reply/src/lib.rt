@@ -1,7 +1,7 @@
 // What an operation returns in numbers, and what it writes into `value`.
-use checking::Checked;
-use looking::Located;
+use checked::Checked;
 use outcome::Answer;
+use part::Located;
 use refusal::Refusal;
 ghost use mathlib.Core.Path.{_≡_};
 ghost use lib.Dec.{eqb};

@@ -1,1 +1,1 @@
-pub mod CheckAnswers
+pub mod Scans

@@ -31,7 +31,7 @@ use Rattle.encoding.specs.declared.answer.MadeItem.{MadeItem as MadeS}
 use Rattle.encoding.specs.declared.answer.ReadAnswer.{ReadAnswer}
 use Rattle.encoding.specs.declared.answer.ReadAnswer.the-variants.{Made as ReadMade, Refused as ReadRefused}
 use Rattle.operations.specs.Operations.{andThen, room, fitting, written, itemsOf, spotOf, lookUp, level, replaced, correction, zeroed, correct}
-use Rattle.looking.specs.Answers.{locateTold, locateOf}
+use Rattle.part.specs.PartAnswers.{locateTold, locateOf}
 use Rattle.outcome.specs.Outcomes.{outcomeOf, Roomy}
 use Rattle.text_check.specs.TextAnswers.{textTold, passing}
 use Rattle.planning.specs.PlanAnswers.{splice, Bounded, lengthFor, PlanFor, Plans}
@@ -40,9 +40,9 @@ use Rattle.outcome.specs.declared.Answer.{Answer}
 use Rattle.outcome.specs.declared.Answer.the-variants.{Written, Refused as AnswerRefused}
 use Rattle.text_check.specs.declared.Text.{Text}
 use Rattle.text_check.specs.declared.Text.the-variants.{Good, Refused as TextRefused}
-use Rattle.looking.specs.declared.Located.{Located}
-use Rattle.looking.specs.declared.Located.the-variants.{Part as PartV, Refused as PartRefused}
-use Rattle.looking.specs.declared.Part.{Part}
+use Rattle.part.specs.declared.Located.{Located}
+use Rattle.part.specs.declared.Located.the-variants.{Part as PartV, Refused as PartRefused}
+use Rattle.part.specs.declared.Part.{Part}
 use Rattle.planning.specs.declared.Plan.{Plan}
 use Rattle.planning.specs.declared.Decision.{Decision}
 use Rattle.planning.specs.declared.Decision.the-variants.{Replace, Refused}
@@ -264,12 +264,12 @@ module _ {b path text item : List ℕ} {used : ℕ} {d : Decision} (ds : Decides
   unfolding decisionOf correct outcomeOf written
   carry-refused {e} i = let c : refused (kindNumber (e .kind)) (e .place) ≡ correction b used path text = rw i at (ds .is) in record { is = ap (written b (zeroed used)) c }
 
-  pub carry-done : {p : Plan} {b′ : List ℕ} → d ≡ Replace p → b′ ≡ over b 0 (zeroed used (splice b used (p .start) (p .end) (take (p .size) item))) → Corrects b b′ used path text (Written (p .length))
+  pub carry-done : {p : Plan} {n : ℕ} {b′ : List ℕ} → d ≡ Replace p → n ≡ p .length → b′ ≡ over b 0 (zeroed used (splice b used (p .start) (p .end) (take (p .size) item))) → Corrects b b′ used path text (Written n)
   unfolding decisionOf correct outcomeOf written
-  carry-done {p} {b′} i e =
+  carry-done {p} i l e =
       let c : accepted (splice b used (p .start) (p .end) (take (p .size) item)) ≡ correction b used path text = rw i at (ds .is) in
-      let n = whole-length (carry-plans i) in
-      record { is = rw (e, ← n) (ap (written b (zeroed used)) c) }
+      let m = whole-length (carry-plans i) in
+      record { is = rw (e, l, ← m) (ap (written b (zeroed used)) c) }
 
 pub ruleset carry-ways = (carry-refused, carry-done)
 

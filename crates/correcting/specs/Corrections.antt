@@ -17,11 +17,11 @@ use Rattle.encoding.specs.declared.answer.MadeItem.{MadeItem as MadeS}
 use Rattle.encoding.specs.declared.answer.ReadAnswer.{ReadAnswer}
 use Rattle.encoding.specs.declared.answer.ReadAnswer.the-variants.{Made as ReadMade, Refused as ReadRefused}
 use Rattle.operations.specs.Operations.{andThen, lookUp, correction, correct}
-use Rattle.looking.specs.Answers.{locateTold, locateOf}
+use Rattle.part.specs.PartAnswers.{locateTold, locateOf}
 use Rattle.outcome.specs.Outcomes.{outcomeOf, Holds}
 use Rattle.outcome.specs.declared.Answer.{Answer}
-use Rattle.looking.specs.declared.Located.{Located}
-use Rattle.looking.specs.declared.Part.{Part}
+use Rattle.part.specs.declared.Located.{Located}
+use Rattle.part.specs.declared.Part.{Part}
 use Rattle.planning.specs.declared.Decision.{Decision}
 use Rattle.planning.specs.declared.Decision.the-variants.{Replace, Refused}
 use Rattle.planning.specs.PlanAnswers.{splice, lengthFor, Plans}

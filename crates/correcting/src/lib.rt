@@ -1,12 +1,12 @@
 // One item of bytes replaced by the item that a text spells: first what would come of it, with nothing written; then the writing.
 use encoding::answer::ReadAnswer;
-use looking::Located;
-use looking::Part;
 use looking::locate;
 use one_item::read_one;
 use outcome::Answer;
 use outcome::fits;
 use outcome::turns_for;
+use part::Located;
+use part::Part;
 use planning::Decision;
 use planning::Plan;
 use planning::level;
@@ -83,11 +83,7 @@ fn carry_out(buffer: &mut [u8], used: usize, path: &[u16], text: &[u8], item: &m
     let d = decide(buffer, used, path, text, item);
     match d {
         Decision::Refused(e) => Answer::Refused(e),
-        Decision::Replace(p) => {
-            let length = p.length;
-            put(buffer, used, p, item);
-            Answer::Written(length)
-        }
+        Decision::Replace(p) => Answer::Written(put(buffer, used, p, item)),
     }
 }
 

@@ -9,12 +9,12 @@ use Rattle.cbor.specs.Items.{Items}
 use Rattle.cbor.specs.Paths.{Spot}
 use Rattle.operations.specs.Operations.{Outcome}
 use Rattle.outcome.specs.Outcomes.{outcomeOf}
-use Rattle.checking.specs.CheckAnswers.{checkTold, checkOf}
-use Rattle.looking.specs.Answers.{locateTold, locateOf}
+use Rattle.checked.specs.CheckAnswers.{checkTold, checkOf}
+use Rattle.part.specs.PartAnswers.{locateTold, locateOf}
 use Rattle.outcome.specs.declared.Answer.{Answer}
 use Rattle.outcome.specs.declared.Answer.the-variants.{Written, Refused}
-use Rattle.checking.specs.declared.Checked.{Checked}
-use Rattle.looking.specs.declared.Located.{Located}
+use Rattle.checked.specs.declared.Checked.{Checked}
+use Rattle.part.specs.declared.Located.{Located}
 use Rattle.c_reply.specs.Replies.{code, succeeds, lengthIn, spotIn, placeIn, answerOf, CheckReplied, PartReplied}
 
 -- AN OPERATION WITH A BUFFER

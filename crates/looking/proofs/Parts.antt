@@ -5,7 +5,7 @@ use native.Mathlib.Omega.{arith}
 use mathlib.Core.Path.{_≡_, refl, sym, ap, _∙_}
 use mathlib.Core.List.{List, [], _∷_, _++_, append-nil}
 use lib.ListN.{length, take, drop, getD, length-drop, length-append}
-use Rattle.cbor.specs.Refusals.{Result, ok, refuse, bind, Verdict, accepted, refused as refusedV, verdictOf, noSuchPath}
+use Rattle.cbor.specs.Refusals.{Result, ok, refuse, bind, accepted, refused as refusedV, verdictOf, noSuchPath}
 use Rattle.cbor.specs.Items.{Item, Items}
 use Rattle.cbor.specs.Encode.{encode, encodeAll}
 use Rattle.cbor.specs.Valid.{Bytes}
@@ -36,13 +36,14 @@ use Rattle.guided_walk.specs.GuidedAnswers.{WayThrough, IfFound, Through}
 use Rattle.guided_walk.specs.declared.Way.{Way}
 use Rattle.guided_walk.specs.declared.Guided.{Guided}
 use Rattle.guided_walk.specs.declared.Guided.the-variants.{Found as FoundWay}
-use Rattle.looking.specs.Answers.{Checks, Accepts, NotedTold, NotedAs, AllTold, AllNoted, TooLarge, Begun, partFound, locateRefused, locateTold, locateOf, Ordered, Parts}
+use Rattle.part.specs.PartAnswers.{partFound, locateRefused, locateTold, locateOf, Ordered, taken}
+use Rattle.part.proofs.Taking.{taken-is}
+use Rattle.looking.specs.Answers.{Checks, Accepts, NotedTold, NotedAs, AllTold, AllNoted, TooLarge, Begun, Parts}
 use Rattle.path.specs.declared.Cursor.{Cursor}
 use Rattle.looking.specs.declared.Noted.{Noted}
 use Rattle.looking.specs.declared.Noted.the-variants.{Refused as NotedRefused, Fewer, Behind}
-use Rattle.looking.specs.declared.Part.{Part}
-use Rattle.looking.specs.declared.Located.{Located}
-use Rattle.looking.specs.declared.Located.the-variants.{Part as PartV, Refused as PartRefused}
+use Rattle.part.specs.declared.Located.{Located}
+use Rattle.part.specs.declared.Located.the-variants.{Part as PartV, Refused as PartRefused}
 use Rattle.path.specs.declared.Trace.{Trace}
 use Rattle.path.specs.declared.Trace.the-variants.{At, Lost}
 use Rattle.path.proofs.Traces.{SoundAll, spotted, locate-place, locate-sound}
@@ -330,35 +331,9 @@ module _ {s path : List ℕ} {a : Guided} (t : Through s path a) where
 pub located : {s path : List ℕ} {r : Located} → Parts s path r → locateTold r ≡ locateOf (lookUp s path)
 located p = p .is
 
-none-of : (s : List ℕ) (e : Refusal) (v : Verdict Spot) → locateTold (PartRefused e) ≡ locateOf v → [] ≡ partOf s v
-unfolding locateTold locateOf partOf
-none-of s e (accepted z) h = let z : _≡_ {A = ℕ} 0 1 = cc in absurd (omega arith)
-none-of s e (refusedV n q) h = refl
+module _ {s path : List ℕ} {r : Located} (p : Parts s path r) where
+  pub look-ordered : Ordered s r
+  look-ordered = p .inside
 
-some-of : (s : List ℕ) (p : Part) (v : Verdict Spot) → locateTold (PartV p) ≡ locateOf v → take (p .end - p .start) (drop (p .start) s) ≡ partOf s v
-unfolding locateTold locateOf partOf
-some-of s p (accepted z) h =
-    let a : p .start ≡ start z = cc in
-    let b : p .end ≡ end z = cc in
-    λ j. take (b j - a j) (drop (a j) s)
-some-of s p (refusedV n q) h = let z : _≡_ {A = ℕ} 0 1 = cc in absurd (omega arith)
-
-module _ {s path : List ℕ} (r : Located) (p : Parts s path r) where
-  pub look-none : {e : Refusal} → r ≡ PartRefused e → take (0 - 0) (drop 0 s) ≡ partOf s (lookUp s path)
-  look-none f = none-of s _ (lookUp s path) (rw f at (p .is))
-
-  module _ {q : Part} (f : r ≡ PartV q) where
-    ordered : (q .start ≤ q .end) × (q .end ≤ length s)
-    unfolding Ordered
-    ordered = rw f at (p .inside)
-
-    pub look-order : q .start ≤ q .end
-    look-order = ordered .0
-
-    pub look-inside : q .end ≤ length s
-    look-inside = ordered .1
-
-    pub look-some : take (q .end - q .start) (drop (q .start) s) ≡ partOf s (lookUp s path)
-    look-some = some-of s q (lookUp s path) (rw f at (p .is))
-
-pub ruleset look-ways = (look-none, look-some)
+  pub look-taken : {w : List ℕ} → w ≡ taken s r → w ≡ partOf s (lookUp s path)
+  look-taken e = e ∙ taken-is s r (lookUp s path) (p .is)

@@ -3,11 +3,8 @@ use Prim.Native.Nat.{ℕ, _≤_}
 use mathlib.Core.Path.{_≡_}
 use mathlib.Core.List.{List}
 use lib.ListN.{length, drop}
-use Rattle.cbor.specs.Refusals.{Verdict, accepted, refused}
 use Rattle.cbor.specs.Valid.{Bytes}
 use Rattle.cbor.specs.Decode.{decode}
-use Rattle.cbor.specs.Paths.{Spot, start, end}
-use Rattle.refusal.specs.RefusalKinds.{kindNumber}
 use Rattle.walk_answer.specs.WalkAnswers.{passTold, walkAllOf}
 use Rattle.walk_answer.specs.declared.Passage.{Passage}
 use Rattle.walk_answer.specs.declared.Passed.{Passed}
@@ -18,8 +15,8 @@ use Rattle.path.specs.StepAnswers.{pastItems, Begins}
 use Rattle.looking.specs.declared.Noted.{Noted}
 use Rattle.looking.specs.declared.Noted.the-variants.{Refused as NotedRefused, Fewer, Behind}
 use Rattle.operations.specs.Operations.{lookUp}
-use Rattle.looking.specs.declared.Located.{Located}
-use Rattle.looking.specs.declared.Located.the-variants.{Part as PartV, Refused as PartRefused}
+use Rattle.part.specs.PartAnswers.{locateTold, locateOf, Ordered}
+use Rattle.part.specs.declared.Located.{Located}
 
 -- CHECKED BYTES
 
@@ -60,24 +57,7 @@ pub record Begun (s path : List ℕ) (i : ℕ) : Type 0 where
 
 -- LOCATE
 
--- where the part starts and ends; or a refusal's number and place, of 17 the failing step
-pub data LocateTold : Type 0 where
-  partFound : ℕ → ℕ → LocateTold
-  locateRefused : ℕ → ℕ → LocateTold
-
-unfoldable pub locateTold : Located → LocateTold
-locateTold (PartV p) = partFound (p .start) (p .end)
-locateTold (PartRefused e) = locateRefused (kindNumber (e .kind)) (e .place)
-
-unfoldable pub locateOf : Verdict Spot → LocateTold
-locateOf (accepted z) = partFound (start z) (end z)
-locateOf (refused n place) = locateRefused n place
-
--- the part is one of the bytes
-unfoldable pub Ordered : List ℕ → Located → Type 0
-Ordered s (PartV p) = (p .start ≤ p .end) × (p .end ≤ length s)
-Ordered s (PartRefused e) = Unit
-
+-- where the part at a path is, or the refusal; the part is one of the bytes
 pub record Parts (s path : List ℕ) (r : Located) : Type 0 where
   pub is : locateTold r ≡ locateOf (lookUp s path)
   pub inside : Ordered s r

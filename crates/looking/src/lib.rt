@@ -1,6 +1,10 @@
-// The part of bytes at a path.
+// The part of bytes at a path, looked up.
 use guided_walk::Guided;
 use guided_walk::walk_through;
+use part::Located;
+use part::between;
+use part::nowhere;
+use part::part_of;
 use path::Trace;
 use path::follow_from;
 use refusal::Refusal;
@@ -10,24 +14,8 @@ use walk_answer::Walked;
 ghost use mathlib.Core.Path.{_≡_};
 ghost use mathlib.Core.List.{[]};
 ghost use Rattle.operations.specs.Operations.{lookUp, partOf};
-ghost use Rattle.looking.specs.Answers.{Checks, TooLarge, AllNoted, NotedAs, Begun, locateTold, locateOf, Parts};
-
-// The bytes of an item: they start at `start` and end before `end`.
-pub struct Part {
-    pub start: usize,
-    pub end: usize,
-}
-
-pub enum Located {
-    Part(Part),
-    Refused(Refusal),
-}
-
-fn between(start: usize, end: usize) -> Located
-    ensures { λ r. ⌜ r ≡ Located.Part (record { start = start; end = end }) ⌝ }
-{
-    Located::Part(Part { start, end })
-}
+ghost use Rattle.part.specs.PartAnswers.{locateTold, locateOf};
+ghost use Rattle.looking.specs.Answers.{Checks, TooLarge, AllNoted, NotedAs, Begun, Parts};
 
 pub fn checked_all(bytes: &[u8]) -> Passed
     ensures { λ r. ⌜ Checks (now (bytes .entry)) r ⌝ }
@@ -91,15 +79,6 @@ fn check_noting(bytes: &[u8], k: u16) -> Noted
             }
         }
     }
-}
-
-fn nowhere(step: usize) -> Located
-    ensures { λ r. ⌜ r ≡ Located.Refused (record { kind = RefusalKind.NoSuchPath; place = step }) ⌝ }
-{
-    Located::Refused(Refusal {
-        kind: RefusalKind::NoSuchPath,
-        place: step,
-    })
 }
 
 // The part at a path whose top item would begin at a place, in bytes that were checked.
@@ -168,13 +147,5 @@ pub fn locate(bytes: &[u8], path: &[u16]) -> Located
 pub fn look_up<'a, 'b>(bytes: &'a [u8], path: &'b [u16]) -> &'a [u8]
     ensures { λ r. ⌜ now r ≡ partOf (now (bytes .entry)) (lookUp (now (bytes .entry)) (now (path .entry))) ⌝ }
 {
-    let found = part_at(bytes, path);
-    match found {
-        Located::Refused(_e) => &bytes[0..0],
-        Located::Part(p) => {
-            let start = p.start;
-            let end = p.end;
-            &bytes[start..end]
-        }
-    }
+    part_of(bytes, part_at(bytes, path))
 }

@@ -1,21 +1,19 @@
 -- What a correction comes to, before anything is written.
 -- Assumes nothing.
-use Prim.Native.Nat.{ℕ, zero, suc, _+_, _-_, _≤_, _<_, min}
+use Prim.Native.Nat.{ℕ, zero, suc, _-_, _≤_, _<_, min}
 use native.Mathlib.Omega.{arith}
-use mathlib.Core.Path.{_≡_, refl, sym, ap, _∙_}
+use mathlib.Core.Path.{_≡_, refl, sym, _∙_}
 use mathlib.Core.Bool.{Bool, true, false}
-use mathlib.Core.List.{List, [], _∷_, _++_, append-assoc}
+use mathlib.Core.List.{List, [], _∷_}
 use lib.Dec.{leb}
-use lib.ListN.{length, take, drop, length-append, length-take, take-append-drop}
-use lib.Seq.{take-at, drop-at}
-use borrow.Author.Tests.{le-leb, lt-leb, leb-true, leb-false}
+use lib.ListN.{length}
+use borrow.Author.Tests.{lt-leb}
 use Rattle.cbor.specs.Decode.{mostBytes, mostLevels}
-use Rattle.cbor.specs.Paths.{start, end}
 use Rattle.refusal.specs.declared.RefusalKind.the-variants.{NoRoom}
 use Rattle.notation.specs.Places.{levelsAt}
-use Rattle.operations.specs.Operations.{room, written, level, correction}
+use Rattle.operations.specs.Operations.{level}
 use Rattle.planning.specs.PlanAnswers.{lengthFor, PlanFor}
-use Rattle.looking.specs.declared.Part.{Part}
+use Rattle.part.specs.declared.Part.{Part}
 use Rattle.planning.specs.declared.Decision.{Decision}
 use Rattle.planning.specs.declared.Decision.the-variants.{Replace, Refused}
 

@@ -1,11 +1,10 @@
 // What is planned of a correction, and the writing.
-use looking::Part;
 use outcome::fits;
+use part::Part;
 use refusal::Refusal;
 use refusal::RefusalKind;
 ghost use mathlib.Core.Path.{_≡_};
-ghost use Prim.Native.Nat.{_≤_};
-ghost use lib.ListN.{length, take};
+ghost use lib.ListN.{take};
 ghost use Rattle.memory.specs.Buffer.{over};
 ghost use Rattle.operations.specs.Operations.{level, zeroed};
 ghost use Rattle.planning.specs.PlanAnswers.{splice, Bounded, PlanFor, Plans};
@@ -63,9 +62,10 @@ pub fn plan_for(p: Part, used: usize, size: usize, room: usize) -> Decision
     refuse(RefusalKind::NoRoom, 0)
 }
 
-// The bytes behind the item are moved once, the new ones come before them, and what is used no longer is zeroed.
-pub fn put(buffer: &mut [u8], used: usize, p: Plan, item: &[u8])
+// The bytes behind the item are moved once, the new ones come before them, and what is used no longer is zeroed. It answers the new length.
+pub fn put(buffer: &mut [u8], used: usize, p: Plan, item: &[u8]) -> usize
     requires { ⌜ Plans (now buffer) used (now item) p ⌝ }
+    ensures { λ r. ⌜ r ≡ p .length ⌝ }
     ensures { λ _. ⌜ now (buffer .exit) ≡ over (now (buffer .entry)) 0 (zeroed used (splice (now (buffer .entry)) used (p .start) (p .end) (take (p .size) (now (item .entry))))) ⌝ }
 {
     buffer::move_part(buffer, p.end, p.start + p.size, used - p.end);
@@ -73,4 +73,5 @@ pub fn put(buffer: &mut [u8], used: usize, p: Plan, item: &[u8])
     if p.length < used {
         buffer::zero(buffer, p.length, used - p.length);
     }
+    p.length
 }

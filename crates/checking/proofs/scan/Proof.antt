@@ -16,9 +16,7 @@ scan-spec =
     (λ c. search needs)  -- part-item-end
     (λ c κs. search needs)  -- item-requires
     (λ c κs. search needs)  -- item-after-requires
-    (λ c. search needs)  -- enum-known-walked
-    (λ c. search needs)  -- enum-known-walked-2
+    (λ c κs. search needs)  -- scan-by-requires
     (λ c. search scan-ways)  -- returns
     (λ c. search scan-ways)  -- returns-2
-    (λ c. search scan-ways)  -- returns-3
     )
