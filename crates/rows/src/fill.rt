@@ -1,11 +1,11 @@
 // Fills a buffer from the fields of a row: bytes and texts, and the steps of a path. Each function is given how much is filled, and
 // answers how much is filled then; where a field cannot be read, or has no room, that is FAILED, and stays so.
-use crate::compare::same;
 use crate::cut::FAILED;
 use crate::cut::field;
 use crate::cut::find;
 use crate::cut::number;
 use crate::cut::part;
+use crate::cut::same;
 ghost use Prim.Native.Nat.{_≤_, _<_};
 ghost use lib.ListN.{length};
 

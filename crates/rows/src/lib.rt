@@ -1,4 +1,3 @@
-// A row of examples: its fields cut out, turned into bytes, texts and paths, and compared with what came of them.
-pub mod compare;
+// A row of examples: its fields cut out, and turned into bytes, texts and paths.
 pub mod cut;
 pub mod fill;

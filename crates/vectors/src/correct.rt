@@ -2,37 +2,23 @@
 use crate::run::ask;
 use crate::run::gives;
 use edn::correct;
-use rows::compare::Reply;
-use rows::compare::lent;
-use rows::compare::refused;
-use rows::compare::same;
-use rows::compare::told;
+use row_checks::compare::Reply;
+use row_checks::compare::lent;
+use row_checks::compare::refused;
+use row_checks::compare::told;
+use row_checks::correction::corrected;
+use row_checks::correction::text_of;
 use rows::cut::FAILED;
 use rows::cut::field;
 use rows::cut::part;
+use rows::cut::same;
 use rows::cut::steps;
 use rows::fill::fill;
 use rows::fill::fill_field;
 use rows::fill::path;
-use rows::fill::put;
 
 fn ask_correct(buffer: &mut [u8], used: usize, path: &[u16], text: &[u8]) -> Reply {
     told(correct(buffer, used, path, text))
-}
-
-// Whether a buffer has the bytes of field number k up to a place, and those of field number m behind it.
-fn stands(buffer: &[u8], used: usize, line: &[u8], k: usize, m: usize) -> bool {
-    let mut want = io::large_buffer();
-    let first = fill_field(false, line, k, 0, &mut want);
-    let all = fill_field(false, line, m, first, &mut want);
-    first == used && all < FAILED && same(buffer, part(&want, 0, all))
-}
-
-fn corrected(t: Reply, buffer: &[u8], used: usize, line: &[u8]) -> bool {
-    if t.number == 0 {
-        return stands(buffer, t.at as usize, line, 5, 6);
-    }
-    refused(t, field(line, 5)) && stands(buffer, used, line, 1, 2)
 }
 
 // A used length over the buffer is refused, and then the correction itself is asked for.
@@ -63,21 +49,6 @@ fn corrects(line: &[u8], path: &[u16], text: &[u8]) -> bool {
     let used = fill_field(false, line, 1, 0, &mut out);
     let size = fill_field(false, line, 2, used, &mut out);
     corrects_at(line, used, size, &mut out, path, text)
-}
-
-// The old item of a text; or a blank, the new one and a blank.
-fn item_of(line: &[u8], edited: bool, n: usize, out: &mut [u8]) -> usize {
-    if !edited {
-        return fill_field(true, line, 2, n, out);
-    }
-    let m = fill_field(true, line, 5, put(b' ', n, out), out);
-    put(b' ', m, out)
-}
-
-// A text with its old item, or with the new one.
-fn text_of(line: &[u8], edited: bool, out: &mut [u8]) -> usize {
-    let n = item_of(line, edited, fill_field(true, line, 1, 0, out), out);
-    fill_field(true, line, 3, n, out)
 }
 
 // The edited text is read as the bytes that were corrected, or refused where the correction was.

@@ -1,5 +1,9 @@
 // Goes through the lines: comments, groups and rows.
 use crate::run::run;
+use row_checks::count::one_if;
+use row_checks::count::say_wrong;
+use row_checks::count::show;
+use row_checks::count::sum;
 use rows::cut::find;
 use rows::cut::part;
 use rows::cut::pieces;
@@ -10,36 +14,6 @@ struct Tally {
     right: u64,
     wrong: u64,
     end: usize,
-}
-
-// Tally stop at a million.
-fn sum(a: u64, b: u64) -> u64 {
-    if a < 1000000 {
-        if b < 1000000 {
-            return a + b;
-        }
-    }
-    1000000
-}
-
-fn one_if(a: u8, b: u8) -> u64 {
-    if a == b { 1 } else { 0 }
-}
-
-// A line: what the group is, and its counts.
-fn show(name: &[u8], right: u64, wrong: u64) {
-    io::write_all(1, name);
-    io::write_all(1, b": ");
-    io::print_decimal(1, right);
-    io::write_all(1, b" right, ");
-    io::print_decimal(1, wrong);
-    io::write_all(1, b" wrong\n");
-}
-
-fn say_wrong(number: usize) {
-    io::write_all(1, b"line ");
-    io::print_decimal(1, number as u64);
-    io::write_all(1, b": wrong\n");
 }
 
 // What a line is: 0 a comment, 1 a row that is right, 2 one that is wrong, 3 the first line of a group.

@@ -1,27 +1,35 @@
 // Runs one row, and says whether it came out right.
 use crate::correct::with_path;
 use edn::Checked;
-use edn::ItemAt;
 use edn::Located;
 use edn::Scanned;
 use edn::print;
 use edn::read;
-use rows::compare::Reply;
-use rows::compare::denied;
-use rows::compare::equal;
-use rows::compare::equals;
-use rows::compare::is_refusal;
-use rows::compare::lent;
-use rows::compare::refused;
-use rows::compare::same;
-use rows::compare::told;
-use rows::compare::told_refusal;
-use rows::compare::wrote;
+use row_checks::compare::Reply;
+use row_checks::compare::denied;
+use row_checks::compare::is_refusal;
+use row_checks::compare::lent;
+use row_checks::compare::refused;
+use row_checks::compare::told;
+use row_checks::compare::told_refusal;
+use row_checks::compare::wrote;
+use row_checks::item::is_item;
+use row_checks::item::is_part;
+use row_checks::kind::BACK;
+use row_checks::kind::CHECK;
+use row_checks::kind::CORRECT;
+use row_checks::kind::LOOK;
+use row_checks::kind::PRINT;
+use row_checks::kind::READ;
+use row_checks::kind::SCAN;
+use row_checks::kind::takes_text;
+use row_checks::kind::width;
 use rows::cut::FAILED;
 use rows::cut::field;
 use rows::cut::number;
 use rows::cut::part;
 use rows::cut::pieces;
+use rows::cut::same;
 use rows::cut::steps;
 use rows::cut::word;
 use rows::fill::fill;
@@ -84,11 +92,6 @@ fn checks(bytes: &[u8], expected: &[u8]) -> bool {
     }
 }
 
-// Whether a part starts and ends as a field says, and is what `look_up` returned.
-fn is_part(bytes: &[u8], start: usize, end: usize, found: &[u8], expected: &[u8]) -> bool {
-    equal(start as u64, end as u64, b'-', expected) && same(found, part(bytes, start, end))
-}
-
 fn looks(bytes: &[u8], path: &[u16], expected: &[u8]) -> bool {
     let found = edn::look_up(bytes, path);
     let l = edn::locate(bytes, path);
@@ -104,14 +107,6 @@ fn row_look(line: &[u8], bytes: &[u8], expected: &[u8]) -> bool {
     n < FAILED && looks(bytes, steps(&space, n), expected)
 }
 
-fn is_item(i: ItemAt, line: &[u8]) -> bool {
-    equals(i.major as u64, field(line, 3))
-        && equals(i.info as u64, field(line, 4))
-        && equals(i.argument, field(line, 5))
-        && equals(i.content as u64, field(line, 6))
-        && equals(i.end as u64, field(line, 7))
-}
-
 fn scans(line: &[u8], bytes: &[u8], at: usize, expected: &[u8]) -> bool {
     let s = edn::scan(bytes, at);
     match s {
@@ -123,48 +118,6 @@ fn scans(line: &[u8], bytes: &[u8], at: usize, expected: &[u8]) -> bool {
 fn row_scan(line: &[u8], bytes: &[u8], expected: &[u8]) -> bool {
     let at = number(field(line, 2));
     at < FAILED && scans(line, bytes, at, expected)
-}
-
-// The kinds of rows, as `word` has them.
-const READ: u64 = 0x72656164;
-
-const PRINT: u64 = 0x7072696e74;
-
-const BACK: u64 = 0x6261636b;
-
-const CHECK: u64 = 0x636865636b;
-
-const LOOK: u64 = 0x6c6f6f6b;
-
-const SCAN: u64 = 0x7363616e;
-
-const CORRECT: u64 = 0x636f7272656374;
-
-const EDIT: u64 = 0x65646974;
-
-// How many fields a row has; one that is refused may have fewer.
-fn width(kind: u64, refused: bool) -> usize {
-    match kind {
-        BACK => 2,
-        READ => 3,
-        PRINT => 3,
-        CHECK => 3,
-        LOOK => 4,
-        SCAN => {
-            if refused {
-                return 4;
-            }
-            8
-        }
-        CORRECT => {
-            if refused {
-                return 6;
-            }
-            7
-        }
-        EDIT => 7,
-        _ => 0,
-    }
 }
 
 // A row whose first field gave the input. The last says what is expected.
@@ -179,10 +132,6 @@ fn run_of(kind: u64, line: &[u8], input: &[u8], expected: &[u8]) -> bool {
         CORRECT => with_path(line, false, field(line, 3), field(line, 4)),
         _ => with_path(line, true, field(line, 4), field(line, 5)),
     }
-}
-
-fn takes_text(kind: u64) -> bool {
-    kind == READ || kind == EDIT
 }
 
 fn run_row(kind: u64, line: &[u8], expected: &[u8]) -> bool {

@@ -1,8 +1,9 @@
 // Compares what came out with what a row says.
-use crate::cut::find;
-use crate::cut::part;
 use outcome::Answer;
 use refusal::Refusal;
+use rows::cut::find;
+use rows::cut::part;
+use rows::cut::same;
 ghost use mathlib.Core.Path.{_≡_};
 ghost use lib.ListN.{length};
 
@@ -28,20 +29,6 @@ pub fn told(a: Answer) -> Reply {
             at: n as u64,
         },
     }
-}
-
-pub fn same(a: &[u8], b: &[u8]) -> bool {
-    if a.len() != b.len() {
-        return false;
-    }
-    let mut i: usize = 0;
-    while i < a.len() {
-        if a[i] != b[i] {
-            return false;
-        }
-        i += 1;
-    }
-    true
 }
 
 // What stands in a buffer that is lent, before a call.

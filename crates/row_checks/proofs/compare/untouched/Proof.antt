@@ -1,7 +1,7 @@
--- `rows::compare::untouched` meets its contract.
+-- `row_checks::compare::untouched` meets its contract.
 -- Assumes nothing.
-use Rattle.rows.proofs.compare.untouched.Statement.{statement}
-use Rattle.rows.proofs.compare.untouched.Tie as tie
+use Rattle.row_checks.proofs.compare.untouched.Statement.{statement}
+use Rattle.row_checks.proofs.compare.untouched.Tie as tie
 use borrow.Author.Needs.{needs}
 use Prim.Native.Nat.{_-_}
 use lib.ListN.{length}

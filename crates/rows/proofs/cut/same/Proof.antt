@@ -1,7 +1,7 @@
--- `rows::compare::same` meets its contract.
+-- `rows::cut::same` meets its contract.
 -- Assumes nothing.
-use Rattle.rows.proofs.compare.same.Statement.{statement}
-use Rattle.rows.proofs.compare.same.Tie as tie
+use Rattle.rows.proofs.cut.same.Statement.{statement}
+use Rattle.rows.proofs.cut.same.Tie as tie
 use borrow.Author.Needs.{needs}
 use Prim.Native.Nat.{_-_, _≤_}
 use lib.ListN.{length}
