@@ -26,7 +26,7 @@ use Rattle.notation.specs.Alone.{plus}
 use Rattle.notation.proofs.MarkedText.{marked-length}
 use Rattle.encoding.specs.ReadAnswers.{Wrote, ReadTold, ofItem}
 use Rattle.encoding.proofs.Wrote.{wrote-held}
-use Rattle.one_item.proofs.ReadOne.{one-accepted, one-denied}
+use Rattle.correcting.proofs.ReadOne.{one-accepted, one-denied}
 use Rattle.encoding.specs.declared.answer.MadeItem.{MadeItem as MadeS}
 use Rattle.encoding.specs.declared.answer.ReadAnswer.{ReadAnswer}
 use Rattle.encoding.specs.declared.answer.ReadAnswer.the-variants.{Made as ReadMade, Refused as ReadRefused}

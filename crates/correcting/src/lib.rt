@@ -1,7 +1,9 @@
 // One item of bytes replaced by the item that a text spells: first what would come of it, with nothing written; then the writing.
+mod one_item;
+
+use crate::one_item::read_one;
 use encoding::answer::ReadAnswer;
 use looking::locate;
-use one_item::read_one;
 use outcome::Answer;
 use outcome::fits;
 use outcome::turns_for;

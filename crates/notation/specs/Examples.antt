@@ -104,6 +104,7 @@ textExamples =
     ∷ refuses "65(h'010203')" 13 0
     -- correct's text has no blank outside its item
     ∷ refusesItem "2 " 11 1
+    ∷ refusesItem " 2" 11 0
     -- the printed layout: an indicator where a head is not the shortest, and a blank behind it
     ∷ prints (0x98 ∷ 0x00 ∷ []) "[_0 ]\n"
     -- an item runs from its first token to its last, here the value of a pair

@@ -23,7 +23,7 @@ use Rattle.token.specs.TokenAnswers.{Took}
 use Rattle.token.specs.declared.Token.{Token as Cut}
 use Rattle.scanning.proofs.Marked.{length-marked, at-end, stands-left, stands-at}
 use Rattle.encoding.specs.ReadAnswers.{Wrote, Room, ofItem, ReadTold, Denies, Strayed}
-use Rattle.one_item.specs.OneAnswers.{Behind}
+use Rattle.correcting.specs.OneAnswers.{Behind}
 use Rattle.encoding.specs.declared.answer.MadeItem.{MadeItem as MadeS}
 use Rattle.encoding.specs.declared.answer.ReadAnswer.{ReadAnswer}
 use Rattle.encoding.specs.declared.answer.ReadAnswer.the-variants.{Made, Refused}

@@ -1,10 +1,10 @@
--- `one_item::alone` meets its contract.
+-- `correcting::one_item::alone` meets its contract.
 -- Assumes nothing.
 use borrow.Author.Needs.{needs}
 use Rattle.refusal.specs.RefusalKinds.{kindNumber}
-use Rattle.one_item.proofs.ReadOne.{behind-ways}
-use Rattle.one_item.proofs.alone.Statement.{statement}
-use Rattle.one_item.proofs.alone.Tie as tie
+use Rattle.correcting.proofs.ReadOne.{behind-ways}
+use Rattle.correcting.proofs.one_item.alone.Statement.{statement}
+use Rattle.correcting.proofs.one_item.alone.Tie as tie
 
 pub alone-spec : {M : Type 1} → statement M
 unfolding kindNumber

@@ -1,11 +1,11 @@
--- `one_item::read_one` meets its contract.
+-- `correcting::one_item::read_one` meets its contract.
 -- Assumes nothing.
 use borrow.Author.Needs.{needs}
 use Rattle.refusal.specs.RefusalKinds.{kindNumber}
 use Rattle.encoding.proofs.Telling.{made-inside}
-use Rattle.one_item.proofs.ReadOne.{one-room, one-ways}
-use Rattle.one_item.proofs.read_one.Statement.{statement}
-use Rattle.one_item.proofs.read_one.Tie as tie
+use Rattle.correcting.proofs.ReadOne.{one-room, one-ways}
+use Rattle.correcting.proofs.one_item.read_one.Statement.{statement}
+use Rattle.correcting.proofs.one_item.read_one.Tie as tie
 
 pub read-one-spec : {M : Type 1} → statement M
 unfolding kindNumber

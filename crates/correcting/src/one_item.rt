@@ -13,7 +13,7 @@ ghost use Rattle.cbor.specs.Decode.{mostBytes};
 ghost use Rattle.notation.specs.Reading.{marked, single};
 ghost use Rattle.notation.specs.Alone.{plus};
 ghost use Rattle.encoding.specs.ReadAnswers.{ReadTold, ofItem};
-ghost use Rattle.one_item.specs.OneAnswers.{Behind};
+ghost use Rattle.correcting.specs.OneAnswers.{Behind};
 
 // The answer for an item that was read: what stands behind it may not stand there.
 fn alone(text: &[u8], levels: usize, m: MadeItem) -> ReadAnswer
@@ -31,7 +31,7 @@ fn alone(text: &[u8], levels: usize, m: MadeItem) -> ReadAnswer
 }
 
 // One item that is the whole text, with some levels left, its bytes at the front of the buffer, if they fit.
-pub fn read_one(text: &[u8], levels: usize, buf: &mut [u8]) -> ReadAnswer
+pub(crate) fn read_one(text: &[u8], levels: usize, buf: &mut [u8]) -> ReadAnswer
     requires { ⌜ length (now text) ≤ mostBytes ⌝ }
     ensures { λ r. ⌜ ReadTold ofItem (now (text .entry)) (now (buf .entry)) (now (buf .exit)) (length (marked (now (text .entry)))) 0 r (plus (single levels (now (text .entry)))) ⌝ }
 {
