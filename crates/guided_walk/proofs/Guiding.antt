@@ -4,7 +4,7 @@ use Prim.Native.Nat.{ℕ, zero, suc, _+_, _-_, _*_, _/_, _%_, _^_, _≤_, _<_, m
 use native.Mathlib.Omega.{arith}
 use mathlib.Core.Path.{_≡_, refl, sym, ap, _∙_}
 use mathlib.Core.Bool.{Bool, true, false}
-use mathlib.Core.List.{List, [], _∷_}
+use mathlib.Core.List.{List, []}
 use lib.ListN.{length, take, drop, getD}
 use borrow.Author.Tests.{eq-eqb, ne-eqb}
 use mir.Syntax.{w8}
@@ -24,6 +24,7 @@ use Rattle.walk_answer.specs.declared.Passage.{Passage}
 use Rattle.walk_answer.specs.declared.Passed.{Passed}
 use Rattle.walk_answer.specs.declared.Passed.the-variants.{Span as SpanV}
 use Rattle.walk_answer.proofs.Leaves.{Left}
+use Rattle.walk_answer.proofs.Slices.{bytes-of}
 use Rattle.walk_answer.proofs.WalkCycle.{reached, tail-is, all-leaves, all-one, all-double}
 use Rattle.walk_parts.proofs.WalkItems.{all-told}
 use Rattle.path.specs.Following.{Place, at, onto, behindOne, pastOne, stepTo, standing, nthFrom, childBy, childIn, numbered, followFrom, trace}
@@ -34,12 +35,6 @@ use Rattle.guided_walk.specs.declared.Guided.{Guided}
 use Rattle.guided_walk.specs.declared.Guided.the-variants.{Found, Unknown}
 use Rattle.path.proofs.Stepping.{left-of, lessBy, less-mode, pastSome, skip, Got, got, mode-is, child-is}
 use Rattle.guided_walk.proofs.Joining.{all-over, all-on, Last, last-of, not-ended, all-join, all-raised, array-one, map-one}
-
--- every element of a slice of bytes is a byte
-pub bytes-of : (s : List ℕ) → ((i : ℕ) → Fits w8 (getD s i 0)) → Bytes s
-unfolding Bytes
-bytes-of [] h = tt
-bytes-of (b ∷ s) h = (h 0 .fits, bytes-of s (λ i. h (suc i)))
 
 -- PAST ITEMS
 

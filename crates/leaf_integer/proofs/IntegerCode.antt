@@ -27,8 +27,8 @@ use Rattle.leaf_written.specs.LeafTexts.{Room, LeafTold}
 use Rattle.leaf_written.specs.declared.Written.{Written}
 use Rattle.leaf_written.proofs.LayCode.{laid-set, laid-more, laid-as, laid-drop}
 use Rattle.leaf_written.proofs.LeafCode.{low-information, indicator-none, shortest-0, shortest-1, shortest-2, shortest-4, argumentIn, item-plain, told-leaf}
-use Rattle.leaf_digits.specs.Digits.{tailOf}
-use Rattle.leaf_digits.proofs.DigitCode.{decimal-tail}
+use Rattle.leaf_integer.specs.Digits.{tailOf}
+use Rattle.leaf_integer.proofs.DigitCode.{decimal-tail}
 use Rattle.leaf_integer.specs.IntegerParts.{minusOf, More, Valued}
 
 -- THE SIGN

@@ -1,1 +1,2 @@
-pub mod IntegerCode
+mod DigitCode
+mod IntegerCode

@@ -1,8 +1,10 @@
 // The text of integers of up to 32 bits, whose heads are the shortest.
-use leaf_digits::billions;
-use leaf_digits::hundreds;
-use leaf_digits::ten_thousands;
-use leaf_digits::tens;
+mod digits;
+
+use crate::digits::billions;
+use crate::digits::hundreds;
+use crate::digits::ten_thousands;
+use crate::digits::tens;
 use leaf_written::Written;
 use leaf_written::none;
 use leaf_written::up_to;

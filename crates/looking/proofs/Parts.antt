@@ -27,7 +27,7 @@ use Rattle.cbor.proofs.Paths.{part-at-path}
 use Rattle.walk_answer.proofs.Leaves.{Left}
 use Rattle.walk_answer.proofs.WalkCycle.{Reached, reached, tail-is, after-told, all-leaves, all-one, all-rest}
 use Rattle.walk_parts.proofs.WalkItems.{item-told, all-long, all-short}
-use Rattle.guided_walk.proofs.Guiding.{bytes-of}
+use Rattle.walk_answer.proofs.Slices.{bytes-of}
 use Rattle.path.proofs.Stepping.{trace-none, trace-few, items-not, items-behind}
 use Rattle.operations.specs.Operations.{itemsOf, andThen, spotOf, lookUp, partOf}
 use Rattle.path.specs.Following.{at, astray, trace}

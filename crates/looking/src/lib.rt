@@ -17,7 +17,7 @@ ghost use Rattle.operations.specs.Operations.{lookUp, partOf};
 ghost use Rattle.part.specs.PartAnswers.{locateTold, locateOf};
 ghost use Rattle.looking.specs.Answers.{Checks, TooLarge, AllNoted, NotedAs, Begun, Parts};
 
-pub fn checked_all(bytes: &[u8]) -> Passed
+fn checked_all(bytes: &[u8]) -> Passed
     ensures { λ r. ⌜ Checks (now (bytes .entry)) r ⌝ }
 {
     walk::walk_all(bytes)

@@ -3,7 +3,7 @@
 use mathlib.Core.Path.{_≡_, refl, sym, ap, _∙_}
 use mathlib.Core.Bool.{Bool, true, false}
 use mathlib.Core.List.{List, [], _∷_, _++_}
-use Prim.Native.Nat.{ℕ, suc, _+_, _-_, _^_, _<_}
+use Prim.Native.Nat.{ℕ, _+_, _-_, _^_, _<_}
 use native.Mathlib.Omega.{arith}
 use lib.Dec.{leb}
 use lib.ListN.{length, drop, getD, length-append}
@@ -14,7 +14,6 @@ use Rattle.cbor.specs.Refusals.{ok, refuse}
 use Rattle.memory.specs.Buffer.{clipped}
 use Rattle.cbor.specs.Items.{Items, none, more}
 use Rattle.cbor.specs.Encode.{encodeAll}
-use Rattle.cbor.specs.Valid.{Bytes}
 use Rattle.cbor.specs.Decode.{ended, stepAt, severalBy, severalWithin, several, elements, item, decode, mostBytes, mostLevels}
 use Rattle.cbor.specs.Theorems.{Decoded}
 use Rattle.memory.proofs.Buffer.{clipped-nil}
@@ -26,15 +25,10 @@ use Rattle.text_output.specs.PrintParts.{Prints}
 use Rattle.printer.specs.PrintAnswers.{printOneOf, printAllOf, joined, PrintTold, PrintedAll}
 use Rattle.printer.specs.declared.Printed.{Printed}
 use Rattle.text_output.proofs.PrintLeaves.{prints-more, prints-as}
+use Rattle.walk_answer.proofs.Slices.{bytes-of}
 use Rattle.printer.proofs.PrintSeveral.{mapped-is, several-as}
 use Rattle.printer.proofs.PrintCycle.{itemTexts, all-joined}
 use Rattle.printer.proofs.PrintBounds.{all-length}
-
--- the bytes of a slice are bytes
-pub bytes-of : (s : List ℕ) → ((i : ℕ) → Fits bits8 (getD s i 0)) → Bytes s
-unfolding Bytes
-bytes-of [] g = tt
-bytes-of (b ∷ s) g = (let u = g 0 in omega (arith, u), bytes-of s (λ i. g (suc i)))
 
 elements-of : (s : List ℕ) {xs : Items} → decode s ≡ ok xs [] → elements (item mostLevels) ended s ≡ ok xs []
 unfolding decode

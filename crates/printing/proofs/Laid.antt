@@ -6,7 +6,9 @@ use mathlib.Core.Path.{_≡_, refl, sym, ap, _∙_}
 use mathlib.Core.Bool.{Bool, true, false}
 use mathlib.Core.List.{List, []}
 use lib.Dec.{leb}
-use lib.ListN.{length, take}
+use lib.ListN.{length, take, getD}
+use mir.Syntax.{w8}
+use mir.Val.{Fits}
 use Rattle.cbor.specs.Refusals.{Result, ok, refuse, verdictOf}
 use Rattle.cbor.specs.Items.{Items}
 use Rattle.cbor.specs.Decode.{decode}
@@ -25,7 +27,7 @@ use Rattle.printer.specs.PrintAnswers.{PrintedAll}
 use Rattle.operations.specs.Operations.{written, itemsOf, textOf, andThen, print}
 use Rattle.cbor.specs.Valid.{Bytes}
 use Rattle.cbor.proofs.EncodeDecode.{encode-of-decode}
-use Rattle.looking.specs.Answers.{Checks}
+use Rattle.walk_answer.proofs.Slices.{bytes-of}
 use Rattle.outcome.specs.Outcomes.{outcomeOf, laid, Refuses}
 use Rattle.printing.specs.PrintOutcomes.{TextSize, Lays, AtOnce}
 use Rattle.outcome.specs.declared.Answer.{Answer}
@@ -67,14 +69,14 @@ print-yes s b b′ r m (ok xs q) u d h l =
     rw (d, print) w
 print-yes s b b′ r m (refuse k q) u d h l = let z : _≡_ {A = ℕ} 0 1 = cc in absurd (omega arith)
 
-module _ {s : List ℕ} (b : List ℕ) {a : Passed} (ch : Checks s a) where
+module _ (s b : List ℕ) {a : Passed} (told : passTold a ≡ walkAllOf (length s) (decode s)) where
   pub print-refused : {e : Refusal} → a ≡ RefusedV e → outcomeOf (Refused e) b ≡ print s b
   unfolding walkAllOf
-  print-refused {e} h = print-no s b e (decode s) refl (rw h at (ch .is))
+  print-refused {e} h = print-no s b e (decode s) refl (rw h at told)
 
-  pub print-done : {m : Passage} {b′ : List ℕ} {r : Answer} → a ≡ SpanV m → Lays s b b′ r → outcomeOf r b′ ≡ print s b
+  pub print-done : {m : Passage} {b′ : List ℕ} {r : Answer} → ((i : ℕ) → Fits w8 (getD s i 0)) → a ≡ SpanV m → Lays s b b′ r → outcomeOf r b′ ≡ print s b
   unfolding walkAllOf
-  print-done {m} h l = print-yes s b _ _ m (decode s) (ch .bytes) refl (rw h at (ch .is)) l
+  print-done {m} g h l = print-yes s b _ _ m (decode s) (bytes-of s g) refl (rw h at told) l
 
 pub ruleset whole-ways = (print-refused, print-done)
 

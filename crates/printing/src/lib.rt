@@ -35,7 +35,7 @@ fn lay(bytes: &[u8], out: &mut [u8]) -> Answer
 fn whole(bytes: &[u8], out: &mut [u8]) -> Answer
     ensures { λ r. ⌜ outcomeOf r (now (out .exit)) ≡ print (now (bytes .entry)) (now (out .entry)) ⌝ }
 {
-    let all = looking::checked_all(bytes);
+    let all = walk::walk_all(bytes);
     match all {
         Passed::Refused(e) => Answer::Refused(e),
         Passed::Span(_m) => lay(bytes, out),

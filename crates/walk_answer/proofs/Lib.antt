@@ -3,3 +3,4 @@ pub mod ItemLeaves
 pub mod Turns
 pub mod AnswerCode
 pub mod WalkCycle
+pub mod Slices

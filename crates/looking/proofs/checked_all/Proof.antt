@@ -3,7 +3,7 @@
 use borrow.Author.Needs.{needs}
 use Rattle.looking.proofs.checked_all.Statement.{statement}
 use Rattle.looking.proofs.checked_all.Tie as tie
-use Rattle.guided_walk.proofs.Guiding.{bytes-of}
+use Rattle.walk_answer.proofs.Slices.{bytes-of}
 
 pub checked-all-spec : {M : Type 1} → statement M
 checked-all-spec =

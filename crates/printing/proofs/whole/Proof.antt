@@ -8,7 +8,7 @@ use Rattle.printing.proofs.Laid.{whole-ways}
 pub whole-spec : {M : Type 1} → statement M
 whole-spec =
     tie.close (tie.spec
-    (λ c κs. search needs)  -- checked-all-requires
+    (λ c κs. search needs)  -- walk-all-requires
     (λ c. search needs)  -- enum-known-all
     (λ c. search needs)  -- enum-known-all-2
     (λ c κs. search needs)  -- lay-requires

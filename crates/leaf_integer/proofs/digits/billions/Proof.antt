@@ -1,7 +1,7 @@
 use borrow.Author.Needs.{needs}
-use Rattle.leaf_digits.proofs.DigitCode.{tail-more}
-use Rattle.leaf_digits.proofs.billions.Statement.{statement}
-use Rattle.leaf_digits.proofs.billions.Tie as tie
+use Rattle.leaf_integer.proofs.DigitCode.{tail-more}
+use Rattle.leaf_integer.proofs.digits.billions.Statement.{statement}
+use Rattle.leaf_integer.proofs.digits.billions.Tie as tie
 
 pub billions-spec : {M : Type 1} → statement M
 billions-spec =

@@ -1,8 +1,8 @@
 use borrow.Author.Needs.{needs}
 use native.Mathlib.Omega.{arith}
-use Rattle.leaf_digits.proofs.DigitCode.{digit-ways}
-use Rattle.leaf_digits.proofs.digit.Statement.{statement}
-use Rattle.leaf_digits.proofs.digit.Tie as tie
+use Rattle.leaf_integer.proofs.DigitCode.{digit-ways}
+use Rattle.leaf_integer.proofs.digits.digit.Statement.{statement}
+use Rattle.leaf_integer.proofs.digits.digit.Tie as tie
 
 pub digit-spec : {M : Type 1} → statement M
 digit-spec =

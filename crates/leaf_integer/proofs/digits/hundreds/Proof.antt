@@ -1,7 +1,7 @@
 use borrow.Author.Needs.{needs}
-use Rattle.leaf_digits.proofs.DigitCode.{tail-more}
-use Rattle.leaf_digits.proofs.hundreds.Statement.{statement}
-use Rattle.leaf_digits.proofs.hundreds.Tie as tie
+use Rattle.leaf_integer.proofs.DigitCode.{tail-more}
+use Rattle.leaf_integer.proofs.digits.hundreds.Statement.{statement}
+use Rattle.leaf_integer.proofs.digits.hundreds.Tie as tie
 
 pub hundreds-spec : {M : Type 1} → statement M
 hundreds-spec =

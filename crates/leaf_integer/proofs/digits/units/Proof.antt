@@ -1,7 +1,7 @@
 use borrow.Author.Needs.{needs}
-use Rattle.leaf_digits.proofs.DigitCode.{units-laid}
-use Rattle.leaf_digits.proofs.units.Statement.{statement}
-use Rattle.leaf_digits.proofs.units.Tie as tie
+use Rattle.leaf_integer.proofs.DigitCode.{units-laid}
+use Rattle.leaf_integer.proofs.digits.units.Statement.{statement}
+use Rattle.leaf_integer.proofs.digits.units.Tie as tie
 
 pub units-spec : {M : Type 1} → statement M
 units-spec =

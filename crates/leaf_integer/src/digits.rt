@@ -2,7 +2,7 @@
 ghost use Prim.Native.Nat.{_+_, _≤_, _<_};
 ghost use lib.ListN.{length};
 ghost use Rattle.leaf_written.specs.Laying.{Laid};
-ghost use Rattle.leaf_digits.specs.Digits.{digitOf, tailOf};
+ghost use Rattle.leaf_integer.specs.Digits.{digitOf, tailOf};
 
 // The last digit of a number.
 fn units(n: u64, out: &mut [u8], pos: usize) -> usize
@@ -26,7 +26,7 @@ fn digit(q: u64, out: &mut [u8], pos: usize) -> usize
     pos + 1
 }
 
-pub fn tens(n: u64, out: &mut [u8], pos: usize) -> usize
+pub(crate) fn tens(n: u64, out: &mut [u8], pos: usize) -> usize
     requires { ⌜ pos + 1 < length (now out) ⌝ }
     ensures { λ r. ⌜ Laid (now (out .entry)) (now (out .exit)) pos (tailOf 1 n) r ⌝ }
 {
@@ -34,7 +34,7 @@ pub fn tens(n: u64, out: &mut [u8], pos: usize) -> usize
     units(n, out, p)
 }
 
-pub fn hundreds(n: u64, out: &mut [u8], pos: usize) -> usize
+pub(crate) fn hundreds(n: u64, out: &mut [u8], pos: usize) -> usize
     requires { ⌜ pos + 2 < length (now out) ⌝ }
     ensures { λ r. ⌜ Laid (now (out .entry)) (now (out .exit)) pos (tailOf 2 n) r ⌝ }
 {
@@ -42,7 +42,7 @@ pub fn hundreds(n: u64, out: &mut [u8], pos: usize) -> usize
     tens(n, out, p)
 }
 
-pub fn ten_thousands(n: u64, out: &mut [u8], pos: usize) -> usize
+pub(crate) fn ten_thousands(n: u64, out: &mut [u8], pos: usize) -> usize
     requires { ⌜ pos + 4 < length (now out) ⌝ }
     ensures { λ r. ⌜ Laid (now (out .entry)) (now (out .exit)) pos (tailOf 4 n) r ⌝ }
 {
@@ -61,7 +61,7 @@ fn ten_millions(n: u64, out: &mut [u8], pos: usize) -> usize
     ten_thousands(n, out, e)
 }
 
-pub fn billions(n: u64, out: &mut [u8], pos: usize) -> usize
+pub(crate) fn billions(n: u64, out: &mut [u8], pos: usize) -> usize
     requires { ⌜ pos + 9 < length (now out) ⌝ }
     ensures { λ r. ⌜ Laid (now (out .entry)) (now (out .exit)) pos (tailOf 9 n) r ⌝ }
 {

@@ -1,7 +1,7 @@
 use borrow.Author.Needs.{needs}
-use Rattle.leaf_digits.proofs.DigitCode.{tail-more}
-use Rattle.leaf_digits.proofs.tens.Statement.{statement}
-use Rattle.leaf_digits.proofs.tens.Tie as tie
+use Rattle.leaf_integer.proofs.DigitCode.{tail-more}
+use Rattle.leaf_integer.proofs.digits.tens.Statement.{statement}
+use Rattle.leaf_integer.proofs.digits.tens.Tie as tie
 
 pub tens-spec : {M : Type 1} → statement M
 tens-spec =

@@ -1,7 +1,7 @@
 use borrow.Author.Needs.{needs}
-use Rattle.leaf_digits.proofs.DigitCode.{tail-more}
-use Rattle.leaf_digits.proofs.ten_thousands.Statement.{statement}
-use Rattle.leaf_digits.proofs.ten_thousands.Tie as tie
+use Rattle.leaf_integer.proofs.DigitCode.{tail-more}
+use Rattle.leaf_integer.proofs.digits.ten_thousands.Statement.{statement}
+use Rattle.leaf_integer.proofs.digits.ten_thousands.Tie as tie
 
 pub ten-thousands-spec : {M : Type 1} → statement M
 ten-thousands-spec =

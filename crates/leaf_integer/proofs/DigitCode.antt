@@ -12,7 +12,7 @@ use Rattle.notation.specs.Printing.{decimalOf}
 use Rattle.decimal_output.proofs.DecimalCode.{decimal-one, decimal-more}
 use Rattle.leaf_written.specs.Laying.{Laid}
 use Rattle.leaf_written.proofs.LayCode.{laid-set, laid-more, laid-as, laid-drop}
-use Rattle.leaf_digits.specs.Digits.{digitOf, tailOf}
+use Rattle.leaf_integer.specs.Digits.{digitOf, tailOf}
 
 -- the digits of q; none of 0
 unfoldable frontOf : ℕ → List ℕ
