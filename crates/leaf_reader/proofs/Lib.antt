@@ -1,1 +1,2 @@
 pub mod StartCode
+mod TokenCode

@@ -1,4 +1,8 @@
 // Leaves, read and written at once: first as they are mostly written, then as they seldom are. What is neither is left to the token cutter.
+mod by_token;
+
+use crate::by_token::other_integer;
+use crate::by_token::simple_value;
 use leaf_answer::Found;
 use leaf_answer::LeafRead;
 use leaf_answer::again;
@@ -13,8 +17,6 @@ use plain_leaf::word::word;
 use plain_string::string::hexadecimal;
 use plain_string::string::quoted;
 use scanning::scan::next_is;
-use token_leaf::other_integer;
-use token_leaf::simple_value;
 ghost use Rattle.leaf_answer.specs.LeafAnswers.{LeafTold};
 ghost use Rattle.leaf_reader.specs.Starts.{StartsAs};
 

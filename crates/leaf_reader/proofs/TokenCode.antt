@@ -43,7 +43,7 @@ use Rattle.decimals.specs.DigitParts.{DigitThere}
 use Rattle.plain_leaf.specs.LeafParts.{Four, NumberAt}
 use Rattle.encoding.specs.Cuts.{CutAt}
 use Rattle.leaf_answer.specs.LeafAnswers.{LeafMade, LeafTold}
-use Rattle.token_leaf.specs.TokenParts.{TokenTold, SimpleAt}
+use Rattle.leaf_reader.specs.TokenParts.{TokenTold, SimpleAt}
 use Rattle.leaf_answer.specs.declared.LeafRead.{LeafRead as LeafS}
 use Rattle.leaf_answer.specs.declared.Found.the-variants.{Leaf, Nothing}
 use Rattle.leaf_answer.proofs.LeafCode.{leaf-none, leaf-made, leaf-whole}

@@ -1,9 +1,9 @@
--- `token_leaf::token_leaf` meets its contract.
+-- `leaf_reader::by_token::token_leaf` meets its contract.
 -- Assumes nothing.
 use borrow.Author.Needs.{needs}
-use Rattle.token_leaf.proofs.TokenCode.{token-ways}
-use Rattle.token_leaf.proofs.token_leaf.Statement.{statement}
-use Rattle.token_leaf.proofs.token_leaf.Tie as tie
+use Rattle.leaf_reader.proofs.TokenCode.{token-ways}
+use Rattle.leaf_reader.proofs.by_token.token_leaf.Statement.{statement}
+use Rattle.leaf_reader.proofs.by_token.token_leaf.Tie as tie
 
 pub token-leaf-spec : {M : Type 1} → statement M
 token-leaf-spec =

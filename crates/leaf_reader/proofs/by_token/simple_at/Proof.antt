@@ -1,9 +1,9 @@
--- `token_leaf::simple_at` meets its contract.
+-- `leaf_reader::by_token::simple_at` meets its contract.
 -- Assumes nothing.
 use borrow.Author.Needs.{needs}
-use Rattle.token_leaf.proofs.TokenCode.{simple-ways}
-use Rattle.token_leaf.proofs.simple_at.Statement.{statement}
-use Rattle.token_leaf.proofs.simple_at.Tie as tie
+use Rattle.leaf_reader.proofs.TokenCode.{simple-ways}
+use Rattle.leaf_reader.proofs.by_token.simple_at.Statement.{statement}
+use Rattle.leaf_reader.proofs.by_token.simple_at.Tie as tie
 
 pub simple-at-spec : {M : Type 1} → statement M
 simple-at-spec =

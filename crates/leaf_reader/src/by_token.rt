@@ -18,7 +18,7 @@ ghost use Prim.Native.Nat.{_<_};
 ghost use lib.Dec.{eqb};
 ghost use lib.ListN.{length, getD};
 ghost use Rattle.leaf_answer.specs.LeafAnswers.{LeafTold};
-ghost use Rattle.token_leaf.specs.TokenParts.{TokenTold, SimpleAt};
+ghost use Rattle.leaf_reader.specs.TokenParts.{TokenTold, SimpleAt};
 
 // A token that is an integer or a simple value is its head.
 fn token_leaf(t: Token, place: usize, buf: &mut [u8], pos: usize) -> LeafRead
@@ -36,7 +36,13 @@ fn token_leaf(t: Token, place: usize, buf: &mut [u8], pos: usize) -> LeafRead
     leaf(t.next, head_size(first), false, 0)
 }
 
-pub fn other_integer(text: &[u8], place: usize, minus: bool, buf: &mut [u8], pos: usize) -> LeafRead
+pub(crate) fn other_integer(
+    text: &[u8],
+    place: usize,
+    minus: bool,
+    buf: &mut [u8],
+    pos: usize,
+) -> LeafRead
     requires { ⌜ minus ≡ eqb (getD (now text) place 0) 0x2d ⌝ }
     requires { ⌜ place < length (now text) ⌝ }
     ensures { λ r. ⌜ LeafTold (now (text .entry)) (now (buf .entry)) (now (buf .exit)) place pos r ⌝ }
@@ -71,7 +77,7 @@ fn simple_at(text: &[u8], at: usize) -> bool
     next_is(text, at + 6, b'(')
 }
 
-pub fn simple_value(text: &[u8], place: usize, buf: &mut [u8], pos: usize) -> LeafRead
+pub(crate) fn simple_value(text: &[u8], place: usize, buf: &mut [u8], pos: usize) -> LeafRead
     requires { ⌜ place < length (now text) ⌝ }
     ensures { λ r. ⌜ LeafTold (now (text .entry)) (now (buf .entry)) (now (buf .exit)) place pos r ⌝ }
 {

@@ -1,10 +1,10 @@
--- `token_leaf::simple_value` meets its contract.
+-- `leaf_reader::by_token::simple_value` meets its contract.
 -- Assumes nothing.
 use borrow.Author.Needs.{needs}
 use Rattle.leaf_answer.proofs.LeafCode.{leaf-none}
-use Rattle.token_leaf.proofs.TokenCode.{simple-told, simple-inside}
-use Rattle.token_leaf.proofs.simple_value.Statement.{statement}
-use Rattle.token_leaf.proofs.simple_value.Tie as tie
+use Rattle.leaf_reader.proofs.TokenCode.{simple-told, simple-inside}
+use Rattle.leaf_reader.proofs.by_token.simple_value.Statement.{statement}
+use Rattle.leaf_reader.proofs.by_token.simple_value.Tie as tie
 
 pub simple-value-spec : {M : Type 1} → statement M
 simple-value-spec =

@@ -1,11 +1,11 @@
--- `token_leaf::other_integer` meets its contract.
+-- `leaf_reader::by_token::other_integer` meets its contract.
 -- Assumes nothing.
 use borrow.Author.Needs.{needs}
 use Rattle.leaf_answer.proofs.LeafCode.{leaf-none}
-use Rattle.token_leaf.proofs.TokenCode.{integer-told, digit-there}
+use Rattle.leaf_reader.proofs.TokenCode.{integer-told, digit-there}
 use Rattle.plain_leaf.proofs.IntegerCode.{number-at}
-use Rattle.token_leaf.proofs.other_integer.Statement.{statement}
-use Rattle.token_leaf.proofs.other_integer.Tie as tie
+use Rattle.leaf_reader.proofs.by_token.other_integer.Statement.{statement}
+use Rattle.leaf_reader.proofs.by_token.other_integer.Tie as tie
 
 pub other-integer-spec : {M : Type 1} → statement M
 other-integer-spec =
