@@ -3,7 +3,7 @@
 use borrow.Author.Needs.{needs}
 use Rattle.correcting.proofs.spot.Statement.{statement}
 use Rattle.correcting.proofs.spot.Tie as tie
-use Rattle.guided_walk.proofs.Guiding.{bytes-of}
+use Rattle.walk_answer.proofs.Slices.{bytes-of}
 
 pub spot-spec : {M : Type 1} → statement M
 spot-spec =
