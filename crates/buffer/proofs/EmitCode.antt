@@ -246,6 +246,14 @@ pub ruleset zero-ways = (zero-end, zero-not)
 
 -- FROM ONE PLACE TO ANOTHER
 
+pub part-none : (b : List ℕ) (from to size : ℕ) → size ≡ 0 → b ≡ moved b from to size
+unfolding moved ifFits
+part-none b from to size e = rw e (go (leb (max from to + 0) (length b)))
+  where
+    go : (t : Bool) → b ≡ elim t [ true ↦ over b to (take 0 (drop from b)) | false ↦ b ]
+    go true = sym (over-nil b to)
+    go false = refl
+
 module _ (b : List ℕ) {l : List ℕ} (from to size : ℕ) where
   pub part-up : from ≤ to → l ≡ movedUp b from (to - from) size → l ≡ moved b from to size
   unfolding movedUp moved

@@ -137,6 +137,9 @@ fn move_down(out: &mut [u8], to: usize, by: usize, size: usize)
 pub fn move_part(out: &mut [u8], from: usize, to: usize, size: usize)
     ensures { λ _. ⌜ now (out .exit) ≡ moved (now (out .entry)) from to size ⌝ }
 {
+    if size == 0 {
+        return;
+    }
     if from <= to {
         move_up(out, from, to - from, size);
     } else {

@@ -1,15 +1,15 @@
 -- Whatever decoding accepts was written so: it is well formed, and encodes back to the very bytes.
-use Prim.Native.Nat.{ℕ, zero, suc, _+_, _-_, _*_, _/_, _%_, _≤_, _<_, max}
+use Prim.Native.Nat.{ℕ, zero, suc, _+_, _-_, _/_, _≤_}
 use native.Mathlib.Omega.{arith}
 use mathlib.Core.Path.{_≡_, refl, sym, ap, _∙_}
-use mathlib.Core.Bool.{Bool, true, false, _&&_, _||_, true≢false}
+use mathlib.Core.Bool.{Bool, true, false, true≢false}
 use mathlib.Core.List.{List, [], _∷_, _++_, append-assoc, append-nil, head-eq-of-cons-eq}
 use lib.Dec.{leb, eqb}
-use lib.ListN.{length, length-append}
-use borrow.Author.Tests.{eqb-true, le-leb, lt-leb, leb-true, leb-false}
+use lib.ListN.{length}
+use borrow.Author.Tests.{eqb-true, le-leb, lt-leb, leb-true}
 use Rattle.cbor.specs.Refusals.{Result, ok, refuse, bind, tooLong, notUtf8, badTypedArray, notWellFormed}
 use Rattle.cbor.specs.Widths.{Width, w0, w1, w2, w4, w8, limit, shortest}
-use Rattle.cbor.specs.Items.{Kind, Size, definite, indefinite, Chunk, Item, string, chunked, array, map, tag, simple, Items, none, more, Pairs, none₂, count, count₂, levels, levelsAll, levelsAll₂}
+use Rattle.cbor.specs.Items.{Kind, Size, definite, indefinite, Chunk, Item, string, chunked, array, map, tag, Items, none, more, Pairs, none₂, count, count₂, levels, levelsAll, levelsAll₂}
 use Rattle.cbor.specs.Heads.{Major, integers, strings, arrays, maps, tags, simples, majorNumber, majorOf, initial, head, Head, isFloat, isAllowed, taking, nextHead, break}
 use Rattle.cbor.specs.Encode.{encodeString, openingHead, closingBreak, enclosed, encodeChunks, encode, encodeAll, encodeAll₂}
 use Rattle.cbor.specs.TypedArrays.{mayTag}

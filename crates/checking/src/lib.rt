@@ -4,6 +4,7 @@ use checked::Scanned;
 use checked::check_by;
 use checked::scan_by;
 use head::HeadRead;
+use refusal::limit::MOST_LEVELS;
 ghost use mathlib.Core.Path.{_≡_};
 ghost use lib.ListN.{length, drop};
 ghost use Rattle.operations.specs.Operations.{itemsOf};
@@ -25,7 +26,7 @@ pub fn scan(bytes: &[u8], at: usize) -> Scanned
     match read {
         HeadRead::Refused(e) => Scanned::Refused(e),
         HeadRead::Head(h) => {
-            let walked = walk_answer::item_after(at, walk::item(&bytes[at..], 16));
+            let walked = walk_answer::item_after(at, walk::item(&bytes[at..], MOST_LEVELS));
             scan_by(h, walked)
         }
     }

@@ -3,40 +3,37 @@
 use mathlib.Core.Path.{_≡_, refl, sym, ap, _∙_}
 use mathlib.Core.Bool.{Bool, true, false, not, _||_, true≢false}
 use mathlib.Core.List.{List, [], _∷_}
-use Prim.Native.Nat.{ℕ, suc, _+_, _≤_, _<_}
+use Prim.Native.Nat.{ℕ, _+_, _≤_, _<_}
 use native.Mathlib.Omega.{arith}
 use lib.Dec.{T, eqb, ltb, leb}
 use lib.ListN.{length, drop, getD, replicate}
 use borrow.Author.Tests.{eq-eqb, eqb-true, eqb-false, ltb-true, ltb-false, lt-leb, ne-eqb}
-use Rattle.cbor.specs.Refusals.{Result, ok, refuse, bind}
+use Rattle.cbor.specs.Refusals.{Result, ok, bind}
 use Rattle.cbor.proofs.Results.{refuse-not-ok}
 use Rattle.cbor.proofs.Table.{every, between}
 use Rattle.cbor.specs.Utf8.{isIn}
 use Rattle.notation.specs.Classes.{classNumber, classOf, classIn, classRows, is, blank, slash, hash}
-use Rattle.notation.specs.Scanning.{expect, Skipping, between as apart-from-tokens, Skipped, stops, skip, skipFrom, skipped}
+use Rattle.notation.specs.Scanning.{expect, between as apart-from-tokens, stops, skip, skipFrom, skipped}
 use Rattle.notation.specs.Indicators.{Indicator, absent, indicator}
 use Rattle.notation.specs.Tokens.{Shape, square, curly, round, angle, whole, Token, begins, closes, aComma, aColon}
-use Rattle.notation.specs.Cutting.{cut, cutBy, placed, place, next}
+use Rattle.notation.specs.Cutting.{cut, cutBy, next}
 use Rattle.notation.specs.Reading.{marked}
 use Rattle.notation.proofs.ScanningElements.{is-true, high-other}
 use Rattle.scanning.specs.ScanAnswers.{isNext, Peeked, Skips}
 use Rattle.scanning.proofs.Marked.{length-marked, at-byte, at-end, past-end}
-use Rattle.scanning.proofs.ScanCode.{peeked-yes, expect-yes, expect-no}
+use Rattle.scanning.proofs.ScanCode.{peeked-yes, expect-no}
 use Rattle.numbers.specs.NumberAnswers.{Indicated}
 use Rattle.numbers.specs.declared.indicator.Mark.{Mark}
-use Rattle.token.specs.TokenAnswers.{indicatorNumber, shapeCode, codeOf, beginCode}
-use Rattle.encoding.specs.Cuts.{CutAt}
+use Rattle.token.specs.TokenAnswers.{indicatorNumber, shapeCode, codeOf}
 use Rattle.encoding.proofs.Cuts.{next-ok, next-cut}
-use Rattle.encoding.proofs.ReadTokens.{Led, cut-led}
+use Rattle.encoding.proofs.ReadTokens.{cut-led}
 use Rattle.encoding.specs.ReadAnswers.{shapeFor}
 use Rattle.encoding.proofs.ReadRules.{opensBy, begin-not, begin-close, shape-low, code-some}
 use Rattle.closers.specs.declared.Closer.{Closer}
 use Rattle.closers.specs.declared.Closer.the-variants.{Square, Curly, Round, Angle, Whole, Nothing}
 use Rattle.closing.specs.declared.Closing.{Closing}
-use Rattle.closing.specs.declared.Follow.{Follow}
 use Rattle.closing.specs.declared.Follow.the-variants.{On, Over, Stray}
 use Rattle.closing.specs.declared.Follower.{Follower}
-use Rattle.encoding.specs.Cuts.{NextAt}
 use Rattle.closers.specs.CloserTables.{shapeOf, isSingle, mayBeEmpty, commaCode, separatorCode, closerCode, shownBy, hasSign, separatorByte, colonCode, maySeparate, closingByte}
 use Rattle.closing.specs.Closings.{SignAt, GoesOn, ClosesAt, SeparatesAt, StartsAt, IsFirm, Solid, StartsAtOnce, Differs, OpenAt, ClosesAtOnce, Follows, Ends}
 

@@ -10,7 +10,6 @@ use outcome::turns_for;
 use part::Located;
 use part::Part;
 use planning::Decision;
-use planning::Plan;
 use planning::level;
 use planning::plan_for;
 use planning::put;
@@ -20,7 +19,7 @@ use text_check::Text;
 use text_check::check_text;
 ghost use mathlib.Core.Path.{_≡_};
 ghost use Prim.Native.Nat.{_≤_};
-ghost use lib.ListN.{length, take};
+ghost use lib.ListN.{length};
 ghost use Rattle.operations.specs.Operations.{level, correct};
 ghost use Rattle.outcome.specs.Outcomes.{outcomeOf, Roomy};
 ghost use Rattle.planning.specs.PlanAnswers.{Bounded};
@@ -90,15 +89,15 @@ fn carry_out(buffer: &mut [u8], used: usize, path: &[u16], text: &[u8], item: &m
 }
 
 // Buffers for texts of three sizes: nine bytes for each byte of the text and for its end. What is small is soon cleared.
-const TINY: usize = 55;
+const TINY: usize = 31;
 
 const SMALL: usize = 511;
 
 fn with_tiny(buffer: &mut [u8], used: usize, path: &[u16], text: &[u8]) -> Answer
-    requires { ⌜ length (now text) ≤ 55 ⌝ }
+    requires { ⌜ length (now text) ≤ 31 ⌝ }
     ensures { λ r. ⌜ Corrects (now (buffer .entry)) (now (buffer .exit)) used (now (path .entry)) (now (text .entry)) r ⌝ }
 {
-    let mut item = [0; 504];
+    let mut item = [0; 288];
     carry_out(buffer, used, path, text, &mut item)
 }
 

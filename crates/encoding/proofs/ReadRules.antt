@@ -2,8 +2,8 @@
 -- Assumes nothing.
 use mathlib.Core.Path.{_≡_, refl, sym, ap, _∙_}
 use mathlib.Core.Bool.{Bool, true, false, true≢false}
-use mathlib.Core.List.{List, [], _∷_, _++_}
-use Prim.Native.Nat.{ℕ, _+_, _-_, _≤_, _<_}
+use mathlib.Core.List.{List, []}
+use Prim.Native.Nat.{ℕ, _-_, _≤_}
 use native.Mathlib.Omega.{arith}
 use lib.Dec.{leb, eqb}
 use borrow.Author.Tests.{eq-eqb, ne-eqb}
@@ -12,11 +12,11 @@ use Rattle.cbor.specs.Items.{unsigned, negative, byteString, textString, Item, 
 use Rattle.notation.specs.Indicators.{Indicator, absent}
 use Rattle.notation.specs.Tokens.{bracket, brace, tagging, embedding, Beginning, leaf, literal, chunking, opens, Shape, square, curly, round, angle, whole, Token, begins, closes, aComma, aColon}
 use Rattle.notation.specs.Cutting.{next, place}
-use Rattle.notation.specs.Form.{atStart, behindComma, only, one, items, pairs, Closed, Rule, give, take, then, stray, strays, shapeNumber, closingRule, beginning, oneRule, addItem, afterItem, itemsRule, afterValue, afterKey, pairsRule, rules, obey, reads}
+use Rattle.notation.specs.Form.{atStart, behindComma, one, items, pairs, Closed, Rule, give, take, then, stray, strays, shapeNumber, closingRule, beginning, oneRule, addItem, afterItem, itemsRule, afterKey, pairsRule, rules, obey, reads}
 use Rattle.token.specs.TokenAnswers.{itemCode, openCode, kindCode, beginCode, shapeCode, codeOf}
 use Rattle.encoding.specs.ReadAnswers.{followBy}
 use Rattle.notation.proofs.ByName.{bind-ok, bind-refuse, reads-is}
-use Rattle.notation.proofs.Equations.{bind-same, bind-assoc, first-is, obey-if}
+use Rattle.notation.proofs.Equations.{bind-same, first-is, obey-if}
 
 -- CODES: those of tokens that begin an item are none of the others
 unfoldable pub opensBy : ℕ → Bool

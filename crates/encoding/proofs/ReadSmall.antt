@@ -1,15 +1,15 @@
 -- The reader's small functions: a lemma for each way that one returns.
 -- Assumes nothing.
 use mathlib.Core.Path.{_≡_, refl, sym, ap, _∙_}
-use mathlib.Core.Bool.{Bool, true, false, _&&_}
+use mathlib.Core.Bool.{Bool, true, false}
 use mathlib.Core.List.{List, [], _∷_, _++_}
-use Prim.Native.Nat.{ℕ, zero, suc, _+_, _-_, _*_, _/_, _%_, _≤_, _<_, _^_, min}
+use Prim.Native.Nat.{ℕ, _+_, _-_, _*_, _%_, _≤_, _<_}
 use native.Mathlib.Omega.{arith}
-use lib.Dec.{leb, eqb}
+use lib.Dec.{leb}
 use lib.ListN.{length}
 use mir.Syntax.{w8 as bits8, w64 as bits64}
 use mir.Val.{Fits}
-use borrow.Author.Tests.{le-leb, lt-leb, eq-eqb, ne-eqb}
+use borrow.Author.Tests.{le-leb, eq-eqb, ne-eqb}
 use Rattle.cbor.specs.Refusals.{badIndicator}
 use Rattle.cbor.specs.Widths.{w0, w1, w2, w4, w8, limit, fits, shortest, information, bigEndian}
 use Rattle.refusal.specs.RefusalKinds.{kindNumber, Kinded}

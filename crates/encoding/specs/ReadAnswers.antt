@@ -14,14 +14,13 @@ use Rattle.numbers.specs.NumberAnswers.{chooseBy}
 use Rattle.memory.specs.Buffer.{overIfFits}
 use Rattle.refusal.specs.RefusalKinds.{kindNumber}
 use Rattle.head.specs.HeadAnswers.{headBytes}
-use Rattle.refusal.specs.declared.Refusal.{Refusal}
 use Rattle.notation.specs.Indicators.{Indicator, absent, indefinitely, unknown, wide}
 use Rattle.notation.specs.Tokens.{Opener, leaf, literal, chunking, opens, Shape, square, curly, round, angle, whole, Token, begins, closes, aComma, aColon}
 use Rattle.notation.specs.Cutting.{next, place}
 use Rattle.notation.specs.Form.{either, only, one, chunks, Closed, Chunks, stray, inside, isWanted, literalItem, obey, reads}
 use Rattle.notation.specs.Reading.{marked}
 use Rattle.scanning.specs.Stands.{Stands}
-use Rattle.token.specs.TokenAnswers.{indicatorNumber, kindCode, sizeNumber, shapeCode, codeOf, Spelled}
+use Rattle.token.specs.TokenAnswers.{indicatorNumber, kindCode, sizeNumber, codeOf, Spelled}
 use Rattle.token.specs.declared.Token.{Token as Cut}
 use Rattle.encoding.specs.declared.answer.MadeItem.{MadeItem as MadeS}
 use Rattle.encoding.specs.declared.answer.ReadAnswer.{ReadAnswer}

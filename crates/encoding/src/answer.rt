@@ -71,7 +71,7 @@ pub fn listed(next: usize, size: usize, count: usize, indicator: u8) -> ReadAnsw
 }
 
 // The number of the refusal of a token that may not stand where it does, or of what is no token.
-pub(crate) fn stray_number(levels: usize, kind: u8, refusal: u8, indicator: u8) -> u8
+fn stray_number(levels: usize, kind: u8, refusal: u8, indicator: u8) -> u8
     ensures { λ r. ⌜ r ≡ strayBy levels kind refusal indicator ⌝ }
 {
     if kind == NO_TOKEN {

@@ -4,7 +4,8 @@ use crate::answer::done;
 use crate::answer::refuse;
 use crate::heads::head_size;
 use crate::heads::info_by;
-use crate::major::BYTE_STRING;
+use head::initial::BREAK;
+use head::initial::BYTE_STRING;
 use numbers::indicator::choose;
 use refusal::RefusalKind;
 use token::indicator::MISFIT;
@@ -13,9 +14,6 @@ ghost use mathlib.Core.Bool.{true};
 ghost use Prim.Native.Nat.{_+_};
 ghost use Rattle.head.specs.HeadAnswers.{headBytes};
 ghost use Rattle.encoding.specs.ReadAnswers.{Light, Heavy, Few, IsShort, Closes, Finished, FinishedShort, Ended};
-
-// The stop code (RFC 8949, section 3.2.1).
-const BREAK: u8 = 0xff;
 
 // A thing of indefinite length: its first byte, and a break behind what was read.
 pub fn endless(

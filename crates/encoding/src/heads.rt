@@ -1,17 +1,17 @@
 // The heads of tokens: of integers and simple values, of literals, of tags.
 use crate::answer::ReadAnswer;
 use crate::answer::done;
-use crate::major::BYTE_STRING;
-use crate::major::IN_EIGHT_BYTES;
-use crate::major::IN_FOUR_BYTES;
-use crate::major::IN_ONE_BYTE;
-use crate::major::IN_TWO_BYTES;
-use crate::major::INDEFINITE_LENGTH;
-use crate::major::NEGATIVE_INTEGER;
-use crate::major::SIMPLE_VALUE;
-use crate::major::TAGGED;
-use crate::major::TEXT_STRING;
-use crate::major::UNSIGNED_INTEGER;
+use head::initial::BYTE_STRING;
+use head::initial::IN_EIGHT_BYTES;
+use head::initial::IN_FOUR_BYTES;
+use head::initial::IN_ONE_BYTE;
+use head::initial::IN_TWO_BYTES;
+use head::initial::INDEFINITE_LENGTH;
+use head::initial::NEGATIVE_INTEGER;
+use head::initial::SIMPLE_VALUE;
+use head::initial::TAG;
+use head::initial::TEXT_STRING;
+use head::initial::UNSIGNED_INTEGER;
 use token::Token;
 use token::indicator::FOUR_BYTES;
 use token::indicator::IMMEDIATE;
@@ -52,7 +52,7 @@ pub fn major_by(kind: u8) -> u8
         SIMPLE => SIMPLE_VALUE,
         TEXT => TEXT_STRING,
         BYTES => BYTE_STRING,
-        _ => TAGGED,
+        _ => TAG,
     }
 }
 

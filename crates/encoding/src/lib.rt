@@ -2,5 +2,4 @@
 pub mod answer;
 pub mod close;
 pub mod heads;
-pub mod major;
 pub mod room;

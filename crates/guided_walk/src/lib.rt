@@ -1,11 +1,15 @@
 // A walk over all of the bytes that a path guides: what stands before the item at the path, that item, what stands behind it, each once.
 // It finds what it finds; all else is left to the check and to the steps of the path, one behind the other.
 use head::HeadRead;
+use head::initial::ARRAY;
+use head::initial::MAP;
 use path::behind;
 use path::wide;
 use quick_walk::UNKNOWN;
 use quick_walk::end_in;
 use quick_walk::passed;
+use refusal::limit::MOST_BYTES;
+use refusal::limit::MOST_LEVELS;
 use walk_answer::COUNTED;
 use walk_answer::ENDED;
 use walk_answer::is_over;
@@ -27,16 +31,6 @@ pub enum Guided {
     Found(Way),
     Unknown,
 }
-
-// Major types that a path leads into.
-const ARRAY: u8 = 4;
-
-const MAP: u8 = 5;
-
-// Document 01's limits: the bytes of a sequence, and the levels.
-const MOST_BYTES: usize = 65535;
-
-const MOST_LEVELS: usize = 16;
 
 // As many entries at most, and they can be counted as items.
 const MOST_ENTRIES: u64 = 0xffff_ffff;

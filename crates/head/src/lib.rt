@@ -1,4 +1,16 @@
 // Heads (RFC 8949, section 3): an initial byte and the bytes of the argument behind it.
+pub mod initial;
+
+use crate::initial::IN_EIGHT_BYTES;
+use crate::initial::IN_FOUR_BYTES;
+use crate::initial::IN_ONE_BYTE;
+use crate::initial::IN_TWO_BYTES;
+use crate::initial::LAST_RESERVED;
+use crate::initial::LEAST_SIMPLE;
+use crate::initial::NEGATIVE_INTEGER;
+use crate::initial::SIMPLE_IN_ONE_BYTE;
+use crate::initial::SIMPLE_VALUE;
+use crate::initial::TAG;
 use refusal::Refusal;
 use refusal::RefusalKind;
 ghost use mathlib.Core.Path.{_≡_};
@@ -40,29 +52,40 @@ fn found(initial: u8, argument: u64, end: usize) -> HeadRead
     })
 }
 
-// What an initial byte says of what stands behind it: 0 an argument, 31 an indefinite length or a break. Else it is refused
-// by a number: 6 a float, 16 what is not well-formed.
+// What an initial byte may say of what stands behind it: an argument; an indefinite length, or a break. Else it is refused, and this is the refusal's number.
+const ARGUMENT: u8 = 0;
+
+const OPEN_ENDED: u8 = 31;
+
+const FLOAT: u8 = 6;
+
+const NOT_WELL_FORMED: u8 = 16;
+
 fn form(initial: u8) -> u8
     ensures { λ r. ⌜ Formed initial r ⌝ }
 {
     let major = initial / 32;
     let info = initial % 32;
-    if info <= 24 {
-        return 0;
+    if info <= IN_ONE_BYTE {
+        return ARGUMENT;
     }
-    if info <= 27 {
-        if major == 7 {
-            return 6;
+    if info <= IN_EIGHT_BYTES {
+        if major == SIMPLE_VALUE {
+            return FLOAT;
         }
-        return 0;
+        return ARGUMENT;
     }
-    if info <= 30 {
-        return 16;
+    if info <= LAST_RESERVED {
+        return NOT_WELL_FORMED;
     }
-    if major <= 1 {
-        return 16;
+    if major <= NEGATIVE_INTEGER {
+        return NOT_WELL_FORMED;
     }
-    if major == 6 { 16 } else { 31 }
+    if major == TAG {
+        NOT_WELL_FORMED
+    } else {
+        OPEN_ENDED
+    }
 }
 
 // How many bytes behind the initial byte hold the argument.
@@ -70,10 +93,10 @@ pub fn argument_size(info: u8) -> usize
     ensures { λ r. ⌜ r ≡ argumentSize info ⌝ }
 {
     match info {
-        24 => 1,
-        25 => 2,
-        26 => 4,
-        27 => 8,
+        IN_ONE_BYTE => 1,
+        IN_TWO_BYTES => 2,
+        IN_FOUR_BYTES => 4,
+        IN_EIGHT_BYTES => 8,
         _ => 0,
     }
 }
@@ -113,7 +136,11 @@ fn argument_at(bytes: &[u8], from: usize, info: u8, size: usize) -> u64
 fn least_argument(initial: u8) -> u64
     ensures { λ r. ⌜ r ≡ leastArgument initial ⌝ }
 {
-    if initial == 0xf8 { 32 } else { 0 }
+    if initial == SIMPLE_IN_ONE_BYTE {
+        LEAST_SIMPLE
+    } else {
+        0
+    }
 }
 
 // The head at a place.
@@ -125,13 +152,13 @@ pub fn read_head(bytes: &[u8], at: usize) -> HeadRead
     }
     let initial = bytes[at];
     let f = form(initial);
-    if f == 6 {
+    if f == FLOAT {
         return refuse(RefusalKind::Float, at);
     }
-    if f == 16 {
+    if f == NOT_WELL_FORMED {
         return refuse(RefusalKind::NotWellFormed, at);
     }
-    if f == 31 {
+    if f == OPEN_ENDED {
         return found(initial, 0, at + 1);
     }
     let info = initial % 32;
@@ -151,17 +178,17 @@ fn is_little(bytes: &[u8], from: usize, initial: u8, size: usize) -> bool
     requires { ⌜ Inside (now bytes) from size ⌝ }
     ensures { λ r. ⌜ Little (now (bytes .entry)) from initial size r ⌝ }
 {
-    if initial != 0xf8 {
+    if initial != SIMPLE_IN_ONE_BYTE {
         return false;
     }
-    argument_at(bytes, from, initial % 32, size) < 32
+    argument_at(bytes, from, initial % 32, size) < LEAST_SIMPLE
 }
 
 // Whether a head is its initial byte alone, with the argument in it.
 fn is_short(initial: u8) -> bool
     ensures { λ r. ⌜ Short initial r ⌝ }
 {
-    initial % 32 < 24
+    initial % 32 < IN_ONE_BYTE
 }
 
 // Where another head at a place ends, 0 where it is refused.
@@ -171,13 +198,13 @@ fn long_end(bytes: &[u8], at: usize) -> usize
 {
     let initial = bytes[at];
     let f = form(initial);
-    if f == 6 {
+    if f == FLOAT {
         return 0;
     }
-    if f == 16 {
+    if f == NOT_WELL_FORMED {
         return 0;
     }
-    if f == 31 {
+    if f == OPEN_ENDED {
         return at + 1;
     }
     let size = argument_size(initial % 32);
@@ -213,7 +240,7 @@ pub fn head_argument(bytes: &[u8], at: usize) -> u64
     if is_short(initial) {
         return wide(info);
     }
-    if form(initial) == 31 {
+    if form(initial) == OPEN_ENDED {
         return 0;
     }
     argument_at(bytes, at + 1, info, argument_size(info))
@@ -226,13 +253,13 @@ pub fn shortest_info(n: u64) -> u8
     if n <= 23 {
         n as u8
     } else if n <= 0xff {
-        24
+        IN_ONE_BYTE
     } else if n <= 0xffff {
-        25
+        IN_TWO_BYTES
     } else if n <= 0xffff_ffff {
-        26
+        IN_FOUR_BYTES
     } else {
-        27
+        IN_EIGHT_BYTES
     }
 }
 

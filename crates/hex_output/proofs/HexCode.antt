@@ -17,17 +17,6 @@ use Rattle.text_output.proofs.PrintLeaves.{prints-more, prints-as, prints-none,
 
 -- DIGITS
 
-pub hex-low : (v : ℕ) → v < 10 → 0x30 + v ≡ hexDigitOf v
-unfolding hexDigitOf
-hex-low v h = rw (lt-ltb v 10 h, hexDigitOf)
-
-pub hex-high : (v : ℕ) → 10 ≤ v → 0x57 + v ≡ hexDigitOf v
-unfolding hexDigitOf
-hex-high v h = rw (le-ltb v 10 h, hexDigitOf)
-
-pub ruleset hex-ways = (hex-low, hex-high)
-
--- a digit by adding
 pub letters-none : {v : ℕ} → v < 10 → 0 ≡ lettersAt v
 unfolding lettersAt
 letters-none {v} h = sym (rw (lt-ltb v 10 h, lettersAt))

@@ -8,21 +8,24 @@ ghost use Rattle.notation.specs.Printing.{hexDigitOf, hexByteOf};
 ghost use Rattle.text_output.specs.PrintParts.{Prints, contentOf};
 ghost use Rattle.hex_output.specs.HexLetters.{lettersAt};
 
-// Ten above it stands the letter a.
-const LETTERS: u8 = 0x57;
+// How much further a letter stands than a digit would.
+const FURTHER: u8 = 39;
 
+fn to_letters(v: u8) -> u8
+    ensures { λ r. ⌜ r ≡ lettersAt v ⌝ }
+{
+    if v < 10 {
+        return 0;
+    }
+    FURTHER
+}
+
+// A digit that is added up, not chosen: of many the compiler makes wider steps so.
 fn hex_digit(v: u8) -> u8
     requires { ⌜ v < 16 ⌝ }
     ensures { λ r. ⌜ r ≡ hexDigitOf v ⌝ }
 {
-    if v < 10 { b'0' + v } else { LETTERS + v }
-}
-
-pub fn hex_byte(b: u8, out: &mut [u8], pos: usize) -> usize
-    ensures { λ r. ⌜ Prints (now (out .entry)) (now (out .exit)) pos (hexByteOf b) r ⌝ }
-{
-    let p = put(out, pos, hex_digit(b / 16));
-    put(out, p, hex_digit(b % 16))
+    b'0' + v + to_letters(v)
 }
 
 fn high_digit(b: u8) -> u8
@@ -37,50 +40,11 @@ fn low_digit(b: u8) -> u8
     hex_digit(b % 16)
 }
 
-// A short byte string in hexadecimal, for which there is room.
-pub fn hex_few(bytes: &[u8], out: &mut [u8], pos: usize) -> usize
-    requires { ⌜ pos + 2 * length (now bytes) ≤ length (now out) ⌝ }
-    ensures { λ r. ⌜ Prints (now (out .entry)) (now (out .exit)) pos (contentOf false (now (bytes .entry))) r ⌝ }
+pub fn hex_byte(b: u8, out: &mut [u8], pos: usize) -> usize
+    ensures { λ r. ⌜ Prints (now (out .entry)) (now (out .exit)) pos (hexByteOf b) r ⌝ }
 {
-    let mut i: usize = 0;
-    while i < bytes.len() {
-        out[pos + 2 * i] = high_digit(bytes[i]);
-        out[pos + 2 * i + 1] = low_digit(bytes[i]);
-        i += 1;
-    }
-    pos + 2 * i
-}
-
-// How much further a letter stands than a digit would.
-const FURTHER: u8 = 39;
-
-fn to_letters(v: u8) -> u8
-    ensures { λ r. ⌜ r ≡ lettersAt v ⌝ }
-{
-    if v < 10 {
-        return 0;
-    }
-    FURTHER
-}
-
-// A digit that is added up, not chosen: of many the compiler makes wider steps so.
-fn added_digit(v: u8) -> u8
-    requires { ⌜ v < 16 ⌝ }
-    ensures { λ r. ⌜ r ≡ hexDigitOf v ⌝ }
-{
-    b'0' + v + to_letters(v)
-}
-
-fn high_added(b: u8) -> u8
-    ensures { λ r. ⌜ r ≡ hexDigitOf (b / 16) ⌝ }
-{
-    added_digit(b / 16)
-}
-
-fn low_added(b: u8) -> u8
-    ensures { λ r. ⌜ r ≡ hexDigitOf (b % 16) ⌝ }
-{
-    added_digit(b % 16)
+    let p = put(out, pos, high_digit(b));
+    put(out, p, low_digit(b))
 }
 
 // A byte string in hexadecimal, for which there is room.
@@ -90,8 +54,8 @@ pub fn hex_pairs(bytes: &[u8], out: &mut [u8], pos: usize) -> usize
 {
     let mut i: usize = 0;
     while i < bytes.len() {
-        out[pos + 2 * i] = high_added(bytes[i]);
-        out[pos + 2 * i + 1] = low_added(bytes[i]);
+        out[pos + 2 * i] = high_digit(bytes[i]);
+        out[pos + 2 * i + 1] = low_digit(bytes[i]);
         i += 1;
     }
     pos + 2 * i

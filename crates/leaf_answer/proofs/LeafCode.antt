@@ -1,17 +1,16 @@
 -- Leaves: what the readers answer.
 -- Assumes nothing.
-use mathlib.Core.Path.{_≡_, refl, ap, subst⁻¹}
-use mathlib.Core.Bool.{Bool, true, false}
+use mathlib.Core.Path.{_≡_, refl, subst⁻¹}
+use mathlib.Core.Bool.{Bool, false}
 use mathlib.Core.List.{List}
-use Prim.Native.Nat.{ℕ, _≤_}
+use Prim.Native.Nat.{ℕ}
 use native.Mathlib.Omega.{arith}
 use borrow.Author.Tests.{le-leb}
 use lib.ListN.{length, take}
-use Rattle.cbor.specs.Refusals.{ok}
-use Rattle.cbor.specs.Widths.{Width, shortest}
-use Rattle.cbor.specs.Items.{Sign, Item, int, levels}
+use Rattle.cbor.specs.Widths.{shortest}
+use Rattle.cbor.specs.Items.{Item, levels}
 use Rattle.notation.specs.Tokens.{tagging, leaf, opens, begins}
-use Rattle.notation.specs.Form.{beginning, oneRule, obey, reads}
+use Rattle.notation.specs.Form.{beginning, oneRule, obey}
 use Rattle.encoding.specs.Cuts.{CutAt}
 use Rattle.leaf_answer.specs.LeafAnswers.{Whole, LeafMade, LeafTold}
 use Rattle.leaf_answer.specs.declared.LeafRead.{LeafRead as LeafS}

@@ -14,12 +14,12 @@ use borrow.Author.Tests.{le-leb, leb-true, leb-false, ne-eqb}
 use Rattle.cbor.specs.Widths.{Width, w0, w1, w2, w4, w8, argumentBytes, limit, fits, shortest, information, bigEndian}
 use Rattle.cbor.specs.Heads.{Major, majorNumber, initial, head}
 use Rattle.notation.specs.Indicators.{absent, choose}
-use Rattle.notation.proofs.SoundToken.{Chose, choose-fits}
+use Rattle.notation.proofs.SoundToken.{choose-fits}
 use Rattle.memory.specs.Buffer.{overIfFits}
 use Rattle.memory.proofs.Buffer.{take-written}
 use Rattle.head.specs.HeadAnswers.{argumentSize, headBytes}
 use Rattle.head.proofs.HeadCode.{head-bytes}
-use Rattle.encoding.specs.ReadAnswers.{infoBy, Informed, HeadSize, Wrote}
+use Rattle.encoding.specs.ReadAnswers.{HeadSize, Wrote}
 use Rattle.encoding.proofs.ReadSmall.{info-0, head-short, head-some}
 use Rattle.encoding.proofs.Wrote.{wrote-written, wrote-more}
 use Rattle.cbor.proofs.Arguments.{length-big}

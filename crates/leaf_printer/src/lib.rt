@@ -1,4 +1,9 @@
 // What is printed of a head: numbers, indicators, quotes, simple values. `info` is the head's additional information.
+use head::initial::IN_EIGHT_BYTES;
+use head::initial::IN_FOUR_BYTES;
+use head::initial::IN_ONE_BYTE;
+use head::initial::IN_TWO_BYTES;
+use head::initial::INDEFINITE_LENGTH;
 ghost use mathlib.Core.Path.{_≡_};
 ghost use mathlib.Core.List.{[]};
 ghost use lib.Dec.{eqb};
@@ -6,9 +11,6 @@ ghost use Rattle.cbor.specs.Widths.{argumentBytes, shortest};
 ghost use Rattle.notation.specs.Printing.{widthName, indicatorOf, sizeOf, printSimple, printInt, printString, printChunked};
 ghost use Rattle.cbor.specs.Flags.{kindOf, signOf};
 ghost use Rattle.text_output.specs.PrintParts.{Prints, widthBy, sizeBy, quoteOf, openQuote, otherSimple};
-
-// Additional information: the length is indefinite.
-const OPEN: u8 = 31;
 
 // Whether the head with this argument is the shortest.
 fn is_shortest(info: u8, n: u64) -> bool
@@ -21,10 +23,10 @@ fn width_name(info: u8) -> u8
     ensures { λ r. ⌜ r ≡ widthName (widthBy info) ⌝ }
 {
     match info {
-        24 => b'0',
-        25 => b'1',
-        26 => b'2',
-        27 => b'3',
+        IN_ONE_BYTE => b'0',
+        IN_TWO_BYTES => b'1',
+        IN_FOUR_BYTES => b'2',
+        IN_EIGHT_BYTES => b'3',
         _ => b'i',
     }
 }
@@ -44,7 +46,7 @@ fn indicator(info: u8, n: u64, out: &mut [u8], pos: usize) -> usize
 pub fn size_mark(info: u8, n: u64, out: &mut [u8], pos: usize) -> usize
     ensures { λ r. ⌜ Prints (now (out .entry)) (now (out .exit)) pos (sizeOf (sizeBy info) n) r ⌝ }
 {
-    if info == OPEN {
+    if info == INDEFINITE_LENGTH {
         return text_output::put_all(b"_ ", out, pos);
     }
     if is_shortest(info, n) {

@@ -3,9 +3,8 @@
 use mathlib.Core.Path.{_≡_, refl, sym, ap, _∙_}
 use mathlib.Core.List.{List, [], _∷_}
 use mathlib.Core.Bool.{Bool, true, false, not}
-use Prim.Native.Nat.{ℕ, zero, suc, _+_, _-_, _*_, _≤_, _<_}
+use Prim.Native.Nat.{ℕ, _+_, _-_, _*_, _≤_, _<_}
 use native.Mathlib.Omega.{arith}
-use lib.Dec.{eqb}
 use lib.ListN.{length, take, drop, getD, length-drop}
 use borrow.Author.Tests.{not-false}
 use Rattle.cbor.specs.Refusals.{Result, ok, refuse, bind}
@@ -16,7 +15,7 @@ use Rattle.cbor.specs.Encode.{encode}
 use Rattle.cbor.specs.Flags.{signOf}
 use Rattle.cbor.specs.Utf8.{isIn}
 use Rattle.memory.specs.Buffer.{overIfFits}
-use Rattle.memory.proofs.Buffer.{length-written, take-written}
+use Rattle.memory.proofs.Buffer.{take-written}
 use Rattle.notation.specs.Classes.{Class, classNumber, classRows, classIn, classOf, is, isWord}
 use Rattle.notation.specs.Scanning.{run, whether}
 use Rattle.notation.specs.Numbers.{number}
@@ -27,22 +26,21 @@ use Rattle.notation.specs.Reading.{marked}
 use Rattle.notation.proofs.ScanningElements.{clash}
 use Rattle.notation.proofs.Locality.{cut-below}
 use Rattle.scanning.specs.ScanAnswers.{Peeked}
-use Rattle.scanning.proofs.Marked.{length-marked, at-byte}
+use Rattle.scanning.proofs.Marked.{at-byte}
 use Rattle.scanning.proofs.ScanCode.{peeked-yes}
 use Rattle.head.specs.HeadAnswers.{headBytes}
 use Rattle.head.proofs.HeadCode.{head-bytes}
 use Rattle.token.specs.TokenAnswers.{widthNumber, itemCode, openCode, kindCode, beginCode, shapeCode, codeOf, itemMark, beginMark, markOf, itemNumber, beginNumber, numberOf, Seen, Shown, Says}
 use Rattle.token.specs.declared.Token.{Token as Cut}
 use Rattle.numbers.specs.NumberAnswers.{DigitAt}
-use Rattle.encoding.specs.ReadAnswers.{heldOf, noBytes, Tells, infoBy, majorBy, initialBy, HeadSize, Wrote}
+use Rattle.encoding.specs.ReadAnswers.{heldOf, noBytes, Tells, infoBy, majorBy, initialBy, HeadSize}
 use Rattle.encoding.proofs.ReadTokens.{LeafFine, Led, cut-led}
-use Rattle.encoding.proofs.ReadSmall.{head-short, head-some}
+use Rattle.encoding.proofs.ReadSmall.{head-some}
 use Rattle.encoding.proofs.ReadWriting.{info-width}
 use Rattle.encoding.proofs.Wrote.{wrote-written}
 use Rattle.decimals.specs.DigitParts.{DigitThere}
 use Rattle.plain_leaf.specs.LeafParts.{Four, NumberAt}
-use Rattle.encoding.specs.Cuts.{CutAt}
-use Rattle.leaf_answer.specs.LeafAnswers.{LeafMade, LeafTold}
+use Rattle.leaf_answer.specs.LeafAnswers.{LeafTold}
 use Rattle.leaf_reader.specs.TokenParts.{TokenTold, SimpleAt}
 use Rattle.leaf_answer.specs.declared.LeafRead.{LeafRead as LeafS}
 use Rattle.leaf_answer.specs.declared.Found.the-variants.{Leaf, Nothing}

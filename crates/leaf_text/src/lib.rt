@@ -1,5 +1,5 @@
 // The text of leaves, written at a glance: integers of up to 32 bits, short strings and words, whose heads are the shortest. Room for the longest was seen to before.
-pub mod word;
+mod word;
 
 use crate::word::five_letters;
 use crate::word::four_letters;

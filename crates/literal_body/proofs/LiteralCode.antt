@@ -15,7 +15,7 @@ use Rattle.cbor.specs.Refusals.{Result, ok, refuse, bind, noToken}
 use Rattle.cbor.specs.Utf8.{isIn}
 use Rattle.memory.specs.Buffer.{over}
 use Rattle.memory.proofs.Buffer.{over-nil, over-one, over-more}
-use Rattle.cbor.proofs.Table.{every, between, byte}
+use Rattle.cbor.proofs.Table.{every, between}
 use Rattle.notation.specs.Classes.{blank, slash, hash, classNumber, classRows, classIn, classOf, is}
 use Rattle.notation.specs.Numbers.{Digit, worth, noDigit, digitAt, isDigit, digitValue}
 use Rattle.notation.specs.Scanning.{fault}

@@ -3,23 +3,23 @@
 use mathlib.Core.Path.{_≡_, refl, sym, ap, _∙_}
 use mathlib.Core.List.{List, [], _∷_, _++_}
 use mathlib.Core.Bool.{Bool, true, false, not}
-use Prim.Native.Nat.{ℕ, zero, suc, _+_, _-_, _*_, _≤_, _<_, min}
+use Prim.Native.Nat.{ℕ, _+_, _-_, _*_, _≤_, _<_, min}
 use native.Mathlib.Omega.{arith}
 use lib.Dec.{eqb}
 use lib.ListN.{length, take, drop, getD, length-append, length-drop}
 use lib.Seq.{length-take-le}
-use borrow.Author.Tests.{not-false, not-true}
+use borrow.Author.Tests.{not-false}
 use Rattle.cbor.specs.Refusals.{Result, ok, bind}
 use Rattle.cbor.specs.Widths.{Width, w8, limit}
-use Rattle.cbor.specs.Items.{Kind, byteString, textString, definite, string}
+use Rattle.cbor.specs.Items.{Kind, byteString, definite, string}
 use Rattle.cbor.specs.Heads.{Major, strings, majorNumber, initial, head}
 use Rattle.cbor.specs.Encode.{encodeString, encode}
 use Rattle.cbor.specs.Utf8.{isIn}
-use Rattle.memory.specs.Buffer.{over, overIfFits, headPut}
+use Rattle.memory.specs.Buffer.{overIfFits, headPut}
 use Rattle.memory.proofs.Buffer.{length-written, take-written, length-closed, take-closed}
 use Rattle.notation.specs.Classes.{classNumber, classRows, classIn, classOf, is, isWord}
 use Rattle.notation.specs.Scanning.{run, whether}
-use Rattle.notation.specs.Indicators.{Indicator, absent, indefinitely, unknown, wide, indicator, Chosen, chosen, misfit, choose}
+use Rattle.notation.specs.Indicators.{Indicator, absent, indefinitely, unknown, wide, indicator, chosen, choose}
 use Rattle.notation.specs.Quoted.{character, unquote}
 use Rattle.notation.specs.Literals.{literalToken, quotedToken, quoted, body, Content, standsFor, hexContent, base64Content, contained, encodedLiteral}
 use Rattle.notation.specs.Words.{same, prefixed, word}
@@ -37,18 +37,17 @@ use Rattle.literal_body.specs.LiteralAnswers.{Scans, Raw, Decodes, Quotes}
 use Rattle.literal_body.specs.LiteralReading.{DecodesInto}
 use Rattle.literal_body.specs.declared.LiteralScan.{LiteralScan}
 use Rattle.literal_body.proofs.LiteralViews.{scan-good, raw-good, Stood, hex-good, base64-good}
-use Rattle.token.specs.TokenAnswers.{widthNumber, indicatorNumber}
+use Rattle.token.specs.TokenAnswers.{widthNumber}
 use Rattle.numbers.specs.NumberAnswers.{Indicated, chooseBy, chosenNumber}
 use Rattle.numbers.specs.declared.indicator.Mark.{Mark}
 use Rattle.numbers.proofs.IndicatorCode.{choose-is, chosen-some}
-use Rattle.encoding.specs.ReadAnswers.{heldOf, Tells, infoBy, Informed, HeadSize, Wrote, Closes}
-use Rattle.encoding.proofs.ReadSmall.{head-short, head-some, before-short, before-long}
+use Rattle.encoding.specs.ReadAnswers.{heldOf, Tells, infoBy, Informed, HeadSize}
+use Rattle.encoding.proofs.ReadSmall.{head-some, before-short, before-long}
 use Rattle.encoding.proofs.ReadWriting.{info-width}
-use Rattle.encoding.specs.Cuts.{CutAt}
-use Rattle.leaf_answer.specs.LeafAnswers.{LeafMade, LeafTold}
-use Rattle.plain_string.specs.StringParts.{quotedKind, Quote, StringMajor, QuotedAt}
+use Rattle.leaf_answer.specs.LeafAnswers.{LeafTold}
+use Rattle.plain_string.specs.StringParts.{quotedKind, StringMajor, QuotedAt}
 use Rattle.literal_leaf.specs.LiteralParts.{IsQuote}
-use Rattle.literal_leaf.specs.LiteralParts.{contentBy, EncodedFrom, EncodedThere, LiteralAt, ContentMade, ContentTold, HeadBefore, Headed}
+use Rattle.literal_leaf.specs.LiteralParts.{contentBy, EncodedFrom, EncodedThere, ContentTold, HeadBefore, Headed}
 use Rattle.leaf_answer.specs.declared.LeafRead.{LeafRead as LeafS}
 use Rattle.leaf_answer.specs.declared.Found.the-variants.{Leaf, Nothing}
 use Rattle.leaf_answer.proofs.LeafCode.{leaf-still, leaf-made}

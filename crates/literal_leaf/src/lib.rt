@@ -3,7 +3,7 @@
 use base64::read_base64;
 use encoding::heads::head_size;
 use encoding::heads::info_by;
-use encoding::major::BYTE_STRING;
+use head::initial::BYTE_STRING;
 use hex::read_hex;
 use leaf_answer::LeafRead;
 use leaf_answer::leaf;

@@ -1,18 +1,18 @@
 -- The part at a path, as the code finds it.
 -- Assumes nothing.
-use Prim.Native.Nat.{ℕ, suc, _+_, _-_, _*_, _^_, _≤_, _<_}
+use Prim.Native.Nat.{ℕ, _+_, _-_, _*_, _^_, _≤_, _<_}
 use native.Mathlib.Omega.{arith}
 use mathlib.Core.Path.{_≡_, refl, sym, ap, _∙_}
-use mathlib.Core.List.{List, [], _∷_, _++_, append-nil}
-use lib.ListN.{length, take, drop, getD, length-drop, length-append}
-use Rattle.cbor.specs.Refusals.{Result, ok, refuse, bind, accepted, refused as refusedV, verdictOf, noSuchPath}
+use mathlib.Core.List.{List, [], _++_, append-nil}
+use lib.ListN.{length, take, drop, length-drop, length-append}
+use Rattle.cbor.specs.Refusals.{Result, ok, refuse, accepted, refused as refusedV, verdictOf, noSuchPath}
 use Rattle.cbor.specs.Items.{Item, Items}
 use Rattle.cbor.specs.Encode.{encode, encodeAll}
 use Rattle.cbor.specs.Valid.{Bytes}
-use Rattle.cbor.specs.Decode.{counted, ended, item as itemAt, decode}
+use Rattle.cbor.specs.Decode.{item as itemAt, decode}
 use Rattle.cbor.specs.Paths.{Spot, Found, found, nowhere, locate, start, end}
 use Rattle.refusal.specs.RefusalKinds.{kindNumber}
-use Rattle.walk_answer.specs.WalkAnswers.{passTold, walkTold, contents, contentsAll, mapResult, toldOf, walkOf, walkAllOf, below, oneOf, allOf, untilBy, afterTold, itemAfter}
+use Rattle.walk_answer.specs.WalkAnswers.{passTold, walkTold, contents, contentsAll, mapResult, toldOf, walkOf, walkAllOf, below, oneOf, untilBy, itemAfter}
 use Rattle.refusal.specs.declared.Refusal.{Refusal}
 use Rattle.refusal.specs.declared.RefusalKind.the-variants.{NoSuchPath}
 use Rattle.walk_answer.specs.declared.WalkedItem.{WalkedItem}
@@ -24,31 +24,24 @@ use Rattle.walk_answer.specs.declared.Passed.the-variants.{Span as SpanV, Refus
 use Rattle.cbor.proofs.DecodeEncode.{item-of-encode}
 use Rattle.cbor.proofs.EncodeDecode.{encode-of-decode}
 use Rattle.cbor.proofs.Paths.{part-at-path}
-use Rattle.walk_answer.proofs.Leaves.{Left}
-use Rattle.walk_answer.proofs.WalkCycle.{Reached, reached, tail-is, after-told, all-leaves, all-one, all-rest}
-use Rattle.walk_parts.proofs.WalkItems.{item-told, all-long, all-short}
-use Rattle.walk_answer.proofs.Slices.{bytes-of}
-use Rattle.path.proofs.Stepping.{trace-none, trace-few, items-not, items-behind}
+use Rattle.walk_answer.proofs.WalkCycle.{all-one}
+use Rattle.walk_parts.proofs.WalkItems.{item-told, all-short}
 use Rattle.operations.specs.Operations.{itemsOf, andThen, spotOf, lookUp, partOf}
-use Rattle.path.specs.Following.{at, astray, trace}
-use Rattle.path.specs.StepAnswers.{pastItems, Begins, tracedTo, Still, Traced}
+use Rattle.path.specs.Following.{at, trace}
+use Rattle.path.specs.StepAnswers.{tracedTo, Still, Traced}
 use Rattle.guided_walk.specs.GuidedAnswers.{WayThrough, IfFound, Through}
 use Rattle.guided_walk.specs.declared.Way.{Way}
 use Rattle.guided_walk.specs.declared.Guided.{Guided}
 use Rattle.guided_walk.specs.declared.Guided.the-variants.{Found as FoundWay}
 use Rattle.part.specs.PartAnswers.{partFound, locateRefused, locateTold, locateOf, Ordered, taken}
 use Rattle.part.proofs.Taking.{taken-is}
-use Rattle.looking.specs.Answers.{Checks, Accepts, NotedTold, NotedAs, AllTold, AllNoted, TooLarge, Begun, Parts}
+use Rattle.looking.specs.Answers.{Checks, Accepts, Parts}
 use Rattle.path.specs.declared.Cursor.{Cursor}
-use Rattle.looking.specs.declared.Noted.{Noted}
-use Rattle.looking.specs.declared.Noted.the-variants.{Refused as NotedRefused, Fewer, Behind}
 use Rattle.part.specs.declared.Located.{Located}
 use Rattle.part.specs.declared.Located.the-variants.{Part as PartV, Refused as PartRefused}
 use Rattle.path.specs.declared.Trace.{Trace}
 use Rattle.path.specs.declared.Trace.the-variants.{At, Lost}
 use Rattle.path.proofs.Traces.{SoundAll, spotted, locate-place, locate-sound}
-use mir.Syntax.{w8}
-use mir.Val.{Fits}
 
 -- bytes that were checked, with their items
 pub record Read (s : List ℕ) : Type 0 where
@@ -116,33 +109,41 @@ found-at : (t : List ℕ) (f : Found Spot) → found t ≡ spotted f [] → (z :
 found-at t (found z) e = (z, refl, cc)
 found-at t (nowhere j) e = let z : _≡_ {A = ℕ} 0 1 = cc in absurd (omega arith)
 
-pub part-refused : {s : List ℕ} (path : List ℕ) {e : Refusal} → Checks s (RefusedV e) → Parts s path (PartRefused e)
-unfolding walkAllOf Ordered
-part-refused {s} path {e} ch = record { is = refused-of s path e (decode s) refl (ch .is); inside = tt }
+-- THE CHECK
 
-module _ {s : List ℕ} (path : List ℕ) (ac : Accepts s) where
-  read : Read s
-  unfolding walkAllOf
-  read = read-of s (ac .whole) (decode s) (ac .checks .bytes) refl (ac .checks .is)
+module _ {s : List ℕ} {a : Passed} (ch : Checks s a) where
+  pub check-refused : {path : List ℕ} {e : Refusal} → a ≡ RefusedV e → Parts s path (PartRefused e)
+  unfolding walkAllOf Ordered
+  check-refused {path} {e} f = record { is = refused-of s path e (decode s) refl (rw f at (ch .is)); inside = tt }
 
+  pub check-accepted : {m : Passage} → a ≡ SpanV m → Accepts s
+  check-accepted {m} f = record { whole = m; checks = rw f at ch }
+
+-- STEP BY STEP
+
+read-in : {s : List ℕ} → Accepts s → Read s
+unfolding walkAllOf
+read-in {s} ac = read-of s (ac .whole) (decode s) (ac .checks .bytes) refl (ac .checks .is)
+
+module _ {s path : List ℕ} (ac : Accepts s) where
   module _ {tr : Trace} (told : Traced s path tr) where
-    pub part-lost : {i : ℕ} → tr ≡ Lost i → Parts s path (PartRefused (record { kind = NoSuchPath; place = i }))
+    pub part-lost : {i : ℕ} {r : Located} → tr ≡ Lost i → r ≡ PartRefused (record { kind = NoSuchPath; place = i }) → Parts s path r
     unfolding tracedTo locateTold locateOf Ordered kindNumber
-    part-lost {i} e =
-        let t : nowhere i ≡ spotted (locate path (read .items)) [] = sym (ap (tracedTo s) e) ∙ told .is ∙ trace-is path read in
-        record { is = sym (ap locateOf (look-is path read ∙ lost-at s i (locate path (read .items)) t)); inside = tt }
+    part-lost {i} e h =
+        let t : nowhere i ≡ spotted (locate path (read-in ac .items)) [] = sym (ap (tracedTo s) e) ∙ told .is ∙ trace-is path (read-in ac) in
+        rw h (record { is = sym (ap locateOf (look-is path (read-in ac) ∙ lost-at s i (locate path (read-in ac .items)) t)); inside = tt })
 
     module _ {c : Cursor} (e : tr ≡ At c) where
       pub part-room : c .at ≤ length s
       unfolding Still
       part-room = rw e at (told .inside)
 
-      spot : (z : Spot) × (locate path (read .items) ≡ found z) × (drop (c .at) s ≡ encode (z .item) ++ (z .behind ++ []))
+      spot : (z : Spot) × (locate path (read-in ac .items) ≡ found z) × (drop (c .at) s ≡ encode (z .item) ++ (z .behind ++ []))
       unfolding tracedTo
-      spot = found-at (drop (c .at) s) (locate path (read .items)) (sym (ap (tracedTo s) e) ∙ told .is ∙ trace-is path read)
+      spot = found-at (drop (c .at) s) (locate path (read-in ac .items)) (sym (ap (tracedTo s) e) ∙ told .is ∙ trace-is path (read-in ac))
 
       spot-stands : Stands s (c .at) (spot .0)
-      spot-stands = stands-of s path read (c .at) (spot .0) part-room (spot .1) (spot .2)
+      spot-stands = stands-of s path (read-in ac) (c .at) (spot .0) part-room (spot .1) (spot .2)
 
       module _ (inner : Walked) (long : length s * 1 < 2 ^ 63)
           (walked : walkTold inner ≡ walkOf (length (take (length s - c .at) (drop (c .at) s))) (itemAt 16 (take (length s - c .at) (drop (c .at) s)))) (whole : Walked)
@@ -164,127 +165,11 @@ module _ {s : List ℕ} (path : List ℕ) (ac : Accepts s) where
             let o : c .at ≤ w .end = omega (arith, st .begins, spot-order (spot .0)) in
             let b : w .end ≤ length s = omega (arith, st .inside) in
             rw h (record {
-              is = (λ j. partFound (st .begins j) (q j)) ∙ sym (ap locateOf (look-is path read ∙ ap spotOf (spot .1)));
+              is = (λ j. partFound (st .begins j) (q j)) ∙ sym (ap locateOf (look-is path (read-in ac) ∙ ap spotOf (spot .1)));
               inside = (o, b);
             })
 
--- THE CHECK, WITH A NOTE
-
-module _ {s : List ℕ} {a : Passed} (ch : Checks s a) where
-  pub all-refused : {e : Refusal} → a ≡ RefusedV e → AllNoted s (NotedRefused e)
-  unfolding AllTold
-  all-refused e = record { told = rw e at ch }
-
-  pub all-fewer : {m : Passage} → a ≡ SpanV m → AllNoted s Fewer
-  unfolding AllTold
-  all-fewer {m} e = record { told = record { whole = m; checks = rw e at ch } }
-
-pub ruleset all-ways = (all-refused, all-fewer)
-
-few-of : (s : List ℕ) (k : ℕ) (r : Noted) → pastItems k s ≡ astray → AllTold s r → NotedTold s k r
-unfolding AllTold NotedTold
-few-of s k (NotedRefused e) f h = h
-few-of s k Fewer f h = (h, f)
-few-of s k (Behind i) f h = absurd h
-
-module _ (s : List ℕ) (k : ℕ) where
-  pub noted-long : {r : Noted} → ((i : ℕ) → Fits w8 (getD s i 0)) → 65535 < length s → TooLarge r → NotedAs s k r
-  unfolding NotedTold passTold
-  noted-long g h t = record { told = rw (t .is) (record { is = all-long s h refl; bytes = bytes-of s g }) }
-
-  module _ {x : ℕ} (ex : x ≡ k) (front : Passed) (told : passTold front ≡ toldOf (length s) (allOf 4 (suc 16) (untilBy 0 x) s)) where
-    front-told : passTold front ≡ toldOf (length s) (allOf 4 17 (counted k) s)
-    unfolding untilBy
-    front-told = told ∙ ap (λ (n : ℕ). toldOf (length s) (allOf 4 17 (counted n) s)) ex
-
-    pub noted-fewer : {e : Refusal} {r : Noted} → front ≡ RefusedV e → AllNoted s r → NotedAs s k r
-    noted-fewer {e} {r} f n = record { told = few-of s k r (items-not k s e (rw f at front-told)) (n .told) }
-
-    module _ {m : Passage} (f : front ≡ SpanV m) where
-      front-at : Reached (length s) m (allOf 4 17 (counted k) s)
-      front-at = reached (allOf 4 17 (counted k) s) front front-told f
-
-      front-left : Left 0 s (front-at .rest) (m .size)
-      front-left = rw (front-at .is) at (all-leaves 4 17 (counted k) s)
-
-      pub front-room : m .end ≤ length s
-      front-room = omega (arith, front-at .ends)
-
-      behind-is : front-at .rest ≡ drop (m .end) s
-      behind-is = front-left .drops ∙ ap (λ (n : ℕ). drop n s) (sym (front-at .ends))
-
-      module _ (g : (i : ℕ) → Fits w8 (getD s i 0)) (short : length s ≤ 65535) (inner : Passed) (long : length s * 1 < 2 ^ 63)
-          (rest : passTold inner ≡ toldOf (length (take (length s - m .end) (drop (m .end) s))) (allOf 4 (suc 16) (untilBy 2 0) (take (length s - m .end) (drop (m .end) s)))) (part : Passed)
-          (after : passTold part ≡ afterTold (m .end) (m .size) (passTold inner)) where
-        sheet-told : passTold part ≡ walkAllOf (length s) (decode s)
-        unfolding untilBy
-        sheet-told =
-            let small : m .size ≤ m .end = omega (arith, front-at .ends, front-left .small) in
-            all-short s short
-            (after ∙ ap (afterTold (m .end) (m .size)) (rest ∙ ap (λ (t : List ℕ). toldOf (length t) (allOf 4 17 ended t)) (tail-is s (m .end)))
-            ∙ after-told 0 s (m .end) (m .size) (allOf 4 17 ended (drop (m .end) s)) front-room small (omega arith) (all-leaves 4 17 ended (drop (m .end) s))
-            ∙ ap (toldOf (length s)) (sym (all-rest 17 k s (front-at .is) ∙ ap (λ (t : List ℕ). bind (allOf 4 17 ended t) (λ n r. ok (m .size + n) r)) behind-is)))
-
-        pub noted-refused : {e : Refusal} → part ≡ RefusedV e → NotedAs s k (NotedRefused e)
-        unfolding NotedTold
-        noted-refused e = record { told = record { is = rw e at sheet-told; bytes = bytes-of s g } }
-
-        pub noted-behind : {w : Passage} → part ≡ SpanV w → NotedAs s k (Behind (m .end))
-        unfolding NotedTold
-        noted-behind {w} e = record { told = (record { whole = w; checks = record { is = rw e at sheet-told; bytes = bytes-of s g } }, front-room, items-behind k s (front-at .is) ∙ ap at behind-is) }
-
-pub ruleset noted-ways = (noted-long, noted-refused, noted-behind)
-
--- FROM THE NOTE
-
-module _ {s path : List ℕ} {a : Noted} (n : length path ≡ 0 → ⊥) (nt : NotedAs s (getD path 0 0) a) where
-  pub from-refused : {e : Refusal} → a ≡ NotedRefused e → Parts s path (PartRefused e)
-  unfolding NotedTold
-  from-refused f = part-refused path (rw f at (nt .told))
-
-  pub from-fewer : {r : Located} → a ≡ Fewer → r ≡ PartRefused (record { kind = NoSuchPath; place = 0 }) → Parts s path r
-  unfolding NotedTold
-  from-fewer f e = let t = rw f at (nt .told) in rw e (part-lost path (t .0) (trace-few s path n (t .1)) refl)
-
-  pub from-behind : {i : ℕ} → a ≡ Behind i → Begun s path i
-  unfolding NotedTold
-  from-behind f = let t = rw f at (nt .told) in record { checked = t .0; begins = record { some = n; inside = t .1; is = t .2 } }
-
-  pub ruleset from-ways = (from-refused, from-fewer)
-
-module _ {s : List ℕ} {a : Passed} (ch : Checks s a) where
-  pub empty-refused : {e : Refusal} → a ≡ RefusedV e → Parts s [] (PartRefused e)
-  empty-refused f = part-refused [] (rw f at ch)
-
-  pub empty-lost : {m : Passage} {r : Located} → a ≡ SpanV m → r ≡ PartRefused (record { kind = NoSuchPath; place = 0 }) → Parts s [] r
-  empty-lost {m} f e = rw e (part-lost [] (record { whole = m; checks = rw f at ch }) (trace-none s [] refl) refl)
-
-pub ruleset empty-ways = (empty-refused, empty-lost)
-
-pub from-empty : {s path : List ℕ} {r : Located} → length path ≡ 0 → Parts s [] r → Parts s path r
-from-empty {s} {path} {r} h p = go path h
-  where
-    go : (q : List ℕ) → length q ≡ 0 → Parts s q r
-    go [] h = p
-    go (k ∷ q) h = absurd (omega arith)
-
-module _ {s path : List ℕ} {i : ℕ} (b : Begun s path i) {tr : Trace} (told : Traced s path tr) where
-  pub begun-lost : {j : ℕ} {r : Located} → tr ≡ Lost j → r ≡ PartRefused (record { kind = NoSuchPath; place = j }) → Parts s path r
-  begun-lost e h = rw h (part-lost path (b .checked) told e)
-
-  module _ {c : Cursor} (e : tr ≡ At c) where
-    pub begun-room : c .at ≤ length s
-    begun-room = part-room path (b .checked) told e
-
-    module _ (inner : Walked) (long : length s * 1 < 2 ^ 63) (walked : walkTold inner ≡ walkOf (length (take (length s - c .at) (drop (c .at) s))) (itemAt 16 (take (length s - c .at) (drop (c .at) s)))) (whole : Walked)
-        (after : walkTold whole ≡ itemAfter (c .at) (walkTold inner)) where
-      pub begun-gone : {x : Refusal} → whole ≡ WalkRefusedV x → Parts s path (PartRefused x)
-      begun-gone g = part-gone path (b .checked) told e inner long walked whole after g
-
-      pub begun-made : {w : WalkedItem} {r : Located} → whole ≡ MadeV w → r ≡ PartV (record { start = c .at; end = w .end }) → Parts s path r
-      begun-made g h = part-made path (b .checked) told e inner long walked whole after g h
-
-pub ruleset begun-ways = (begun-lost, begun-gone, begun-made)
+pub ruleset part-ways = (part-lost, part-gone, part-made)
 
 -- IN ONE WALK
 
@@ -310,14 +195,14 @@ module _ {s path : List ℕ} {w : Way} (v : WayThrough s path w) where
   part-through : Parts s path (PartV (record { start = w .start; end = w .end }))
   unfolding locateTold locateOf spotOf Ordered oneOf below
   part-through =
-      let z = spot path through-all through-trace refl in
-      let st = spot-stands path through-all through-trace refl in
+      let z = spot through-all through-trace refl in
+      let st = spot-stands through-all through-trace refl in
       let own : mapResult contents (itemAt 16 (drop (w .start) s)) ≡ ok (v .item .size) (drop (w .end) s) = sym (all-one 4 17 (drop (w .start) s)) ∙ v .item .is in
       let same = ends-alike (itemAt 16 (drop (w .start) s)) (z .0 .item) (z .0 .behind) (v .item .size) (st .reads) own in
       let n : length (z .0 .behind) ≡ length s - w .end = ap length same ∙ length-drop (w .end) s in
       let q : w .end ≡ end (z .0) = omega (arith, st .ends, v .ends) in
       record {
-        is = (λ j. partFound (st .begins j) (q j)) ∙ sym (ap locateOf (look-is path (read path through-all) ∙ ap spotOf (z .1)));
+        is = (λ j. partFound (st .begins j) (q j)) ∙ sym (ap locateOf (look-is path (read-in through-all) ∙ ap spotOf (z .1)));
         inside = (omega (arith, st .begins, spot-order (z .0)), v .ends);
       }
 

@@ -6,16 +6,14 @@ use part::between;
 use part::nowhere;
 use part::part_of;
 use path::Trace;
-use path::follow_from;
-use refusal::Refusal;
-use refusal::RefusalKind;
+use path::follow;
+use refusal::limit::MOST_LEVELS;
 use walk_answer::Passed;
 use walk_answer::Walked;
 ghost use mathlib.Core.Path.{_≡_};
-ghost use mathlib.Core.List.{[]};
 ghost use Rattle.operations.specs.Operations.{lookUp, partOf};
 ghost use Rattle.part.specs.PartAnswers.{locateTold, locateOf};
-ghost use Rattle.looking.specs.Answers.{Checks, TooLarge, AllNoted, NotedAs, Begun, Parts};
+ghost use Rattle.looking.specs.Answers.{Checks, Accepts, Parts};
 
 fn checked_all(bytes: &[u8]) -> Passed
     ensures { λ r. ⌜ Checks (now (bytes .entry)) r ⌝ }
@@ -23,75 +21,17 @@ fn checked_all(bytes: &[u8]) -> Passed
     walk::walk_all(bytes)
 }
 
-// What a check notes on its way: the place behind the first `k` items, or that there are fewer.
-enum Noted {
-    Refused(Refusal),
-    Fewer,
-    Behind(usize),
-}
-
-fn too_long() -> Noted
-    ensures { λ r. ⌜ TooLarge r ⌝ }
-{
-    Noted::Refused(Refusal {
-        kind: RefusalKind::TooLong,
-        place: 0,
-    })
-}
-
-// Checks bytes of which `k` items in front were refused, or are not there.
-fn fewer(bytes: &[u8]) -> Noted
-    ensures { λ r. ⌜ AllNoted (now (bytes .entry)) r ⌝ }
-{
-    let all = checked_all(bytes);
-    match all {
-        Passed::Refused(e) => Noted::Refused(e),
-        Passed::Span(_m) => Noted::Fewer,
-    }
-}
-
-fn wide(k: u16) -> u64
-    ensures { λ r. ⌜ r ≡ k ⌝ }
-{
-    k as u64
-}
-
-// Checks bytes in one walk, and notes where the item number `k` begins.
-fn check_noting(bytes: &[u8], k: u16) -> Noted
-    ensures { λ r. ⌜ NotedAs (now (bytes .entry)) k r ⌝ }
-{
-    if 65535 < bytes.len() {
-        return too_long();
-    }
-    let front = walk::elements(bytes, walk_answer::COUNTED, wide(k), 16);
-    match front {
-        Passed::Refused(_e) => fewer(bytes),
-        Passed::Span(m) => {
-            let at = m.end;
-            let rest = walk_answer::after(
-                at,
-                m.size,
-                walk::elements(&bytes[at..], walk_answer::ENDED, 0, 16),
-            );
-            match rest {
-                Passed::Refused(e) => Noted::Refused(e),
-                Passed::Span(_w) => Noted::Behind(at),
-            }
-        }
-    }
-}
-
-// The part at a path whose top item would begin at a place, in bytes that were checked.
-fn part_from(bytes: &[u8], path: &[u16], from: usize) -> Located
-    requires { ⌜ Begun (now bytes) (now path) from ⌝ }
+// The part at a path, in bytes that were checked.
+fn part_in(bytes: &[u8], path: &[u16]) -> Located
+    requires { ⌜ Accepts (now bytes) ⌝ }
     ensures { λ r. ⌜ Parts (now (bytes .entry)) (now (path .entry)) r ⌝ }
 {
-    let trace = follow_from(bytes, path, from);
+    let trace = follow(bytes, path);
     match trace {
         Trace::Lost(i) => nowhere(i),
         Trace::At(c) => {
             let at = c.at;
-            let whole = walk_answer::item_after(at, walk::item(&bytes[at..], 16));
+            let whole = walk_answer::item_after(at, walk::item(&bytes[at..], MOST_LEVELS));
             match whole {
                 Walked::Refused(e) => Located::Refused(e),
                 Walked::Made(m) => between(at, m.end),
@@ -100,28 +40,14 @@ fn part_from(bytes: &[u8], path: &[u16], from: usize) -> Located
     }
 }
 
-fn no_path(bytes: &[u8]) -> Located
-    ensures { λ r. ⌜ Parts (now (bytes .entry)) [] r ⌝ }
-{
-    let all = checked_all(bytes);
-    match all {
-        Passed::Refused(e) => Located::Refused(e),
-        Passed::Span(_m) => nowhere(0),
-    }
-}
-
 // The bytes are checked first, then the path is followed.
 fn part_by_steps(bytes: &[u8], path: &[u16]) -> Located
     ensures { λ r. ⌜ Parts (now (bytes .entry)) (now (path .entry)) r ⌝ }
 {
-    if path.len() == 0 {
-        return no_path(bytes);
-    }
-    let found = check_noting(bytes, path[0]);
-    match found {
-        Noted::Refused(e) => Located::Refused(e),
-        Noted::Fewer => nowhere(0),
-        Noted::Behind(at) => part_from(bytes, path, at),
+    let all = checked_all(bytes);
+    match all {
+        Passed::Refused(e) => Located::Refused(e),
+        Passed::Span(_m) => part_in(bytes, path),
     }
 }
 

@@ -1,10 +1,10 @@
 -- Whatever is read by name reads well, and satisfies the equation that one expects: for every table of rules. The bound on calls does
 -- not matter, if it is more than the length of the text.
-use Prim.Native.Nat.{ℕ, zero, suc, _+_, _≤_, _<_}
+use Prim.Native.Nat.{ℕ, zero, suc, _+_, _<_}
 use native.Mathlib.Omega.{arith}
 use mathlib.Core.Path.{_≡_, refl, sym, ap, _∙_}
-use mathlib.Core.List.{List, [], _∷_, _++_, append-assoc, append-cancel-right}
-use lib.ListN.{length, length-append}
+use mathlib.Core.List.{List, [], _++_, append-cancel-right}
+use lib.ListN.{length}
 use Rattle.cbor.specs.Refusals.{Result, ok, refuse, bind}
 use Rattle.notation.specs.Scanning.{skip}
 use Rattle.notation.specs.Tokens.{Token}

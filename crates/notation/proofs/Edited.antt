@@ -1,5 +1,5 @@
 -- The substitution theorem for whole texts: with their length, and UTF-8.
-use Prim.Native.Nat.{ℕ, zero, suc, _+_, _-_, _≤_, _<_}
+use Prim.Native.Nat.{ℕ, suc, _+_, _-_, _≤_, _<_}
 use native.Mathlib.Omega.{arith}
 use mathlib.Core.Path.{_≡_, refl, sym, ap, _∙_}
 use mathlib.Core.Logic.{_⊎_, inl, inr, ⊎-elim}
@@ -8,7 +8,7 @@ use mathlib.Core.List.{List, [], _∷_, _++_, append-assoc, append-nil, head-eq-
 use lib.Dec.{leb, eqb}
 use lib.Seq.{take-at, drop-at}
 use lib.ListN.{length, take as takeN, drop as dropN, length-append, length-take, length-drop, take-append-drop}
-use borrow.Author.Tests.{le-leb, lt-leb, leb-true, leb-false, eq-eqb, eqb-true, eqb-false}
+use borrow.Author.Tests.{le-leb, leb-true, leb-false, eq-eqb, eqb-true, eqb-false}
 use Rattle.cbor.specs.Refusals.{Result, ok, refuse, bind, Verdict, accepted, refused, verdictOf, tooLong, notUtf8, noToken, notAllowed}
 use Rattle.cbor.specs.Items.{Item, Items}
 use Rattle.cbor.specs.Utf8.{isIn, rows, followIn, follow, areIn, sequenceBy, firstBadFrom, firstBad, isUtf8}

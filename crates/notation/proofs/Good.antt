@@ -1,9 +1,9 @@
 -- What is said of a reader of text: it takes a front of the text; it reads that front alike before any tail that cannot go on in its
 -- last token; and a refusal other than 3 and 11 stays when blanks follow.
-use Prim.Native.Nat.{ℕ, zero, suc, _<_}
+use Prim.Native.Nat.{ℕ, suc, _<_}
 use native.Mathlib.Omega.{arith}
 use mathlib.Core.Path.{_≡_, refl, sym, ap, _∙_}
-use mathlib.Core.Bool.{Bool, true, false}
+use mathlib.Core.Bool.{true, false}
 use mathlib.Core.List.{List, [], _∷_, _++_, append-assoc, append-nil}
 use lib.ListN.{length, length-append}
 use Rattle.cbor.specs.Refusals.{Result, ok, refuse, bind, noToken, notAllowed}

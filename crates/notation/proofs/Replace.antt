@@ -1,12 +1,11 @@
 -- An item's text in place of another's, by the rules of the form.
 use Prim.Native.Nat.{ℕ, zero, suc}
-use native.Mathlib.Omega.{arith}
 use mathlib.Core.Path.{_≡_, refl, sym, ap, _∙_}
 use mathlib.Core.Bool.{Bool, true, false}
 use mathlib.Core.List.{List, [], _∷_, _++_}
-use lib.Dec.{leb, eqb}
+use lib.Dec.{eqb}
 use Rattle.cbor.specs.Refusals.{Result, ok, refuse, bind, notAllowed}
-use Rattle.cbor.specs.Items.{Size, definite, indefinite, Item, array, map, Items, none, more, Pairs, none₂, more₂, count, count₂, levels}
+use Rattle.cbor.specs.Items.{Size, definite, indefinite, Item, array, map, Items, none, more, Pairs, none₂, more₂, count, count₂}
 use Rattle.cbor.specs.Heads.{arrays, maps}
 use Rattle.cbor.specs.Encode.{encode, openingHead, closingBreak as closingBytes}
 use Rattle.cbor.specs.Paths.{Spot, Found, found, within, nth, nth₂, child, onward, descend, changeNth, changeNth₂, changeChild}

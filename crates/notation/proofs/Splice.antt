@@ -1,7 +1,7 @@
 -- Another text in the place of an item's text: for any reader that is made of others, one behind another.
-use Prim.Native.Nat.{ℕ, zero, suc}
-use mathlib.Core.Path.{_≡_, refl, sym, ap, _∙_}
-use mathlib.Core.List.{List, [], _∷_, _++_, append-assoc}
+use Prim.Native.Nat.{ℕ}
+use mathlib.Core.Path.{_≡_, refl, _∙_}
+use mathlib.Core.List.{List, [], _++_, append-assoc}
 use Rattle.cbor.specs.Refusals.{Result, ok, refuse, bind}
 use Rattle.cbor.specs.Items.{Item}
 use Rattle.cbor.proofs.Results.{refuse-not-ok}

@@ -1,7 +1,6 @@
 -- Where items are read, there is a way to the text of each one; where an array or a map is read, to the text of each item inside.
 use Prim.Native.Nat.{ℕ, zero, suc}
 use mathlib.Core.Path.{_≡_, refl, sym, _∙_}
-use mathlib.Core.Bool.{Bool, true, false}
 use mathlib.Core.List.{List, [], _++_}
 use lib.Dec.{leb, eqb}
 use Rattle.cbor.specs.Refusals.{Result, ok, refuse}

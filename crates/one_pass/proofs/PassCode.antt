@@ -5,15 +5,14 @@ use mathlib.Core.Bool.{Bool, true, false, not}
 use mathlib.Core.List.{List, [], _∷_, _++_, append-assoc, append-nil}
 use Prim.Native.Nat.{ℕ, zero, suc, _+_, _-_, _*_, _/_, _%_, _^_, _≤_, _<_}
 use native.Mathlib.Omega.{arith}
-use lib.Dec.{eqb, leb}
-use lib.ListN.{length, take, drop, getD, length-drop, drop-of-length-le}
+use lib.ListN.{length, drop, getD, length-drop}
 use borrow.Author.Tests.{eq-eqb, ne-eqb, le-leb, not-true, not-false}
 use Rattle.cbor.specs.Ascii.{ascii}
-use Rattle.cbor.specs.Refusals.{Result, ok, refuse, bind}
-use Rattle.cbor.specs.Items.{unsigned, Size, definite, indefinite, Item, array, map, tag, Items, none, more, Pairs, none₂, more₂, count, count₂}
-use Rattle.cbor.specs.Heads.{Major, arrays, maps, tags, majorOf}
+use Rattle.cbor.specs.Refusals.{ok, bind}
+use Rattle.cbor.specs.Items.{Size, definite, indefinite, Item, array, map, tag, Items, none, more, Pairs, none₂, more₂, count, count₂}
+use Rattle.cbor.specs.Heads.{tags, majorOf}
 use Rattle.cbor.specs.TypedArrays.{mayTag}
-use Rattle.cbor.specs.Decode.{Until, counted, broken, ended, Step, finished, another, stepAt, severalBy, several, severalWithin, Entry, entryAt, extent, tagged, elements, pair, entries, itemBy, item, decode}
+use Rattle.cbor.specs.Decode.{Until, counted, ended, finished, another, stepAt, severalBy, several, severalWithin, entryAt, extent, tagged, elements, pair, entries, itemBy, item, decode}
 use Rattle.cbor.proofs.Results.{refuse-not-ok}
 use Rattle.cbor.proofs.DecodeEncode.{enterAt, by-head}
 use Rattle.head.specs.HeadAnswers.{headTold, argumentAt, HeadRoom, HeadEnd}
@@ -22,19 +21,19 @@ use Rattle.head.specs.declared.HeadRead.the-variants.{Head as HeadV}
 use Rattle.memory.specs.Sums.{capped}
 use Rattle.notation.specs.Printing.{decimalOf, indicatorOf, sizeOf, printItem, printAll, printRest, printAll₂, printRest₂, printText}
 use Rattle.walk_answer.specs.WalkAnswers.{contents, entryContents, untilBy, modeBy, behindBy, stepBy, Turned, Within}
-use Rattle.walk_answer.proofs.Leaves.{Left, Leaves, several-eq}
+use Rattle.walk_answer.proofs.Leaves.{Left, several-eq}
 use Rattle.walk_answer.proofs.ItemLeaves.{item-leaves, entry-leaves}
 use Rattle.text_output.specs.PrintParts.{widthBy, sizeBy}
 use Rattle.printer.specs.PrintAnswers.{PrintHeaded}
 use Rattle.printer.proofs.PrintSeveral.{bind-ok, ok-rest}
-use Rattle.printer.proofs.PrintCycle.{headed, by-size}
+use Rattle.printer.proofs.PrintCycle.{headed}
 use Rattle.printer.proofs.PrintWays.{until-is}
 use Rattle.leaf_written.specs.Laying.{Laid}
 use Rattle.leaf_written.specs.LeafTexts.{Room, HasBlock, HasSpace, LeafTold}
 use Rattle.leaf_written.specs.declared.Written.{Written}
 use Rattle.leaf_written.proofs.LayCode.{laid-none, laid-more, laid-kept, laid-as, laid-after}
-use Rattle.pass_parts.specs.PartAnswers.{commaOf, separatorOf, tagOpening, ItemMade, ItemTold, Closed, MayTag}
-use Rattle.one_pass.specs.PassAnswers.{textOf, AllMade, AllTold, AllPrinted, PassTold}
+use Rattle.pass_parts.specs.PartAnswers.{commaOf, separatorOf, tagOpening, ItemTold, Closed, MayTag}
+use Rattle.one_pass.specs.PassAnswers.{textOf, AllTold, AllPrinted, PassTold}
 use Rattle.pass_parts.proofs.PartCode.{take-less}
 
 -- ONE MORE OF SEVERAL

@@ -1,5 +1,9 @@
 // Printing in one pass: items are checked and written at the same time, into a buffer that they may fill as they like. Where something is refused, or there is no
 // room, nothing is told, and the whole way has to be gone: it says why.
+use head::initial::ARRAY;
+use head::initial::INDEFINITE_LENGTH;
+use head::initial::MAP;
+use head::initial::TAG;
 use leaf_written::Written;
 use leaf_written::has_block;
 use leaf_written::has_space;
@@ -11,6 +15,8 @@ use pass_parts::odd;
 use pass_parts::opening;
 use pass_parts::separator;
 use pass_parts::tag_opening;
+use refusal::limit::MOST_BYTES;
+use refusal::limit::MOST_LEVELS;
 use walk_answer::COUNTED;
 use walk_answer::ENDED;
 use walk_answer::is_over;
@@ -24,24 +30,8 @@ ghost use Rattle.printer.specs.PrintAnswers.{PrintHeaded};
 ghost use Rattle.pass_parts.specs.PartAnswers.{ItemTold};
 ghost use Rattle.one_pass.specs.PassAnswers.{AllTold, PassTold};
 
-// The major types of items that have parts.
-const ARRAY: u8 = 4;
-
-const MAP: u8 = 5;
-
-const TAG: u8 = 6;
-
-// Additional information: the length is indefinite.
-const OPEN: u8 = 31;
-
 // No map that the library takes has as many entries.
 const MOST: u64 = 0xffff_ffff;
-
-// The levels of items: 16 inside each other.
-const LEVELS: usize = 16;
-
-// The most bytes that are taken.
-const LONGEST: usize = 65535;
 
 // THE CYCLE
 
@@ -174,7 +164,7 @@ fn map(
     requires { ⌜ 0 < levels ⌝ }
     ensures { λ r. ⌜ ItemTold (now (bytes .entry)) at levels (now (out .entry)) (now (out .exit)) pos r ⌝ }
 {
-    if info == OPEN {
+    if info == INDEFINITE_LENGTH {
         return odd(bytes, at, levels, out, pos);
     }
     if MOST < n {
@@ -201,7 +191,7 @@ fn tag(
     requires { ⌜ 0 < levels ⌝ }
     ensures { λ r. ⌜ ItemTold (now (bytes .entry)) at levels (now (out .entry)) (now (out .exit)) pos r ⌝ }
 {
-    if info == OPEN {
+    if info == INDEFINITE_LENGTH {
         return none();
     }
     if !may_tag(bytes, end, n) {
@@ -221,10 +211,10 @@ pub fn print_all(bytes: &[u8], out: &mut [u8]) -> usize
     if bytes.len() == 0 {
         return 0;
     }
-    if LONGEST < bytes.len() {
+    if MOST_BYTES < bytes.len() {
         return 0;
     }
-    let all = items(bytes, 0, ENDED, 0, false, b'\n', LEVELS, out, 0);
+    let all = items(bytes, 0, ENDED, 0, false, b'\n', MOST_LEVELS, out, 0);
     let text = closed(all, b'\n', out);
     text.pos
 }

@@ -1,16 +1,16 @@
 -- What opens a level: by its token, or by the byte that stands there.
 -- Assumes nothing.
 use mathlib.Core.Path.{_≡_, refl, sym, ap, _∙_}
-use mathlib.Core.List.{List, [], _∷_, _++_}
+use mathlib.Core.List.{List, [], _∷_}
 use mathlib.Core.Bool.{Bool, true, false, not, true≢false}
-use Prim.Native.Nat.{ℕ, zero, suc, _+_, _-_, _*_, _≤_, _<_, _^_}
+use Prim.Native.Nat.{ℕ, _+_, _-_, _*_, _≤_, _<_}
 use native.Mathlib.Omega.{arith}
 use lib.Dec.{eqb}
 use lib.ListN.{length, drop}
 use mir.Syntax.{w8 as bits8}
 use mir.Val.{Fits}
 use borrow.Author.Tests.{eqb-true, eqb-false, not-true}
-use Rattle.cbor.specs.Refusals.{Result, ok, refuse, bind}
+use Rattle.cbor.specs.Refusals.{Result, ok, bind}
 use Rattle.cbor.proofs.Results.{refuse-not-ok}
 use Rattle.cbor.specs.Widths.{Width, w0, w1, w2, w4, w8, limit, shortest, information}
 use Rattle.cbor.specs.Items.{unsigned, negative, byteString, textString, Item, int, string, chunked, array, map, tag, simple}
@@ -19,8 +19,7 @@ use Rattle.cbor.specs.Encode.{encode}
 use Rattle.cbor.specs.Utf8.{isIn}
 use Rattle.head.specs.HeadAnswers.{headBytes}
 use Rattle.head.proofs.HeadCode.{head-bytes}
-use Rattle.notation.specs.Classes.{classNumber, classOf, classIn, classRows}
-use Rattle.notation.specs.Scanning.{expect}
+use Rattle.notation.specs.Classes.{classOf, classIn, classRows}
 use Rattle.notation.specs.Indicators.{Indicator, absent, indefinitely, unknown, wide, indicator}
 use Rattle.notation.specs.Tokens.{Opener as Opens, bracket, brace, tagging, embedding, leaf, literal, chunking, opens, Token, begins, closes, aComma, aColon}
 use Rattle.notation.specs.Cutting.{openingToken, cut, cutBy, next, place}
@@ -30,7 +29,7 @@ use Rattle.scanning.proofs.Marked.{length-marked, stands-left}
 use Rattle.scanning.proofs.ScanCode.{peeked-yes, expect-yes}
 use Rattle.numbers.specs.NumberAnswers.{Indicated}
 use Rattle.numbers.specs.declared.indicator.Mark.{Mark}
-use Rattle.token.specs.TokenAnswers.{widthNumber, indicatorNumber, itemCode, openCode, kindCode, beginCode, shapeCode, codeOf, openMark, beginMark, markOf, openNumber, beginNumber, numberOf, itemMark, itemNumber, Seen, Took}
+use Rattle.token.specs.TokenAnswers.{widthNumber, indicatorNumber, itemCode, openCode, kindCode, beginCode, codeOf, openMark, beginMark, markOf, openNumber, beginNumber, numberOf, itemMark, itemNumber, Seen, Took}
 use Rattle.numbers.proofs.IndicatorCode.{indicator-none}
 use Rattle.tokens.proofs.CutCode.{opening-known}
 use Rattle.token.specs.declared.Token.{Token as Cut}
@@ -44,7 +43,6 @@ use Rattle.encoding.proofs.ReadWriting.{info-width}
 use Rattle.encoding.proofs.ReadRules.{opensBy, shape-shuts}
 use Rattle.encoding.proofs.Telling.{token, seen-as, past, place-left}
 use Rattle.encoding.proofs.Cuts.{next-cut}
-use Rattle.encoding.specs.Cuts.{NextAt}
 use Rattle.opening.specs.Openings.{OpensAs, Bracketing, Tagging, OpeningTold, ByToken, Opened, bracketByte, BracketAt, OpensBare}
 use Rattle.opening.specs.declared.Opener.{Opener}
 use Rattle.opening.specs.declared.Opener.the-variants.{Array, Map, Tag, Embedded, Nothing}

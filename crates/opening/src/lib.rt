@@ -17,9 +17,6 @@ ghost use Prim.Native.Nat.{_≤_, _+_};
 ghost use lib.ListN.{length};
 ghost use Rattle.notation.specs.Reading.{marked};
 ghost use Rattle.scanning.specs.ScanAnswers.{Skips};
-ghost use Rattle.cbor.specs.Widths.{shortest, information};
-ghost use Rattle.token.specs.TokenAnswers.{Took};
-ghost use Rattle.encoding.specs.ReadAnswers.{initialBy};
 ghost use Rattle.opening.specs.Openings.{Opened, BracketAt, OpeningTold, OpensBare, ByToken, bracketByte};
 
 pub enum Opener {

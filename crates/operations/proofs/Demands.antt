@@ -1,10 +1,9 @@
 -- The demands, proved of the operations' definitions.
-use Prim.Native.Nat.{ℕ, zero, suc, _+_, _-_, _≤_, _<_, min}
+use Prim.Native.Nat.{ℕ, _+_, _-_, _≤_, min}
 use native.Mathlib.Omega.{arith}
 use mathlib.Core.Path.{_≡_, refl, sym, ap, _∙_}
-use mathlib.Core.Bool.{Bool, true, false}
+use mathlib.Core.Bool.{true}
 use mathlib.Core.List.{List, [], _∷_, _++_}
-use lib.Dec.{leb}
 use lib.ListN.{length, take, drop}
 use lib.Seq.{take-at, drop-at}
 use borrow.Author.Tests.{le-leb}
@@ -30,7 +29,7 @@ use Rattle.notation.proofs.SoundRead.{text-valid}
 use Rattle.notation.proofs.Edited.{edited-text}
 use Rattle.notation.proofs.AllFound.{items-found}
 use Rattle.operations.specs.Operations.{andThen, room, fitting, written, bytesOf, read, itemsOf, textOf, print, spotOf, lookUp, partOf, level, replaced, correction, zeroed, correct}
-use Rattle.operations.specs.Demands.{Demand1, Allowed, Encoded, Restores, Demand2, LookedUp, PartLookedUp, Blank, tab, newline, carriageReturn, space, blankByte, OneItem, Stored, Edit, editedText, Agree, Demand3}
+use Rattle.operations.specs.Demands.{Demand1, Allowed, Encoded, Restores, Demand2, PartLookedUp, Blank, tab, newline, carriageReturn, space, blankByte, OneItem, Stored, Edit, editedText, Agree, Demand3}
 use Rattle.operations.proofs.Verdicts.{and-then-ok, and-then-is, and-then-refused, fitting-yes, fitting-ok, fitting-same, written-ok, written-kept, front-all, agree-same, agree-refused}
 
 -- DEMAND 1

@@ -1,6 +1,7 @@
 // What an operation answers that writes into a lent buffer.
 use refusal::Refusal;
 use refusal::RefusalKind;
+use refusal::limit::MOST_BYTES;
 ghost use mathlib.Core.Path.{_≡_};
 ghost use Prim.Native.Nat.{_≤_, min};
 ghost use lib.Dec.{leb};
@@ -23,7 +24,7 @@ pub fn refuse(kind: RefusalKind, place: usize) -> Answer
 pub fn fits(size: usize, room: usize) -> bool
     ensures { λ r. ⌜ r ≡ leb size (min room mostBytes) ⌝ }
 {
-    if 65535 < size {
+    if MOST_BYTES < size {
         return false;
     }
     size <= room

@@ -1,21 +1,20 @@
 -- What stands around items and between them; and items that are not written at a glance.
 -- Assumes nothing.
 use mathlib.Core.Path.{_≡_, refl, sym, ap, _∙_}
-use mathlib.Core.Bool.{Bool, true, false, _&&_, false≢true}
+use mathlib.Core.Bool.{Bool, true, false, false≢true}
 use mathlib.Core.List.{List, [], _∷_, _++_}
-use Prim.Native.Nat.{ℕ, zero, suc, _+_, _-_, _*_, _/_, _%_, _^_, _≤_, _<_}
+use Prim.Native.Nat.{ℕ, _+_, _-_, _*_, _/_, _%_, _^_, _≤_, _<_}
 use native.Mathlib.Omega.{arith}
-use lib.Dec.{eqb, ltb, leb}
+use lib.Dec.{eqb, ltb}
 use lib.ListN.{length, take, drop, getD, length-append, length-take, length-drop}
 use mir.Syntax.{w64 as bits64}
 use mir.Val.{Fits}
 use lib.Seq.{take-all, take-take}
-use borrow.Author.Tests.{eq-eqb, ne-eqb, eqb-true, ltb-true}
-use Rattle.cbor.specs.Ascii.{ascii}
-use Rattle.cbor.specs.Refusals.{Result, ok, refuse, bind}
+use borrow.Author.Tests.{eq-eqb, ne-eqb, ltb-true}
+use Rattle.cbor.specs.Refusals.{Result, ok, refuse}
 use Rattle.cbor.specs.Widths.{w0, argumentBytes, valueFrom}
-use Rattle.cbor.specs.Items.{byteString, Item, string, definite, indefinite}
-use Rattle.cbor.specs.Heads.{Major, strings, majorNumber, itemMajor, majorOf, isFloat, isAllowed, started}
+use Rattle.cbor.specs.Items.{byteString, Item, string, definite}
+use Rattle.cbor.specs.Heads.{Major, strings, majorOf, isFloat, isAllowed, started}
 use Rattle.cbor.specs.TypedArrays.{isTypedArray, asked, elementSize, divides, mayTag}
 use Rattle.cbor.specs.Decode.{contentAt, itemBy, item}
 use Rattle.cbor.proofs.DecodeEncode.{enterAt}
@@ -23,9 +22,9 @@ use Rattle.typed_array.specs.TypedArrayAnswers.{mayTagBy}
 use Rattle.memory.specs.Buffer.{clipped}
 use Rattle.memory.proofs.Buffer.{take-over}
 use Rattle.notation.specs.Printing.{decimalOf, sizeOf, blankBehind, indicatorOf, printInt, printItem}
-use Rattle.walk_answer.specs.WalkAnswers.{WalkTold, itemPassed, walkRefused, walkTold, walkOf, mapResult as mapped}
+use Rattle.walk_answer.specs.WalkAnswers.{itemPassed, walkTold, walkOf, mapResult as mapped}
 use Rattle.walk_answer.specs.declared.Walked.{Walked}
-use Rattle.walk_answer.specs.declared.Walked.the-variants.{Made as MadeV, Refused as RefusedV}
+use Rattle.walk_answer.specs.declared.Walked.the-variants.{Made as MadeV}
 use Rattle.walk_answer.specs.declared.WalkedItem.{WalkedItem}
 use Rattle.text_output.specs.PrintParts.{Prints, widthBy, sizeBy}
 use Rattle.leaf_printer.proofs.PrintHeads.{width-low}

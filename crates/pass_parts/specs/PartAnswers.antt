@@ -1,12 +1,12 @@
 -- Of the code: what stands around items and between them in one pass, and what is told of an item. What is said holds where something is told, and no more is said.
-use Prim.Native.Nat.{ℕ, _+_, _-_, _/_, _%_, _≤_, _<_}
+use Prim.Native.Nat.{ℕ, _+_, _/_, _%_, _≤_, _<_}
 use mathlib.Core.Path.{_≡_}
 use mathlib.Core.Bool.{Bool, true, false}
 use mathlib.Core.List.{List, [], _∷_, _++_}
 use lib.Dec.{eqb}
 use lib.ListN.{length, take, drop}
 use Rattle.cbor.specs.Refusals.{ok}
-use Rattle.cbor.specs.Items.{Item, none, more}
+use Rattle.cbor.specs.Items.{Item, none}
 use Rattle.cbor.specs.TypedArrays.{mayTag}
 use Rattle.cbor.specs.Decode.{item}
 use Rattle.notation.specs.Printing.{decimalOf, indicatorOf, printItem}

@@ -1,4 +1,7 @@
 // Of printing in one pass: what stands around items and between them; and items that are not written at a glance.
+use head::initial::BYTE_STRING;
+use head::initial::IN_ONE_BYTE;
+use head::initial::INDEFINITE_LENGTH;
 use leaf_written::Written;
 use leaf_written::none;
 use leaf_written::put;
@@ -13,14 +16,6 @@ ghost use Rattle.text_output.specs.PrintParts.{sizeBy};
 ghost use Rattle.walk_answer.specs.WalkAnswers.{Within};
 ghost use Rattle.leaf_written.specs.Laying.{Laid};
 ghost use Rattle.pass_parts.specs.PartAnswers.{commaOf, separatorOf, tagOpening, ItemTold, IsItem, Closed, MayTag, ShortString};
-
-// Additional information: the least that is no argument itself; an indefinite length.
-const WIDE: u8 = 24;
-
-const OPEN: u8 = 31;
-
-// The major type of byte strings.
-const BYTES: u8 = 2;
 
 // What stands before an item, of which `left` are left: in a map a colon before a value.
 pub fn comma(map: bool, left: u64) -> u8
@@ -53,12 +48,12 @@ fn mark(info: u8, n: u64, out: &mut [u8], pos: usize) -> usize
     requires { ⌜ pos + 3 ≤ length (now out) ⌝ }
     ensures { λ r. ⌜ Laid (now (out .entry)) (now (out .exit)) pos (sizeOf (sizeBy info) n) r ⌝ }
 {
-    if info < WIDE {
-        if n < WIDE as u64 {
+    if info < IN_ONE_BYTE {
+        if n < IN_ONE_BYTE as u64 {
             return pos;
         }
     }
-    if info == OPEN {
+    if info == INDEFINITE_LENGTH {
         let p = put(b'_', out, pos);
         return put(b' ', out, p);
     }
@@ -100,10 +95,10 @@ pub fn closed(part: Written, bracket: u8, out: &mut [u8]) -> Written
 fn is_short_string(b: u8) -> bool
     ensures { λ r. ⌜ ShortString b r ⌝ }
 {
-    if b / 32 != BYTES {
+    if b / 32 != BYTE_STRING {
         return false;
     }
-    b % 32 < WIDE
+    b % 32 < IN_ONE_BYTE
 }
 
 // Whether it is seen that a tag may stand before what stands behind it: whatever it is, or a short byte string.

@@ -8,7 +8,6 @@ use mathlib.Core.List.{List, [], _∷_}
 use lib.Dec.{eqb}
 use lib.ListN.{length, take, drop, getD, length-drop, drop-of-length-le}
 use lib.Seq.{drop-cons}
-use Rattle.memory.proofs.Lists.{front}
 use borrow.Author.Tests.{eq-eqb, ne-eqb, eqb-true, eqb-false}
 use Rattle.cbor.specs.Refusals.{Result, ok, refuse, bind}
 use Rattle.cbor.specs.Items.{Size}
@@ -30,7 +29,7 @@ use Rattle.walk_parts.proofs.StringCode.{size-indefinite, size-definite}
 use Rattle.walk_answer.proofs.WalkCycle.{Reached, reached, one-leaves, all-leaves, all-more, all-none, all-one, all-double}
 use Rattle.walk_parts.proofs.WalkItems.{all-told}
 use Rattle.path.specs.Following.{Place, at, astray, onto, behindOne, pastOne, stepTo, standing, nthFrom, childBy, childAt, childIn, numbered, followFrom, trace}
-use Rattle.path.specs.StepAnswers.{placeOf, ReachedInside, ReachedAt, Step, majorBy, itemsBefore, pastItems, Begins, tracedTo, Still, Traced}
+use Rattle.path.specs.StepAnswers.{placeOf, ReachedInside, ReachedAt, Step, majorBy, itemsBefore, pastItems, tracedTo, Still, Traced}
 use Rattle.path.specs.declared.Cursor.{Cursor}
 use Rattle.path.specs.declared.Destination.{Destination}
 use Rattle.path.specs.declared.Destination.the-variants.{To, Nowhere}
@@ -359,52 +358,25 @@ pub record Tracing (s path : List ℕ) (move : Destination) (i : ℕ) : Type 0 w
   pub inside : ReachedInside s move
   pub left : trace path s ≡ numbered i (placeOf s move) (followFrom (suc i) (drop (suc i) path))
 
-pub end-none : {s : List ℕ} {i : ℕ} → length s ≤ i → ReachedAt s Nowhere (standing ended (drop i s))
-unfolding placeOf ReachedInside standing stepTo stepAt
-end-none {s} h = record { is = rw (drop-of-length-le s h); inside = tt }
+pub front-room : {s : List ℕ} → Within s 0
+front-room = record { inside = omega arith }
 
-pub end-some : {s : List ℕ} {i : ℕ} → i < length s → ReachedAt s (To (record { at = i })) (standing ended (drop i s))
-unfolding placeOf ReachedInside standing stepTo stepAt
-end-some {s} {i} h = record { is = rw (front s i h); inside = omega arith }
+start-of : (s path : List ℕ) {move : Destination} → (length path ≡ 0 → ⊥) → ReachedAt s move (nthFrom (majorBy false) (getD path 0 0) (untilBy 2 0) (drop 0 s)) → Tracing s path move 0
+unfolding trace majorBy untilBy
+start-of s [] n mv = absurd (n refl)
+start-of s (k ∷ p) n mv = record { below = omega arith; inside = mv .inside; left = ap (λ (x : Place). numbered 0 x (followFrom 1 p)) (sym (mv .is)) }
 
-pub ruleset end-ways = (end-none, end-some)
+pub trace-start : {s path : List ℕ} {move : Destination} → (length path ≡ 0 → ⊥) → ReachedAt s move (nthFrom (majorBy false) (getD path 0 0) (untilBy 2 0) (drop 0 s)) → Tracing s path move 0
+trace-start n mv = start-of _ _ n mv
 
-pub top-is : (k : ℕ) (s : List ℕ) → nthFrom 4 k ended s ≡ onto (pastItems k s) (standing ended)
-unfolding pastItems pastSome lessBy
-top-is k s = skip 4 k ended s
-
-start-of : (s path : List ℕ) (i : ℕ) {move : Destination} → Begins s path i → ReachedAt s move (standing ended (drop i s)) → Tracing s path move 0
-unfolding trace onto
-start-of s [] i b mv = absurd (b .some refl)
-start-of s (k ∷ p) i b mv =
-    record {
-      below = omega arith;
-      inside = mv .inside;
-      left = ap (λ (x : Place). numbered 0 x (followFrom 1 p)) (top-is k s ∙ ap (λ (x : Place). onto x (standing ended)) (b .is) ∙ sym (mv .is));
-    }
-
-pub trace-start : {s path : List ℕ} {i : ℕ} {move : Destination} → Begins s path i → ReachedAt s move (standing ended (drop i s)) → Tracing s path move 0
-trace-start b mv = start-of _ _ _ b mv
-
--- a path leads nowhere if it is empty, or if there are too few items
-pub trace-none : (s path : List ℕ) → length path ≡ 0 → Traced s path (Lost 0)
+-- a path with no steps leads nowhere
+none-of : (s path : List ℕ) → length path ≡ 0 → Traced s path (Lost 0)
 unfolding tracedTo Still trace
-trace-none s [] h = record { is = refl; inside = tt }
-trace-none s (k ∷ p) h = absurd (omega arith)
+none-of s [] h = record { is = refl; inside = tt }
+none-of s (k ∷ p) h = absurd (omega arith)
 
-pub trace-few : (s path : List ℕ) → (length path ≡ 0 → ⊥) → pastItems (getD path 0 0) s ≡ astray → Traced s path (Lost 0)
-unfolding tracedTo Still trace numbered onto
-trace-few s [] n e = absurd (n refl)
-trace-few s (k ∷ p) n e = record { is = sym (ap (λ (x : Place). numbered 0 x (followFrom 1 p)) (top-is k s ∙ ap (λ (x : Place). onto x (standing ended)) e)); inside = tt }
-
--- behind a number of items, or not
-pub items-not : (k : ℕ) (s : List ℕ) (e : Refusal) → passTold (RefusedV e) ≡ toldOf (length s) (allOf 4 17 (counted k) s) → pastItems k s ≡ astray
-unfolding pastItems
-items-not k s e h = sym (past-not s e (allOf 4 17 (counted k) s) h)
-
-pub items-behind : (k : ℕ) (s : List ℕ) {z : ℕ} {r : List ℕ} → allOf 4 17 (counted k) s ≡ ok z r → pastItems k s ≡ at r
-unfolding pastItems behindOne
-items-behind k s e = ap behindOne e
+pub trace-none : {s path : List ℕ} → length path ≡ 0 → Traced s path (Lost 0)
+trace-none h = none-of _ _ h
 
 module _ {s path : List ℕ} {move : Destination} {i : ℕ} (run : Tracing s path move i) where
   pub trace-lost : move ≡ Nowhere → Traced s path (Lost i)
@@ -435,4 +407,4 @@ module _ {s path : List ℕ} {move : Destination} {i : ℕ} (run : Tracing s pat
               ∙ ap (λ (x : Place). numbered (suc i) x (followFrom (suc (suc i)) (drop (suc (suc i)) path))) (sym (mv .is ∙ ap (λ (x : ℕ). childIn x (drop (c .at) s)) q));
         })
 
-pub ruleset trace-ways = (trace-lost, trace-at)
+pub ruleset trace-ways = (trace-none, trace-lost, trace-at)

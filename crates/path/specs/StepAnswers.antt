@@ -3,7 +3,7 @@ use Prim.Native.Nat.{ℕ, _*_, _≤_, _<_}
 use mathlib.Core.Path.{_≡_}
 use mathlib.Core.List.{List}
 use mathlib.Core.Bool.{Bool, true, false}
-use lib.ListN.{length, drop, getD}
+use lib.ListN.{length, drop}
 use Rattle.cbor.specs.Decode.{counted}
 use Rattle.walk_answer.specs.WalkAnswers.{allOf}
 use Rattle.cbor.specs.Paths.{Found, found, nowhere}
@@ -44,12 +44,6 @@ itemsBefore false k = k
 -- behind a number of items
 unfoldable pub pastItems : ℕ → List ℕ → Place
 pastItems n s = behindOne (allOf 4 17 (counted n) s)
-
--- behind as many items as the first step of a path says
-pub record Begins (s path : List ℕ) (i : ℕ) : Type 0 where
-  pub some : length path ≡ 0 → ⊥
-  pub inside : i ≤ length s
-  pub is : pastItems (getD path 0 0) s ≡ at (drop i s)
 
 unfoldable pub tracedTo : List ℕ → Trace → Found (List ℕ)
 tracedTo s (At c) = found (drop (c .at) s)

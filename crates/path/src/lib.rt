@@ -1,13 +1,15 @@
 // A path, followed step by step.
 use head::HeadRead;
+use head::initial::ARRAY;
+use head::initial::MAP;
+use refusal::limit::MOST_LEVELS;
 use walk_answer::Passed;
 ghost use mathlib.Core.Path.{_≡_};
 ghost use Prim.Native.Nat.{_-_};
 ghost use lib.ListN.{drop};
-ghost use Rattle.cbor.specs.Decode.{ended};
 ghost use Rattle.walk_answer.specs.WalkAnswers.{untilBy, Within};
-ghost use Rattle.path.specs.Following.{standing, nthFrom, childIn};
-ghost use Rattle.path.specs.StepAnswers.{ReachedAt, Step, itemsBefore, majorBy, pastItems, Begins, Traced};
+ghost use Rattle.path.specs.Following.{nthFrom, childIn};
+ghost use Rattle.path.specs.StepAnswers.{ReachedAt, Step, itemsBefore, majorBy, pastItems, Traced};
 
 // A place in the bytes.
 pub struct Cursor {
@@ -62,7 +64,7 @@ impl Cursor {
         let part = walk_answer::after(
             at,
             0,
-            walk::elements(&bytes[at..], walk_answer::COUNTED, n, 16),
+            walk::elements(&bytes[at..], walk_answer::COUNTED, n, MOST_LEVELS),
         );
         match part {
             Passed::Refused(_e) => Destination::Nowhere,
@@ -87,17 +89,6 @@ impl Cursor {
         }
     }
 
-    // To the item that stands at the cursor, if one does.
-    fn unless_end(self, bytes: &[u8]) -> Destination
-        ensures { λ r. ⌜ ReachedAt (now (bytes .entry)) r (standing ended (drop (self .at) (now (bytes .entry)))) ⌝ }
-    {
-        let at = self.at;
-        if bytes.len() <= at {
-            return Destination::Nowhere;
-        }
-        Destination::To(Cursor { at })
-    }
-
     // Into the item at the cursor: to the element of an array, or the value of a map's entry, number `k`.
     fn into(self, bytes: &[u8], k: u16) -> Destination
         ensures { λ r. ⌜ ReachedAt (now (bytes .entry)) r (childIn k (drop (self .at) (now (bytes .entry)))) ⌝ }
@@ -108,10 +99,10 @@ impl Cursor {
             HeadRead::Head(h) => {
                 let first = Cursor { at: h.end };
                 let mode = walk_answer::mode_of(h.info);
-                if h.major == 4 {
+                if h.major == ARRAY {
                     return first.nth(bytes, mode, h.argument, false, k);
                 }
-                if h.major != 5 {
+                if h.major != MAP {
                     return Destination::Nowhere;
                 }
                 let step = first.nth(bytes, mode, h.argument, true, k);
@@ -124,13 +115,15 @@ impl Cursor {
     }
 }
 
-// Follows a path, step by step, from where its top item would begin: `at` is behind as many top items as the first step says.
-pub fn follow_from(bytes: &[u8], path: &[u16], at: usize) -> Trace
-    requires { ⌜ Begins (now bytes) (now path) at ⌝ }
+// Follows a path, step by step, from the front of the bytes on.
+pub fn follow(bytes: &[u8], path: &[u16]) -> Trace
     ensures { λ r. ⌜ Traced (now (bytes .entry)) (now (path .entry)) r ⌝ }
 {
-    let top = Cursor { at };
-    let mut step = top.unless_end(bytes);
+    if path.len() == 0 {
+        return Trace::Lost(0);
+    }
+    let front = Cursor { at: 0 };
+    let mut step = front.nth(bytes, walk_answer::ENDED, 0, false, path[0]);
     let mut i: usize = 0;
     loop {
         match step {

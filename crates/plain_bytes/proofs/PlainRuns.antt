@@ -1,23 +1,21 @@
 -- Contents by blocks: how many bytes they take, and runs of bytes that stand for themselves.
 -- Assumes nothing.
-use mathlib.Core.Path.{_≡_, refl, sym, ap, _∙_}
+use mathlib.Core.Path.{_≡_, refl, sym}
 use mathlib.Core.Bool.{Bool, true, false, not, _||_}
-use mathlib.Core.List.{List, [], _∷_, _++_, append-assoc, append-nil}
-use Prim.Native.Nat.{ℕ, suc, _+_, _-_, _≤_, _<_, min, max}
+use mathlib.Core.List.{List, [], _∷_, _++_, append-assoc}
+use Prim.Native.Nat.{ℕ, suc, _+_, _-_, _≤_, _<_, max}
 use native.Mathlib.Omega.{arith}
 use lib.Dec.{ltb, eqb}
-use lib.ListN.{length, take, getD, length-append, drop, length-take, length-drop, take-append-drop}
-use lib.Seq.{take-all, take-add, getD-take, getD-drop}
+use lib.ListN.{length, take, getD, drop, length-take, length-drop}
+use lib.Seq.{getD-take, getD-drop}
 use mir.Syntax.{w8 as bits8}
 use mir.Val.{Fits}
 use borrow.Author.Tests.{ltb-false, lt-ltb, le-ltb, eq-eqb, ne-eqb, ltb-true, eqb-true, not-false}
 use Rattle.cbor.specs.Ascii.{ascii}
 use Rattle.notation.specs.Printing.{hexByteOf, escapeOf, escapedOf}
-use Rattle.memory.specs.Sums.{capped}
 use Rattle.text_output.specs.PrintParts.{contentOf}
-use Rattle.plain_bytes.specs.Runs.{moreBelow, moreAt, More, MoreOf, AllPlain, Plain, PlainRun}
+use Rattle.plain_bytes.specs.Runs.{moreBelow, moreAt, More, AllPlain, Plain, PlainRun}
 use borrow.Author.Count.{below-more}
-use Rattle.text_output.proofs.PrintLeaves.{take-next, take-whole}
 
 -- ONE BYTE
 
@@ -72,69 +70,10 @@ below-fits b {x} {y} ex ey = by (ltb b 0x20) (eqb b 0x22) ex ey
     by false true a c = record { fits = omega arith }
     by false false a c = record { fits = omega arith }
 
--- SIZES
-
 pub escaped-append : (x y : List ℕ) → escapedOf (x ++ y) ≡ escapedOf x ++ escapedOf y
 unfolding escapedOf
 escaped-append [] y = refl
 escaped-append (b ∷ x) y = rw (escaped-append x y, append-assoc (escapeOf b) (escapedOf x) (escapedOf y))
-
-escaped-one : (b : ℕ) → escapedOf (b ∷ []) ≡ escapeOf b
-unfolding escapedOf
-escaped-one b = append-nil (escapeOf b)
-
-length-escaped : (x y : List ℕ) → length (escapedOf (x ++ y)) ≡ length (escapedOf x) + length (escapedOf y)
-length-escaped x y = ap length (escaped-append x y) ∙ length-append (escapedOf x) (escapedOf y)
-
-length-next : (s : List ℕ) (i : ℕ) → i < length s → length (escapedOf (take (i + 1) s)) ≡ length (escapedOf (take i s)) + length (escapeOf (getD s i 0))
-length-next s i h = ap (λ (x : List ℕ). length (escapedOf x)) (take-next s i h) ∙ length-escaped (take i s) (getD s i 0 ∷ []) ∙ ap (λ (x : List ℕ). length (escapedOf (take i s)) + length x) (escaped-one (getD s i 0))
-
-module _ {s : List ℕ} where
-  pub block-start : MoreOf s 0 0
-  unfolding escapedOf
-  block-start = record { is = refl; small = omega arith }
-
-  module _ {i m : ℕ} (inv : MoreOf s i m) where
-    pub block-fits : {x : ℕ} → i < 32 → More (getD s i 0) x → Fits bits8 (m + x)
-    block-fits h x = record { fits = omega (arith, inv .small, x .small) }
-
-    pub block-on : {x : ℕ} → 32 ≤ length s → i < 32 → More (getD s i 0) x → MoreOf s (i + 1) (m + x)
-    block-on l h x = record { is = omega (arith, inv .is, x .is, length-next s i (omega arith)); small = omega (arith, inv .small, x .small) }
-
-    pub block-end : 32 ≤ i → i ≤ 32 → MoreOf s 32 m
-    block-end h g = let e : i ≡ 32 = omega arith in rw e at inv
-
--- what stands before i takes so many bytes
-pub record SizeTo (s : List ℕ) (i size : ℕ) : Type 0 where
-  pub is : size ≡ capped 0 (length (escapedOf (take i s)))
-  pub inside : i ≤ length s
-
-tail-is : (s : List ℕ) (i : ℕ) → take (length s - i) (drop i s) ≡ drop i s
-tail-is s i = take-all (length s - i) (drop i s) (omega (arith, length-drop i s))
-
-module _ {s : List ℕ} where
-  pub size-start : SizeTo s 0 0
-  unfolding escapedOf
-  size-start = record { is = refl; inside = omega arith }
-
-  module _ {i size : ℕ} (inv : SizeTo s i size) where
-    pub size-on : {x r : ℕ} → i < length s → More (getD s i 0) x → r ≡ capped size (1 + x) → SizeTo s (i + 1) r
-    size-on h x e = record { is = omega (arith, inv .is, x .is, length-next s i h); inside = omega arith }
-
-    pub size-block : {x r : ℕ} → 32 ≤ length s - i → MoreOf (take (length s - i) (drop i s)) 32 x → r ≡ capped size (32 + x) → SizeTo s (i + 32) r
-    size-block {x} h m e =
-        let q : 32 + x ≡ length (escapedOf (take 32 (drop i s))) = m .is ∙ ap (λ (t : List ℕ). length (escapedOf (take 32 t))) (tail-is s i) in
-        let l = ap (λ (t : List ℕ). length (escapedOf t)) (take-add i 32 s) ∙ length-escaped (take i s) (take 32 (drop i s)) in
-        record { is = omega (arith, inv .is); inside = omega arith }
-
-    pub size-end : length s ≤ i → size ≡ capped 0 (length (escapedOf s))
-    size-end h = inv .is ∙ ap (λ (t : List ℕ). capped 0 (length (escapedOf t))) (take-whole s i h)
-
-    pub size-last : {x r : ℕ} → x ≡ capped 0 (length (escapedOf (take (length s - i) (drop i s)))) → r ≡ capped size x → r ≡ capped 0 (length (escapedOf s))
-    size-last e f =
-        let q = ap (λ (t : List ℕ). length (escapedOf t)) (tail-is s i) in
-        let l = ap (λ (t : List ℕ). length (escapedOf t)) (sym (take-append-drop i s)) ∙ length-escaped (take i s) (drop i s) in
-        omega (arith, inv .is)
 
 -- RUNS
 

@@ -1,11 +1,11 @@
 -- Of the code: runs of bytes that stand for themselves between quotes, and how much longer the others get.
-use Prim.Native.Nat.{ℕ, _+_, _*_, _≤_, _<_}
+use Prim.Native.Nat.{ℕ, _+_, _≤_, _<_}
 use mathlib.Core.Path.{_≡_}
 use mathlib.Core.List.{List}
 use mathlib.Core.Bool.{Bool, true, false}
 use lib.Dec.{ltb, eqb}
-use lib.ListN.{length, take, getD}
-use Rattle.notation.specs.Printing.{escapeOf, escapedOf}
+use lib.ListN.{length, getD}
+use Rattle.notation.specs.Printing.{escapeOf}
 
 unfoldable pub moreBelow : ℕ → ℕ
 moreBelow b = elim (ltb b 0x20) [ true ↦ 5 | false ↦ 0 ]
@@ -17,11 +17,6 @@ moreAt b c = elim (eqb b c) [ true ↦ 1 | false ↦ 0 ]
 pub record More (b r : ℕ) : Type 0 where
   pub is : 1 + r ≡ length (escapeOf b)
   pub small : r ≤ 5
-
--- the first i bytes take r more than i
-pub record MoreOf (s : List ℕ) (i r : ℕ) : Type 0 where
-  pub is : i + r ≡ length (escapedOf (take i s))
-  pub small : r ≤ 5 * i
 
 -- each byte takes one
 pub record AllPlain (s : List ℕ) : Type 0 where

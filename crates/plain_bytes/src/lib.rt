@@ -1,11 +1,8 @@
 // Bytes that stand for themselves between quotes, by blocks, and how many bytes more the others take.
-use saturating::sum;
 ghost use mathlib.Core.Path.{_≡_};
 ghost use Prim.Native.Nat.{_≤_, max};
 ghost use lib.ListN.{length};
-ghost use Rattle.memory.specs.Sums.{capped};
-ghost use Rattle.notation.specs.Printing.{escapedOf};
-ghost use Rattle.plain_bytes.specs.Runs.{moreBelow, moreAt, More, MoreOf, Plain, PlainRun};
+ghost use Rattle.plain_bytes.specs.Runs.{moreBelow, moreAt, More, Plain, PlainRun};
 
 // HOW MANY BYTES MORE
 
@@ -35,44 +32,6 @@ pub fn more(b: u8) -> u8
     ensures { λ r. ⌜ More b r ⌝ }
 {
     more_below(b) + more_at(b, b'"') + more_at(b, b'\\')
-}
-
-// The same of a block. The loop has no way out, so the compiler makes wide steps of it.
-fn more_block(bytes: &[u8]) -> u8
-    requires { ⌜ 32 ≤ length (now bytes) ⌝ }
-    ensures { λ r. ⌜ MoreOf (now (bytes .entry)) 32 r ⌝ }
-{
-    let mut size: u8 = 0;
-    let mut i: usize = 0;
-    while i < BLOCK {
-        size += more(bytes[i]);
-        i += 1;
-    }
-    size
-}
-
-fn bytes_size(bytes: &[u8]) -> usize
-    ensures { λ r. ⌜ r ≡ capped 0 (length (escapedOf (now (bytes .entry)))) ⌝ }
-{
-    let mut size: usize = 0;
-    let mut i: usize = 0;
-    while i < bytes.len() {
-        size = sum(size, 1 + more(bytes[i]) as usize);
-        i += 1;
-    }
-    size
-}
-
-pub fn escaped_size(bytes: &[u8]) -> usize
-    ensures { λ r. ⌜ r ≡ capped 0 (length (escapedOf (now (bytes .entry)))) ⌝ }
-{
-    let mut size: usize = 0;
-    let mut i: usize = 0;
-    while BLOCK <= bytes.len() - i {
-        size = sum(size, BLOCK + more_block(&bytes[i..]) as usize);
-        i += BLOCK;
-    }
-    sum(size, bytes_size(&bytes[i..]))
 }
 
 // RUNS OF BYTES THAT STAND FOR THEMSELVES

@@ -6,21 +6,19 @@ use mathlib.Core.Bool.{Bool, true, false, not}
 use Prim.Native.Nat.{ℕ, _+_, _-_, _*_, _≤_, _<_}
 use native.Mathlib.Omega.{arith}
 use lib.Dec.{eqb}
-use lib.ListN.{length, take, drop, getD}
+use lib.ListN.{length, drop, getD}
 use mir.Syntax.{w8 as bits8}
 use mir.Val.{Fits}
-use borrow.Author.Tests.{eqb-true, ne-eqb, not-true, not-false}
-use Rattle.cbor.specs.Refusals.{ok, bind}
-use Rattle.cbor.specs.Widths.{w8, limit, shortest}
+use borrow.Author.Tests.{not-true, not-false}
+use Rattle.cbor.specs.Refusals.{bind}
+use Rattle.cbor.specs.Widths.{limit}
 use Rattle.cbor.specs.Items.{simple, levels}
 use Rattle.cbor.specs.Heads.{simples, majorNumber}
 use Rattle.cbor.specs.Encode.{encode}
 use Rattle.cbor.specs.Utf8.{isIn}
 use Rattle.memory.specs.Buffer.{overIfFits}
 use Rattle.notation.specs.Classes.{letter, classNumber, classRows, classIn, classOf, is, isWord}
-use Rattle.notation.specs.Scanning.{run, whether}
 use Rattle.notation.specs.Words.{same, value, worded, word}
-use Rattle.notation.specs.Tokens.{leaf, begins}
 use Rattle.notation.specs.Cutting.{cutBy, cut}
 use Rattle.notation.specs.Reading.{marked}
 use Rattle.notation.proofs.ScanningElements.{clash}
@@ -30,8 +28,7 @@ use Rattle.scanning.proofs.ClassCode.{word-below}
 use Rattle.scanning.proofs.Marked.{length-marked, at-byte, at-end}
 use Rattle.scanning.proofs.ScanCode.{peeked-yes}
 use Rattle.encoding.specs.ReadAnswers.{heldOf, Tells}
-use Rattle.encoding.specs.Cuts.{CutAt}
-use Rattle.leaf_answer.specs.LeafAnswers.{LeafMade, LeafTold}
+use Rattle.leaf_answer.specs.LeafAnswers.{LeafTold}
 use Rattle.leaf_head.specs.HeadParts.{shortHead, HeadMade}
 use Rattle.plain_leaf.specs.LeafParts.{Four, NoWord, EndsWord, WordEnds, Spells, KnownWord}
 use Rattle.plain_leaf.specs.declared.word.SimpleWord.{SimpleWord}

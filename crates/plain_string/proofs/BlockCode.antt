@@ -14,7 +14,7 @@ use mir.Val.{Fits}
 use borrow.Author.Count.{below-more}
 use borrow.Author.Tests.{leb-true, not-false}
 use Rattle.memory.specs.Buffer.{over, overIfFits, copied}
-use Rattle.memory.proofs.Buffer.{over-nil, over-snoc, length-over, length-part, written-fits, length-written, copied-yes, take-written, take-copied}
+use Rattle.memory.proofs.Buffer.{over-nil, over-snoc, length-part, written-fits, length-written, copied-yes, take-written, take-copied}
 use Rattle.notation.specs.Numbers.{isDigit, digitValue}
 use Rattle.notation.specs.Literals.{standsFor, after, hexContent, hexFrom, halfEnd}
 use Rattle.notation.proofs.ScanningElements.{clash}

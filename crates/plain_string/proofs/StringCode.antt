@@ -8,12 +8,10 @@ use native.Mathlib.Omega.{arith}
 use lib.Dec.{leb, ltb, eqb}
 use lib.ListN.{length, take, drop, getD, length-append, length-drop, drop-of-length-le}
 use lib.Seq.{length-take-le, take-append-le, take-take, take-all}
-use mir.Syntax.{w64 as bits64}
-use mir.Val.{Fits}
-use borrow.Author.Tests.{le-leb, leb-true, leb-false, eq-eqb, ne-eqb, not-true, not-false}
+use borrow.Author.Tests.{le-leb, leb-true, leb-false, eq-eqb, ne-eqb, not-false}
 use Rattle.cbor.specs.Refusals.{Result, ok, bind, noToken}
-use Rattle.cbor.specs.Widths.{Width, w8, limit, shortest}
-use Rattle.cbor.specs.Items.{Kind, byteString, textString, definite, string}
+use Rattle.cbor.specs.Widths.{Width, limit, shortest}
+use Rattle.cbor.specs.Items.{Kind, byteString, definite, string}
 use Rattle.cbor.specs.Heads.{strings, majorNumber, head}
 use Rattle.cbor.specs.Encode.{encodeString, encode}
 use Rattle.cbor.specs.Utf8.{_to_, isIn}
@@ -24,11 +22,11 @@ use Rattle.notation.specs.Classes.{blank, classNumber, classRows, classIn, clas
 use Rattle.notation.specs.Scanning.{fault, run, whether}
 use Rattle.notation.specs.Numbers.{worth, noDigit, isDigit}
 use Rattle.notation.specs.Indicators.{absent, indicator, choose}
-use Rattle.notation.specs.Quoted.{character, gives, closed, moveAt, unquote}
+use Rattle.notation.specs.Quoted.{character, gives, moveAt, unquote}
 use Rattle.notation.specs.Literals.{literalToken, quotedToken, quoted, isBody, body, standsFor, hexContent, contained, encodedLiteral}
 use Rattle.notation.specs.Words.{same, prefixed, word}
 use Rattle.notation.specs.Tokens.{literal, begins}
-use Rattle.notation.specs.Form.{literalItem, beginning, oneRule, obey, reads}
+use Rattle.notation.specs.Form.{literalItem, beginning, oneRule, obey}
 use Rattle.notation.specs.Cutting.{cutBy, cut}
 use Rattle.notation.specs.Reading.{marked}
 use Rattle.cbor.proofs.Utf8Laws.{is-in}
@@ -38,10 +36,10 @@ use Rattle.scanning.specs.TextRuns.{Textual, TextRun}
 use Rattle.scanning.proofs.Marked.{length-marked, tail-is, at-byte}
 use Rattle.scanning.proofs.ScanCode.{peeked-yes, whether-no}
 use Rattle.hex_pairs.specs.PairAnswers.{HexDigits, PairsPut}
-use Rattle.encoding.specs.ReadAnswers.{heldOf, Tells, Wrote}
+use Rattle.encoding.specs.ReadAnswers.{heldOf, Tells}
 use Rattle.encoding.proofs.Wrote.{wrote-written, wrote-more}
 use Rattle.encoding.specs.Cuts.{CutAt}
-use Rattle.leaf_answer.specs.LeafAnswers.{Whole, LeafMade, LeafTold}
+use Rattle.leaf_answer.specs.LeafAnswers.{Whole, LeafTold}
 use Rattle.leaf_head.specs.HeadParts.{shortHead, HeadMade}
 use Rattle.plain_string.specs.StringParts.{TextPart, WrittenBehind, StringMade, quotedKind, Quote, StringMajor, QuotedAt, HexPart, PairsBehind, HexMade, HexAt}
 use Rattle.plain_string.specs.BlockParts.{Short, ShortPart, ShortPairs}

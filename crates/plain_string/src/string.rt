@@ -2,8 +2,8 @@
 use crate::block::is_short;
 use crate::block::put_short;
 use crate::block::put_short_hex;
-use encoding::major::BYTE_STRING;
-use encoding::major::TEXT_STRING;
+use head::initial::BYTE_STRING;
+use head::initial::TEXT_STRING;
 use hex_pairs::hex_run;
 use hex_pairs::put_pairs;
 use leaf_answer::LeafRead;

@@ -3,6 +3,8 @@ use outcome::fits;
 use part::Part;
 use refusal::Refusal;
 use refusal::RefusalKind;
+use refusal::limit::MOST_BYTES;
+use refusal::limit::MOST_LEVELS;
 ghost use mathlib.Core.Path.{_≡_};
 ghost use lib.ListN.{take};
 ghost use Rattle.memory.specs.Buffer.{over};
@@ -28,18 +30,21 @@ pub fn refuse(kind: RefusalKind, place: usize) -> Decision
     Decision::Refused(Refusal { kind, place })
 }
 
+// The steps of a path to an item inside all levels.
+const DEEPEST: usize = 17;
+
 // How many levels are left for an item at a path.
 pub fn level(path: &[u16]) -> usize
     ensures { λ r. ⌜ r ≡ level (now (path .entry)) ⌝ }
 {
     let steps = path.len();
     if steps <= 1 {
-        return 16;
+        return MOST_LEVELS;
     }
-    if 17 < steps {
+    if DEEPEST < steps {
         return 0;
     }
-    17 - steps
+    DEEPEST - steps
 }
 
 // 14, or the plan.
@@ -47,7 +52,7 @@ pub fn plan_for(p: Part, used: usize, size: usize, room: usize) -> Decision
     requires { ⌜ Bounded p used ⌝ }
     ensures { λ r. ⌜ PlanFor p used size room r ⌝ }
 {
-    if 65535 < size {
+    if MOST_BYTES < size {
         return refuse(RefusalKind::NoRoom, 0);
     }
     let length = p.start + size + (used - p.end);

@@ -14,7 +14,7 @@ use Rattle.cbor.specs.Encode.{encodeString, openingHead, enclosed, encodeChunks
 use Rattle.cbor.specs.Valid.{Valid, ValidAll, ValidAll₂}
 use Rattle.cbor.proofs.DecodeEncode.{shortest-simple}
 use Rattle.notation.specs.Words.{falseWord, trueWord, nullWord, undefinedWord, simpleWord}
-use Rattle.notation.specs.Printing.{decimalOf, hexByteOf, hexOf, escapeOf, escapedOf, widthName, indicatorOf, printString, printChunks, printChunked, blankBehind, sizeOf, printSimple, printInt, printItem, printAll, printRest, printAll₂, printRest₂}
+use Rattle.notation.specs.Printing.{decimalOf, hexByteOf, escapeOf, escapedOf, widthName, indicatorOf, printString, printChunks, printChunked, blankBehind, sizeOf, printSimple, printInt, printItem, printAll, printRest, printAll₂, printRest₂}
 use Rattle.decimal_output.proofs.DecimalCode.{decimal-length}
 use Rattle.hex_output.proofs.HexCode.{hex-length}
 

@@ -4,19 +4,17 @@ use mathlib.Core.Path.{_≡_, refl, sym, ap, _∙_}
 use mathlib.Core.Bool.{Bool, true, false, not, false≢true}
 use mathlib.Core.List.{List, [], _∷_, _++_, append-assoc, append-nil}
 use Prim.Native.Nat.{ℕ, zero, suc, _+_, _-_, _*_, _^_, _≤_, _<_}
-use native.Mathlib.Nat.{add-zero}
 use native.Mathlib.Omega.{arith}
-use lib.Dec.{leb, eqb}
-use lib.ListN.{length, drop, getD, drop-of-length-le}
+use lib.Dec.{leb}
+use lib.ListN.{length, drop}
 use mir.Syntax.{w64 as bits64}
 use mir.Val.{Fits}
-use borrow.Author.Tests.{eq-eqb, ne-eqb, leb-true, leb-false, not-true, not-false}
+use borrow.Author.Tests.{ne-eqb, leb-true, leb-false, not-true, not-false}
 use Rattle.cbor.specs.Refusals.{Result, ok, refuse, bind}
-use Rattle.cbor.specs.Decode.{Until, counted, broken, ended, Step, finished, another, stepAt, severalBy, severalWithin, several}
+use Rattle.cbor.specs.Decode.{Until, counted, Step, finished, another, stepAt, severalBy, severalWithin, several}
 use Rattle.cbor.proofs.Results.{refuse-not-ok}
-use Rattle.memory.proofs.Lists.{front}
 use Rattle.memory.specs.Sums.{capped}
-use Rattle.walk_answer.specs.WalkAnswers.{mapResult as mapped, Within, untilBy, modeBy, behindBy, stepBy, Turned}
+use Rattle.walk_answer.specs.WalkAnswers.{mapResult as mapped, Within, untilBy, behindBy, stepBy, Turned}
 use Rattle.text_output.specs.PrintParts.{Prints}
 use Rattle.printer.specs.PrintAnswers.{printOneOf, printAllOf, Moves, separatorOf, joined, openingBy, closingBy, Done, PrintTold}
 use Rattle.printer.specs.declared.Printed.{Printed}

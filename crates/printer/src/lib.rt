@@ -2,6 +2,12 @@
 // Each function answers where in the bytes what it printed ends, and the place in the buffer behind its text.
 use head::HeadAt;
 use head::HeadRead;
+use head::initial::ARRAY;
+use head::initial::INDEFINITE_LENGTH;
+use head::initial::MAP;
+use head::initial::NEGATIVE_INTEGER;
+use head::initial::TAG;
+use head::initial::TEXT_STRING;
 use saturating::sum;
 use walk_answer::BROKEN;
 use walk_answer::ENDED;
@@ -12,7 +18,7 @@ use walk_answer::past;
 ghost use mathlib.Core.Path.{_≡_};
 ghost use Prim.Native.Nat.{_+_, _-_};
 ghost use mathlib.Core.Bool.{true};
-ghost use lib.ListN.{length, drop};
+ghost use lib.ListN.{drop};
 ghost use lib.Dec.{eqb};
 ghost use Rattle.cbor.specs.Heads.{taking};
 ghost use Rattle.cbor.specs.Decode.{chunkAt, entryAt, item};
@@ -21,18 +27,6 @@ ghost use Rattle.walk_answer.specs.WalkAnswers.{mapResult as mapped, below, unt
 ghost use Rattle.cbor.specs.Flags.{kindOf};
 ghost use Rattle.text_output.specs.PrintParts.{Prints, widthBy};
 ghost use Rattle.printer.specs.PrintAnswers.{entryText, chunkText, printOneOf, printAllOf, Moves, separatorOf, joined, openingBy, closingBy, containerText, chunkedText, tagText, PrintTold, PrintHeaded, PrintedAll};
-
-// The major types of items that have parts, or a content.
-const TEXT: u8 = 3;
-
-const ARRAY: u8 = 4;
-
-const MAP: u8 = 5;
-
-const TAG: u8 = 6;
-
-// Additional information: the length is indefinite, or it is a break.
-const OPEN: u8 = 31;
 
 // The levels of items: 16 inside each other, and the text around them.
 const LEVELS: usize = 17;
@@ -43,7 +37,7 @@ pub struct Printed {
 }
 
 // Whether a part that starts at a place ends behind it, and within the bytes.
-pub fn moves(at: usize, end: usize, size: usize) -> bool
+fn moves(at: usize, end: usize, size: usize) -> bool
     ensures { λ r. ⌜ Moves at end size r ⌝ }
 {
     if end <= at {
@@ -136,15 +130,23 @@ fn behind(bytes: &[u8], at: usize, h: HeadAt, levels: usize, out: &mut [u8], pos
     ensures { λ r. ⌜ PrintTold (now (bytes .entry)) (at + 1) (now (out .entry)) (now (out .exit)) pos r (mapped printItem (item levels (drop at (now (bytes .entry))))) ⌝ }
 {
     let major = h.major;
-    if major <= 1 {
-        let p = leaf_printer::integer(major == 1, h.info, h.argument, out, pos);
+    if major <= NEGATIVE_INTEGER {
+        let p = leaf_printer::integer(major == NEGATIVE_INTEGER, h.info, h.argument, out, pos);
         return Printed { end: h.end, pos: p };
     }
-    if major <= TEXT {
-        if h.info == OPEN {
+    if major <= TEXT_STRING {
+        if h.info == INDEFINITE_LENGTH {
             return chunked(bytes, h.end, major, levels, out, pos);
         }
-        return string(bytes, h.end, h.argument, h.info, major == TEXT, out, pos);
+        return string(
+            bytes,
+            h.end,
+            h.argument,
+            h.info,
+            major == TEXT_STRING,
+            out,
+            pos,
+        );
     }
     if major <= MAP {
         return container(bytes, h.end, h.info, h.argument, major, levels, out, pos);
@@ -228,7 +230,7 @@ fn chunked(
     ensures { λ r. ⌜ PrintTold (now (bytes .entry)) from (now (out .entry)) (now (out .exit)) pos r (mapped (chunkedText (kindOf (eqb major 3))) (printAllOf major levels (untilBy 1 0) (drop from (now (bytes .entry))))) ⌝ }
 {
     if is_over(bytes, from, BROKEN, 0) {
-        let p = leaf_printer::no_chunks(major == TEXT, out, pos);
+        let p = leaf_printer::no_chunks(major == TEXT_STRING, out, pos);
         return Printed {
             end: sum(from, 1),
             pos: p,
@@ -262,7 +264,7 @@ fn one(bytes: &[u8], at: usize, major: u8, levels: usize, out: &mut [u8], pos: u
     if major == MAP {
         return entry(bytes, at, levels, out, pos);
     }
-    chunk(bytes, at, major == TEXT, out, pos)
+    chunk(bytes, at, major == TEXT_STRING, out, pos)
 }
 
 // Several inside an item of a major type, from a place on.

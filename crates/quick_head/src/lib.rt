@@ -1,4 +1,6 @@
 // Heads that the quick walk knows at a glance: an initial byte that is all of the head of an array, a map or a tag; a string whose length is in two bytes.
+use head::initial::IN_ONE_BYTE;
+use head::initial::IN_TWO_BYTES;
 ghost use Rattle.head.specs.HeadAnswers.{Widened};
 ghost use Rattle.quick_head.specs.QuickHeads.{Inner, TwoBytes};
 
@@ -10,11 +12,6 @@ const MAPS: u8 = 0xa0;
 const TAGS: u8 = 0xc0;
 
 const LONG_TAGS: u8 = 0xd8;
-
-// Additional information: the least that is no argument itself; an argument in two bytes.
-pub const WIDE: u8 = 24;
-
-const IN_TWO: u8 = 25;
 
 // INITIAL BYTES
 
@@ -34,7 +31,7 @@ pub fn inner(initial: u8) -> u8
     if TAGS <= initial {
         return 1;
     }
-    if WIDE <= initial % 32 {
+    if IN_ONE_BYTE <= initial % 32 {
         return NO_HEAD;
     }
     let n = initial % 32;
@@ -69,7 +66,7 @@ pub fn two_bytes(bytes: &[u8]) -> u64
     if initial / 64 != 1 {
         return NO_LENGTH;
     }
-    if initial % 32 != IN_TWO {
+    if initial % 32 != IN_TWO_BYTES {
         return NO_LENGTH;
     }
     wide(bytes[1]) * 256 + wide(bytes[2])

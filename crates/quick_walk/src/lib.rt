@@ -2,11 +2,17 @@
 // to level. It tells no refusal: of what it does not pass over, nothing is known.
 use head::head_argument;
 use head::head_end;
+use head::initial::ARRAY;
+use head::initial::BYTE_STRING;
+use head::initial::IN_ONE_BYTE;
+use head::initial::INDEFINITE_LENGTH;
+use head::initial::MAP;
+use head::initial::TAG;
+use head::initial::TEXT_STRING;
 use quick_head::ARRAYS;
 use quick_head::NO_HEAD;
 use quick_head::NO_LENGTH;
 use quick_head::TWO_END;
-use quick_head::WIDE;
 use quick_head::inner;
 use quick_head::two_bytes;
 use quick_leaf::if_below;
@@ -43,20 +49,6 @@ const MOST_ENTRIES: u64 = 0xffff_ffff;
 const SIMPLES: u8 = 0xe0;
 
 const LAST_INTEGER: u8 = 0x3f;
-
-// Additional information of an indefinite length.
-const OPEN: u8 = 31;
-
-// Major types.
-const BYTES: u8 = 2;
-
-const TEXT: u8 = 3;
-
-const ARRAY: u8 = 4;
-
-const MAP: u8 = 5;
-
-const TAG: u8 = 6;
 
 // An end and a size in one number.
 fn pack(end: usize, size: usize) -> u64
@@ -114,7 +106,7 @@ fn may_be_leaf(bytes: &[u8], at: usize) -> bool {
     if ARRAYS <= initial {
         return SIMPLES <= initial;
     }
-    smaller(initial % 32, if_below(LAST_INTEGER, initial)) < WIDE
+    smaller(initial % 32, if_below(LAST_INTEGER, initial)) < IN_ONE_BYTE
 }
 
 // The item at the front, by the whole way.
@@ -138,7 +130,7 @@ fn string(bytes: &[u8], end: usize, n: u64, levels: usize) -> u64
         return UNKNOWN;
     }
     let behind = end + n as usize;
-    if is_text(&bytes[end..behind], bytes[0] / 32 == TEXT) {
+    if is_text(&bytes[end..behind], bytes[0] / 32 == TEXT_STRING) {
         return pack(behind, behind - end);
     }
     UNKNOWN
@@ -159,13 +151,13 @@ fn plain(bytes: &[u8], levels: usize) -> u64
     }
     let initial = bytes[0];
     let major = initial / 32;
-    if major < BYTES {
+    if major < BYTE_STRING {
         return pack(end, 0);
     }
-    if TEXT < major {
+    if TEXT_STRING < major {
         return whole(bytes, levels);
     }
-    if initial % 32 == OPEN {
+    if initial % 32 == INDEFINITE_LENGTH {
         return whole(bytes, levels);
     }
     string(bytes, end, head_argument(bytes, 0), levels)
@@ -208,7 +200,7 @@ fn part(bytes: &[u8], levels: usize) -> u64
     ensures { λ r. ⌜ Quick (toldOf (length (now (bytes .entry))) (oneOf 4 (suc levels) (now (bytes .entry)))) r ⌝ }
 {
     let major = major_at(bytes, 0);
-    if major <= TEXT {
+    if major <= TEXT_STRING {
         return plain(bytes, levels);
     }
     if levels == 0 {
@@ -268,7 +260,7 @@ fn tag(bytes: &[u8], levels: usize) -> u64
     if r == UNKNOWN {
         return UNKNOWN;
     }
-    if typed_array::may_tag(n, major_at(bytes, end) == BYTES, size_in(r)) {
+    if typed_array::may_tag(n, major_at(bytes, end) == BYTE_STRING, size_in(r)) {
         return r;
     }
     UNKNOWN

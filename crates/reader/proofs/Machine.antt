@@ -1,24 +1,22 @@
 -- The machine that reads several items, in the code's words, is the definitions' readers of items, of pairs and of an item with what follows.
 -- Assumes nothing.
 use mathlib.Core.Path.{_≡_, refl, sym, ap, _∙_}
-use mathlib.Core.Bool.{Bool, true, false, not, true≢false}
-use mathlib.Core.List.{List, [], _∷_, _++_, append-nil, append-assoc}
-use Prim.Native.Nat.{ℕ, suc, _+_, _-_, _≤_, _<_}
-use native.Mathlib.Nat.{zero-add}
+use mathlib.Core.Bool.{Bool, true, false, true≢false}
+use mathlib.Core.List.{List, [], _++_, append-nil, append-assoc}
+use Prim.Native.Nat.{ℕ, suc, _+_, _-_}
 use native.Mathlib.Omega.{arith}
 use lib.Dec.{eqb}
-use lib.ListN.{length, drop}
 use borrow.Author.Tests.{eq-eqb, ne-eqb, eqb-true, eqb-false}
 use Rattle.cbor.specs.Refusals.{Result, ok, refuse, bind}
-use Rattle.cbor.specs.Items.{Item, Items, none, more, Pairs, none₂, more₂, count, count₂}
+use Rattle.cbor.specs.Items.{Item, Pairs, none₂, more₂, count, count₂}
 use Rattle.cbor.specs.Encode.{encode, encodeAll, encodeAll₂}
 use Rattle.notation.specs.Indicators.{Indicator}
 use Rattle.notation.specs.Tokens.{Shape, square, curly, round, angle, whole, Token, begins, closes, aComma, aColon}
 use Rattle.notation.specs.Cutting.{next, place}
-use Rattle.notation.specs.Form.{atStart, behindComma, one, items, pairs, Closed, give, stray, strays, shapeNumber, closingRule, addItem, afterKey, afterValue, obey, reads}
-use Rattle.notation.proofs.Equations.{bind-same, bind-assoc, obey-if}
+use Rattle.notation.specs.Form.{behindComma, one, items, pairs, Closed, stray, strays, shapeNumber, closingRule, addItem, afterKey, afterValue, obey, reads}
+use Rattle.notation.proofs.Equations.{bind-same, bind-assoc}
 use Rattle.token.specs.TokenAnswers.{indicatorNumber, shapeCode, codeOf, markOf}
-use Rattle.encoding.specs.ReadAnswers.{View, Held, unsaid, ofItem, ofClosed, ofPairs, followBy, followed}
+use Rattle.encoding.specs.ReadAnswers.{View, unsaid, ofItem, ofClosed, ofPairs, followBy, followed}
 use Rattle.encoding.proofs.ReadRules.{opensBy, begin-not, begin-close, shape-low, code-some, indicatorOf, step, step-close, step-comma, step-stray, items-more, items-end, items-start, lastItem, follow-yes, follow-no, pairs-more, pairs-end, pairs-start}
 use Rattle.closing.proofs.Closers.{closing-is}
 use Rattle.closers.specs.CloserTables.{shapeOf, isSingle, mayBeEmpty, starts, turned, counted, commaCode, colonCode, separatorCode, closerCode, shownBy}

@@ -3,10 +3,9 @@
 use mathlib.Core.Path.{_≡_, refl, sym, ap, _∙_}
 use mathlib.Core.List.{List, [], _∷_, _++_}
 use mathlib.Core.Bool.{Bool, true, false}
-use Prim.Native.Nat.{ℕ, zero, suc, _+_, _-_, _*_, _%_, _≤_, _<_, _^_, min}
+use Prim.Native.Nat.{ℕ, zero, suc, _+_, _-_, _*_, _≤_, _<_, _^_, min}
 use native.Mathlib.Omega.{arith}
-use lib.Dec.{eqb}
-use lib.ListN.{length, take, drop, length-append}
+use lib.ListN.{length, drop, length-append}
 use mir.Syntax.{w64 as bits64}
 use mir.Val.{Fits}
 use Rattle.cbor.specs.Refusals.{Result, ok, refuse, bind, badIndicator, badTypedArray}
@@ -27,25 +26,22 @@ use Rattle.notation.specs.Form.{atStart, one, items, pairs, give, denyFirst, st
 use Rattle.notation.specs.Reading.{marked, sequence}
 use Rattle.notation.proofs.Equations.{bind-same, bind-assoc, obey-if}
 use Rattle.notation.proofs.SoundToken.{Chose, choose-fits}
-use Rattle.token.specs.TokenAnswers.{widthNumber, indicatorNumber, shapeCode, codeOf}
+use Rattle.token.specs.TokenAnswers.{indicatorNumber, shapeCode, codeOf}
 use Rattle.numbers.specs.NumberAnswers.{chooseBy, chosenNumber}
 use Rattle.numbers.proofs.IndicatorCode.{choose-is}
-use Rattle.scanning.proofs.Marked.{stands-left, length-marked}
-use Rattle.leaf_answer.specs.LeafAnswers.{LeafTold}
+use Rattle.scanning.proofs.Marked.{length-marked}
 use Rattle.leaf_answer.specs.declared.LeafRead.{LeafRead}
-use Rattle.encoding.specs.ReadAnswers.{View, Held, unsaid, noBytes, bytesOf, heldOf, Tells, ofItem, ofClosed, ofPairs, ofTagged, followBy, followed, behindOpener, taggedRead, indicatorFor, infoBy, HeadSize, HeadWritten, Room, Opened, Bracketed, Light, Heavy, Few, IsShort, Roomed, Wrote, MovedOn, After, ReadTold, Finished, FinishedShort, Ended}
+use Rattle.encoding.specs.ReadAnswers.{View, noBytes, heldOf, Tells, ofItem, ofClosed, ofPairs, ofTagged, followBy, followed, behindOpener, taggedRead, indicatorFor, infoBy, HeadWritten, Room, Opened, Bracketed, Light, Heavy, Few, IsShort, Roomed, MovedOn, After, ReadTold, Finished, FinishedShort, Ended}
 use Rattle.encoding.specs.declared.answer.MadeItem.{MadeItem as MadeS}
 use Rattle.encoding.specs.declared.answer.ReadAnswer.{ReadAnswer}
 use Rattle.encoding.specs.declared.answer.ReadAnswer.the-variants.{Made, Refused}
 use Rattle.encoding.proofs.ReadSmall.{head-short, head-some}
 use Rattle.encoding.proofs.ReadWriting.{info-width, width-some}
 use Rattle.encoding.proofs.Wrote.{wrote-more, wrote-front}
-use Rattle.notation.specs.Tokens.{Beginning}
 use Rattle.encoding.proofs.Telling.{bind-yes, bind-no, told-no, told-ok, told-lost, told-more, told-map, denied, Got, got, lost}
 use Rattle.encoding.proofs.ReadRules.{begin-not, opensBy, follow-yes, follow-no, one-is}
-use Rattle.reader.proofs.ReadItems.{told-from}
 use Rattle.reader.specs.Several.{asSeen, seen, severalRead}
-use Rattle.opening.specs.Openings.{OpensAs, Bracketing, Tagging, OpeningTold, bracketByte, OpensBare}
+use Rattle.opening.specs.Openings.{OpensAs, OpeningTold, bracketByte, OpensBare}
 use Rattle.reader.specs.OneItem.{LevelAt, TagMade}
 use Rattle.closers.specs.declared.Closer.the-variants.{Square, Curly, Round, Angle, Whole, Nothing}
 use Rattle.opening.specs.declared.Opener.the-variants.{Array, Map, Tag, Embedded}

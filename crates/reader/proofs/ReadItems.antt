@@ -1,50 +1,46 @@
 -- One item: a leaf, one that opens no level, and what stands inside one that opens a level.
 -- Assumes nothing.
 use mathlib.Core.Path.{_≡_, refl, sym, ap, _∙_}
-use mathlib.Core.List.{List, [], _∷_, _++_}
+use mathlib.Core.List.{List, [], _++_}
 use mathlib.Core.Bool.{Bool, true, false, true≢false}
-use Prim.Native.Nat.{ℕ, zero, suc, _+_, _-_, _*_, _≤_, _<_, _^_, min}
+use Prim.Native.Nat.{ℕ, zero, suc, _+_, _-_, _≤_, _<_, _^_, min}
 use native.Mathlib.Omega.{arith}
 use lib.Dec.{leb}
 use lib.ListN.{length, take, drop, length-drop}
 use borrow.Author.Tests.{le-leb}
-use Rattle.cbor.specs.Refusals.{Result, ok, refuse, bind, badTypedArray}
-use Rattle.cbor.specs.Widths.{Width, limit, information}
-use Rattle.cbor.specs.Items.{unsigned, negative, byteString, textString, Item, int, string, chunked, array, map, tag, simple, levels}
-use Rattle.cbor.specs.Heads.{tags, initial, head}
+use Rattle.cbor.specs.Refusals.{Result, ok, refuse, badTypedArray}
+use Rattle.cbor.specs.Items.{byteString, textString, Item, int, string, chunked, array, map, tag, simple, levels}
+use Rattle.cbor.specs.Heads.{head}
 use Rattle.cbor.specs.Encode.{encode}
-use Rattle.cbor.specs.TypedArrays.{mayTag}
 use Rattle.typed_array.specs.TypedArrayAnswers.{mayTagBy}
 use Rattle.head.specs.HeadAnswers.{headBytes}
-use Rattle.head.proofs.HeadCode.{head-bytes}
 use Rattle.refusal.specs.declared.Refusal.{Refusal}
-use Rattle.notation.specs.Tokens.{Opener as Opens, bracket, brace, tagging, embedding, leaf, literal, chunking, opens, square, curly, round, angle, whole, Token, begins, closes, aComma, aColon}
+use Rattle.notation.specs.Tokens.{Opener as Opens, bracket, brace, tagging, embedding, leaf, literal, chunking, opens, whole, Token, begins, closes, aComma, aColon}
 use Rattle.notation.specs.Cutting.{next, place}
-use Rattle.notation.specs.Form.{one, stray, strays, then, give, denyFirst, shapeNumber, closingRule, beginning, oneRule, inside, afterTag, obey, reads, tagRule}
+use Rattle.notation.specs.Form.{one, stray, strays, beginning, oneRule, inside, obey, reads}
 use Rattle.notation.specs.Reading.{marked}
-use Rattle.notation.proofs.Equations.{bind-same, bind-assoc, obey-if}
 use Rattle.scanning.specs.ScanAnswers.{Skips}
-use Rattle.scanning.proofs.Marked.{stands-left, length-marked}
-use Rattle.token.specs.TokenAnswers.{itemCode, openCode, kindCode, beginCode, shapeCode, codeOf, markOf, beginMark, numberOf, beginNumber, Seen, Took}
+use Rattle.scanning.proofs.Marked.{stands-left}
+use Rattle.token.specs.TokenAnswers.{openCode, kindCode, beginCode, codeOf, markOf, beginMark, numberOf, beginNumber, Seen, Took}
 use Rattle.token.specs.declared.Token.{Token as Cut}
 use Rattle.leaf_answer.specs.LeafAnswers.{LeafTold}
 use Rattle.leaf_answer.specs.declared.LeafRead.{LeafRead}
 use Rattle.leaf_answer.specs.declared.Found.{Found}
 use Rattle.leaf_answer.specs.declared.Found.the-variants.{Leaf, Tag as TagFound, Odd, Nothing as NoLeaf}
-use Rattle.encoding.specs.ReadAnswers.{View, Held, heldOf, Tells, noBytes, ofItem, ofTagged, followBy, followed, chunkedRead, behindOpener, taggedRead, indicatorFor, initialBy, Room, Opened, Bracketed, Wrote, MovedOn, After, ReadTold, Strayed, Leafed, Denies}
+use Rattle.encoding.specs.ReadAnswers.{View, Held, Tells, noBytes, ofItem, chunkedRead, initialBy, Room, Opened, Wrote, After, ReadTold, Strayed, Leafed, Denies}
 use Rattle.encoding.specs.declared.answer.MadeItem.{MadeItem as MadeS}
 use Rattle.encoding.specs.declared.answer.ReadAnswer.{ReadAnswer}
 use Rattle.encoding.specs.declared.answer.ReadAnswer.the-variants.{Made, Refused}
 use Rattle.encoding.proofs.ReadTokens.{LeafFine, Fine, next-fine}
 use Rattle.encoding.proofs.ReadSmall.{head-short, head-some}
-use Rattle.encoding.proofs.Telling.{bind-yes, bind-no, told-ok, told-more, told-map, told-stop, token, past}
-use Rattle.encoding.proofs.ReadRules.{one-is, begin-not, shape-low, shape-shuts, opensBy, follow-yes, follow-no, code-some}
+use Rattle.encoding.proofs.Telling.{bind-yes, told-ok, told-more, told-stop, token, past}
+use Rattle.encoding.proofs.ReadRules.{one-is, shape-low, shape-shuts, opensBy, code-some}
 use Rattle.string_reader.proofs.ReadStrings.{item-literal}
 use Rattle.encoding.proofs.Cuts.{next-cut}
 use Rattle.opening.proofs.Openers.{leaf-bytes, thirteen}
-use Rattle.opening.specs.Openings.{OpensAs, OpeningTold, Opened as LeafOpened}
+use Rattle.opening.specs.Openings.{OpeningTold, Opened as LeafOpened}
 use Rattle.reader.specs.OneItem.{LevelAt, isLeaf, Flat, TagMade}
-use Rattle.opening.specs.declared.Opener.the-variants.{Array, Map, Tag, Embedded, Nothing}
+use Rattle.opening.specs.declared.Opener.the-variants.{Nothing}
 use Rattle.opening.specs.declared.Opening.{Opening}
 
 -- THE SAME ANSWER

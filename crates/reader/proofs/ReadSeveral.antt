@@ -1,10 +1,9 @@
 -- The loop over the items of a list: its invariant, and a lemma for each way through a turn.
 -- Assumes nothing.
 use mathlib.Core.Path.{_≡_, refl, sym, ap, _∙_}
-use mathlib.Core.List.{List, [], _∷_, _++_, append-assoc, append-nil}
-use mathlib.Core.Bool.{Bool, true, false, not, true≢false}
-use Prim.Native.Nat.{ℕ, _+_, _-_, _*_, _≤_, _<_, _^_}
-use native.Mathlib.Nat.{zero-add}
+use mathlib.Core.List.{List, [], _++_, append-assoc}
+use mathlib.Core.Bool.{Bool, true, false, true≢false}
+use Prim.Native.Nat.{ℕ, _+_, _-_, _*_, _≤_, _<_}
 use native.Mathlib.Omega.{arith}
 use lib.ListN.{length, drop, length-append, length-drop}
 use mir.Syntax.{w64 as bits64}
@@ -19,10 +18,9 @@ use Rattle.notation.specs.Cutting.{next, place}
 use Rattle.notation.specs.Form.{one, stray, reads}
 use Rattle.notation.specs.Reading.{marked}
 use Rattle.notation.proofs.Equations.{bind-same, bind-assoc}
-use Rattle.scanning.proofs.Marked.{stands-left, length-marked}
-use Rattle.token.specs.TokenAnswers.{indicatorNumber, shapeCode, codeOf, markOf, Took}
-use Rattle.token.specs.declared.Token.{Token as Cut}
-use Rattle.encoding.specs.ReadAnswers.{View, Tells, unsaid, heldOf, ofItem, Wrote, Room, MovedOn, ReadTold, Strayed}
+use Rattle.scanning.proofs.Marked.{stands-left}
+use Rattle.token.specs.TokenAnswers.{indicatorNumber, codeOf, markOf}
+use Rattle.encoding.specs.ReadAnswers.{View, Tells, heldOf, ofItem, Wrote, Room, ReadTold}
 use Rattle.encoding.specs.declared.answer.MadeItem.{MadeItem as MadeS}
 use Rattle.encoding.specs.declared.answer.ReadAnswer.{ReadAnswer}
 use Rattle.encoding.specs.declared.answer.ReadAnswer.the-variants.{Made, Refused}
@@ -31,8 +29,8 @@ use Rattle.encoding.proofs.Telling.{bind-yes, told-ok, told-lost, told-stop, Go
 use Rattle.encoding.proofs.ReadRules.{shape-low}
 use Rattle.closing.proofs.Closers.{shown-zero}
 use Rattle.reader.proofs.Machine.{to-next, to-last, to-stray, tail-is, start-is, emptyView, empty-is}
-use Rattle.closers.specs.CloserTables.{shapeOf, isSingle, mayBeEmpty, starts, turned, counted, commaCode, colonCode, separatorCode, closerCode, shownBy}
-use Rattle.closing.specs.Closings.{StartsAt, OnAt, OverAt, StrayAt, Follows}
+use Rattle.closers.specs.CloserTables.{shapeOf, isSingle, starts, turned, counted, commaCode, separatorCode, closerCode, shownBy}
+use Rattle.closing.specs.Closings.{StartsAt, Follows}
 use Rattle.reader.specs.Several.{asSeen, severalRead, added, heldBy, lastOf, stepTo, tailRead, onward, StrayTold}
 use Rattle.closers.specs.declared.Closer.{Closer}
 use Rattle.closers.specs.declared.Closer.the-variants.{Square, Curly, Round, Angle, Whole, Nothing}

@@ -20,11 +20,9 @@ use encoding::close::finish_short;
 use encoding::close::is_short;
 use encoding::heads::leaf;
 use encoding::heads::put_head;
-use encoding::major::ARRAY;
-use encoding::major::ENDLESS_ARRAY;
-use encoding::major::ENDLESS_MAP;
-use encoding::major::MAP;
 use encoding::room::room_for;
+use head::initial::ARRAY;
+use head::initial::MAP;
 use leaf_answer::Found;
 use leaf_answer::LeafRead;
 use leaf_reader::odd_leaf;
@@ -35,6 +33,7 @@ use opening::opening_at;
 use opening::opens_bare;
 use refusal::Refusal;
 use refusal::RefusalKind;
+use refusal::limit::MOST_LEVELS;
 use saturating::sum;
 use scanning::class::OPEN_PAREN;
 use scanning::scan::TextCursor;
@@ -57,8 +56,10 @@ ghost use Rattle.encoding.specs.ReadAnswers.{behindOpener, taggedRead, indicato
 ghost use Rattle.reader.specs.OneItem.{isLeaf, LevelAt, Flat, TagMade};
 ghost use Rattle.reader.specs.Several.{asSeen, severalRead, StrayTold};
 
-// Document 01's 16 levels.
-const MOST_LEVELS: usize = 16;
+// The initial bytes of an array and of a map whose lengths are indefinite.
+const ENDLESS_ARRAY: u8 = 0x9f;
+
+const ENDLESS_MAP: u8 = 0xbf;
 
 fn is_leaf(found: Found) -> bool
     ensures { λ r. ⌜ r ≡ isLeaf found ⌝ }

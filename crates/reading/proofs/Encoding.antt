@@ -2,10 +2,10 @@
 -- Assumes nothing.
 use Prim.Native.Nat.{ℕ, suc, _-_, _*_, _≤_}
 use native.Mathlib.Omega.{arith}
-use mathlib.Core.Path.{_≡_, refl, sym, _∙_}
+use mathlib.Core.Path.{_≡_, sym, _∙_}
 use mathlib.Core.List.{List, [], _∷_}
 use lib.ListN.{length, take, length-append}
-use Rattle.cbor.specs.Refusals.{Result, ok, refuse, bind, accepted, refused, verdictOf}
+use Rattle.cbor.specs.Refusals.{bind, accepted, refused, verdictOf}
 use Rattle.cbor.specs.Encode.{encodeAll}
 use Rattle.cbor.specs.Decode.{mostBytes}
 use Rattle.refusal.specs.RefusalKinds.{kindNumber}

@@ -1,4 +1,6 @@
 // Why bytes, a text, a path or a buffer are refused, and where.
+pub mod limit;
+
 ghost use mathlib.Core.Path.{_≡_};
 ghost use Rattle.refusal.specs.RefusalKinds.{kindNumber, Kinded};
 

@@ -59,14 +59,14 @@ pub fn wrote(t: Reply, out: &[u8], bytes: &[u8]) -> bool {
 }
 
 // Whether a number is that of a field, in decimal.
-pub fn equals(n: u64, field: &[u8]) -> bool {
+pub(crate) fn equals(n: u64, field: &[u8]) -> bool {
     let mut text = [0u8; 20];
     let k = io::decimal(n, &mut text);
     same(&text[..k], field)
 }
 
 // Whether two numbers, with a byte between them, are a field.
-pub fn equal(a: u64, b: u64, between: u8, field: &[u8]) -> bool {
+pub(crate) fn equal(a: u64, b: u64, between: u8, field: &[u8]) -> bool {
     let at = find(field, 0, between);
     equals(a, part(field, 0, at)) && equals(b, part(field, at + 1, field.len()))
 }

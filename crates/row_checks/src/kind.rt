@@ -15,7 +15,7 @@ pub const SCAN: u64 = 0x7363616e;
 
 pub const CORRECT: u64 = 0x636f7272656374;
 
-pub const EDIT: u64 = 0x65646974;
+const EDIT: u64 = 0x65646974;
 
 // How many fields a row has; one that is refused may have fewer.
 pub fn width(kind: u64, refused: bool) -> usize {

@@ -3,15 +3,15 @@ ghost use mathlib.Core.Path.{_≡_};
 ghost use Rattle.notation.specs.Classes.{blank, is};
 ghost use Rattle.scanning.specs.ScanAnswers.{Classed};
 
-pub const OTHER: u8 = 0;
+const OTHER: u8 = 0;
 
-pub const BLANK: u8 = 1;
+const BLANK: u8 = 1;
 
 pub const DIGIT: u8 = 2;
 
 pub const LETTER: u8 = 3;
 
-pub const UNDERSCORE: u8 = 4;
+const UNDERSCORE: u8 = 4;
 
 pub const MINUS: u8 = 5;
 
@@ -21,9 +21,9 @@ pub const QUOTE: u8 = 7;
 
 pub const APOSTROPHE: u8 = 8;
 
-pub const SLASH: u8 = 9;
+const SLASH: u8 = 9;
 
-pub const HASH: u8 = 10;
+const HASH: u8 = 10;
 
 pub const COMMA: u8 = 11;
 

@@ -12,15 +12,13 @@ use mir.Syntax.{w64 as bits64}
 use mir.Val.{Fits}
 use borrow.Author.Tests.{ltb-false, lt-ltb, le-ltb, eq-eqb, ne-eqb, ltb-true}
 use Rattle.cbor.specs.Ascii.{ascii}
-use Rattle.memory.proofs.Buffer.{clipped-past}
 use Rattle.notation.specs.Printing.{hexByteOf, hexOf, escapeOf, escapedOf}
-use Rattle.memory.specs.Sums.{capped}
 use Rattle.text_output.specs.PrintParts.{Prints, contentOf}
 use Rattle.plain_bytes.specs.Runs.{AllPlain, PlainRun}
 use Rattle.string_output.specs.Blocks.{Beyond}
 use Rattle.text_output.proofs.PrintLeaves.{prints-more, prints-as, prints-none, put-in, take-next, take-whole}
 use Rattle.plain_bytes.proofs.PlainRuns.{escaped-append, content-plain}
-use Rattle.hex_output.proofs.HexCode.{hex-append, hex-length}
+use Rattle.hex_output.proofs.HexCode.{hex-append}
 
 -- BYTE BY BYTE
 
@@ -89,23 +87,6 @@ module _ {t : Bool} {s b : List ℕ} {pos : ℕ} where
 
     pub fill-same : length b′ ≡ length b
     fill-same = inv .done .same
-
--- THE SIZE
-
-module _ (s : List ℕ) {t : Bool} where
-  pub content-text-size : {r : ℕ} → t ≡ true → r ≡ capped 0 (length (escapedOf s)) → r ≡ capped 0 (length (contentOf t s))
-  unfolding contentOf
-  content-text-size e h = rw e h
-
-  pub content-hex-size : t ≡ false → length s * 1 < 2 ^ 63 → length s * 2 ≡ capped 0 (length (contentOf t s))
-  unfolding contentOf
-  content-hex-size e h = rw e (omega (arith, hex-length s))
-
-pub ruleset content-sizes = (content-text-size, content-hex-size)
-
--- past the end of a buffer nothing is written
-pub content-past : {b : List ℕ} {pos x r : ℕ} (ws : List ℕ) → length b * 1 < 2 ^ 63 → length b ≤ pos → x ≡ capped 0 (length ws) → r ≡ capped pos x → Prints b b pos ws r
-content-past {b} {pos} ws l h e f = record { same = refl; short = omega arith; next = omega arith; is = sym (clipped-past b pos ws h) }
 
 -- COPIES
 

@@ -1,20 +1,15 @@
 // The bytes of a string into a buffer, as they stand between its quotes: a text string's escaped, a byte string's in hexadecimal.
 use hex_output::hex_byte;
-use hex_output::hex_few;
 use hex_output::hex_pairs;
 use plain_bytes::BLOCK;
-use plain_bytes::escaped_size;
 use plain_bytes::is_plain;
 use plain_bytes::plain_end;
-use saturating::sum;
 use text_output::put;
 use text_output::put_all;
-ghost use mathlib.Core.Path.{_≡_};
 ghost use mathlib.Core.List.{[], _∷_};
 ghost use mathlib.Core.Bool.{true, false};
 ghost use Prim.Native.Nat.{_+_, _≤_};
 ghost use lib.ListN.{length};
-ghost use Rattle.memory.specs.Sums.{capped};
 ghost use Rattle.notation.specs.Printing.{escapeOf};
 ghost use Rattle.text_output.specs.PrintParts.{Prints, contentOf};
 ghost use Rattle.plain_bytes.specs.Runs.{AllPlain};
@@ -68,18 +63,6 @@ fn content_bytes(bytes: &[u8], text: bool, out: &mut [u8], pos: usize) -> usize
         i += 1;
     }
     p
-}
-
-// THE SIZE of a content that is not written
-
-// The size of the bytes of a string between its quotes.
-pub fn content_size(bytes: &[u8], text: bool) -> usize
-    ensures { λ r. ⌜ r ≡ capped 0 (length (contentOf text (now (bytes .entry)))) ⌝ }
-{
-    if text {
-        return escaped_size(bytes);
-    }
-    bytes.len() * 2
 }
 
 // BLOCKS of a content
@@ -156,9 +139,6 @@ fn hex_content(bytes: &[u8], out: &mut [u8], pos: usize) -> usize
     if (out.len() - pos) / 2 < bytes.len() {
         return content_bytes(bytes, false, out, pos);
     }
-    if bytes.len() < BLOCK {
-        return hex_few(bytes, out, pos);
-    }
     hex_pairs(bytes, out, pos)
 }
 
@@ -166,9 +146,6 @@ fn hex_content(bytes: &[u8], out: &mut [u8], pos: usize) -> usize
 pub fn content(bytes: &[u8], text: bool, out: &mut [u8], pos: usize) -> usize
     ensures { λ r. ⌜ Prints (now (out .entry)) (now (out .exit)) pos (contentOf text (now (bytes .entry))) r ⌝ }
 {
-    if out.len() <= pos {
-        return sum(pos, content_size(bytes, text));
-    }
     if text {
         return text_content(bytes, out, pos);
     }

@@ -2,9 +2,9 @@
 -- said once, of any such sequence, and used for items, for the pairs of a map and for the chunks of a string.
 -- Assumes nothing.
 use mathlib.Core.Path.{_≡_, refl, sym, ap, _∙_}
-use mathlib.Core.List.{List, [], _∷_, _++_, append-assoc}
+use mathlib.Core.List.{List, [], _++_, append-assoc}
 use mathlib.Core.Bool.{Bool}
-use Prim.Native.Nat.{ℕ, _+_, _-_, _*_, _≤_, _<_, _^_}
+use Prim.Native.Nat.{ℕ, _+_, _-_, _*_, _≤_, _<_}
 use native.Mathlib.Nat.{zero-add}
 use native.Mathlib.Omega.{arith}
 use lib.ListN.{length, drop, length-append}
@@ -13,7 +13,7 @@ use mir.Val.{Fits}
 use Rattle.cbor.specs.Refusals.{Result, ok, refuse, bind}
 use Rattle.refusal.specs.declared.Refusal.{Refusal}
 use Rattle.notation.specs.Indicators.{Indicator}
-use Rattle.notation.specs.Tokens.{Shape, Token, begins, closes, aComma, aColon}
+use Rattle.notation.specs.Tokens.{Shape, Token}
 use Rattle.notation.specs.Cutting.{next, place}
 use Rattle.notation.specs.Reading.{marked}
 use Rattle.token.specs.TokenAnswers.{shapeCode, codeOf, Took}

@@ -9,7 +9,7 @@ use encoding::close::endless;
 use encoding::heads::head_size;
 use encoding::heads::initial;
 use encoding::heads::major_by;
-use encoding::major::INDEFINITE_LENGTH;
+use head::initial::INDEFINITE_LENGTH;
 use refusal::RefusalKind;
 use scanning::class::CLOSE_PAREN;
 use scanning::class::COMMA;

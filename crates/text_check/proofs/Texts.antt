@@ -1,13 +1,12 @@
 -- Reading: what is asked of all of a text, and the bytes that were made of it.
 -- Assumes nothing.
-use Prim.Native.Nat.{ℕ, suc, _+_, _-_, _≤_, _<_, min}
-use native.Mathlib.Omega.{arith}
-use mathlib.Core.Path.{_≡_, refl, sym, ap, _∙_}
+use Prim.Native.Nat.{ℕ, _-_, _≤_, _<_}
+use mathlib.Core.Path.{_≡_, refl, sym, _∙_}
 use mathlib.Core.Bool.{Bool, true, false}
-use mathlib.Core.List.{List, [], _∷_, _++_}
-use lib.Dec.{leb, eqb}
-use lib.ListN.{length, take, drop, length-append, length-take}
-use borrow.Author.Tests.{le-leb, lt-leb, leb-true, leb-false, eq-eqb, ne-eqb}
+use mathlib.Core.List.{List, []}
+use lib.Dec.{leb}
+use lib.ListN.{length}
+use borrow.Author.Tests.{le-leb, lt-leb, leb-true, eq-eqb, ne-eqb}
 use Rattle.cbor.specs.Refusals.{Verdict, accepted, refused, tooLong, notUtf8}
 use Rattle.cbor.specs.Utf8.{firstBad, isUtf8}
 use Rattle.cbor.specs.Decode.{mostBytes}
@@ -15,7 +14,6 @@ use Rattle.refusal.specs.RefusalKinds.{kindNumber}
 use Rattle.refusal.specs.declared.RefusalKind.the-variants.{TooLong, NotUtf8}
 use Rattle.cbor.proofs.Results.{refused-not-accepted}
 use Rattle.notation.specs.Reading.{checked}
-use Rattle.operations.specs.Operations.{read}
 use Rattle.text_check.specs.TextAnswers.{textTold, passing}
 use Rattle.text_check.specs.declared.Text.the-variants.{Good, Refused as TextRefused}
 

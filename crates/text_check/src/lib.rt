@@ -1,6 +1,7 @@
 // What is asked of all of a text before its tokens: 1, then 2.
 use refusal::Refusal;
 use refusal::RefusalKind;
+use refusal::limit::MOST_BYTES;
 use utf8::first_bad;
 ghost use mathlib.Core.Path.{_≡_};
 ghost use Rattle.text_check.specs.TextAnswers.{textTold, passing};
@@ -13,7 +14,7 @@ pub enum Text {
 pub fn check_text(text: &[u8]) -> Text
     ensures { λ r. ⌜ textTold r ≡ passing (now (text .entry)) ⌝ }
 {
-    if 65535 < text.len() {
+    if MOST_BYTES < text.len() {
         return Text::Refused(Refusal {
             kind: RefusalKind::TooLong,
             place: 0,

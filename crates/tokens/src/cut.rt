@@ -36,7 +36,6 @@ use token::reason::NOTHING;
 use token::refuse;
 use words::after_minus;
 use words::class_at;
-ghost use mathlib.Core.Path.{_≡_};
 ghost use Prim.Native.Nat.{_+_, _≤_, _<_};
 ghost use lib.ListN.{length, drop};
 ghost use Rattle.notation.specs.Classes.{greater, dot};

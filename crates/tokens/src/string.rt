@@ -25,7 +25,7 @@ use words::Prefix;
 use words::prefix_word;
 use words::worded;
 ghost use mathlib.Core.Path.{_≡_};
-ghost use Prim.Native.Nat.{_+_, _-_, _≤_, _<_};
+ghost use Prim.Native.Nat.{_+_, _-_, _<_};
 ghost use lib.ListN.{length, take, drop, getD};
 ghost use Rattle.notation.specs.Literals.{quoted, encodedLiteral};
 ghost use Rattle.notation.specs.Words.{prefixed, word};

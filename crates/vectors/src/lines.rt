@@ -16,20 +16,28 @@ struct Tally {
     end: usize,
 }
 
-// What a line is: 0 a comment, 1 a row that is right, 2 one that is wrong, 3 the first line of a group.
+// What a line is: a comment, a row that is right, one that is wrong, the first line of a group.
+const COMMENT: u8 = 0;
+
+const RIGHT: u8 = 1;
+
+const WRONG: u8 = 2;
+
+const GROUP: u8 = 3;
+
 fn kind_of(line: &[u8]) -> u8 {
     if line.len() == 0 {
-        return 0;
+        return COMMENT;
     }
     let b = line[0];
     match b {
-        b'/' => 0,
-        b'=' => 3,
+        b'/' => COMMENT,
+        b'=' => GROUP,
         _ => {
             if run(line) {
-                return 1;
+                return RIGHT;
             }
-            2
+            WRONG
         }
     }
 }
@@ -44,18 +52,18 @@ fn rows(text: &[u8], from: usize) -> Tally
     while at < text.len() {
         let end = find(text, at, b'\n');
         let kind = kind_of(part(text, at, end));
-        if kind == 3 {
+        if kind == GROUP {
             return Tally {
                 right,
                 wrong,
                 end: at,
             };
         }
-        if kind == 2 {
+        if kind == WRONG {
             say_wrong(pieces(part(text, 0, at), b'\n'));
         }
-        right = sum(right, one_if(kind, 1));
-        wrong = sum(wrong, one_if(kind, 2));
+        right = sum(right, one_if(kind, RIGHT));
+        wrong = sum(wrong, one_if(kind, WRONG));
         at = end + 1;
     }
     Tally {

@@ -3,6 +3,8 @@ use quick_walk::UNKNOWN;
 use quick_walk::end_in;
 use quick_walk::size_in;
 use refusal::RefusalKind;
+use refusal::limit::MOST_BYTES;
+use refusal::limit::MOST_LEVELS;
 use walk_answer::COUNTED;
 use walk_answer::ENDED;
 use walk_answer::Passed;
@@ -40,8 +42,8 @@ pub fn item(bytes: &[u8], levels: usize) -> Walked
 pub fn walk_all(bytes: &[u8]) -> Passed
     ensures { λ r. ⌜ passTold r ≡ walkAllOf (length (now (bytes .entry))) (decode (now (bytes .entry))) ⌝ }
 {
-    if 65535 < bytes.len() {
+    if MOST_BYTES < bytes.len() {
         return refuse(RefusalKind::TooLong, 0);
     }
-    elements(bytes, ENDED, 0, 16)
+    elements(bytes, ENDED, 0, MOST_LEVELS)
 }

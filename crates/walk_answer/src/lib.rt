@@ -1,4 +1,6 @@
 // What a walk over items answers: of one item, of several or of a part of one. And how several go on.
+use head::initial::BREAK;
+use head::initial::INDEFINITE_LENGTH;
 use refusal::Refusal;
 use refusal::RefusalKind;
 use saturating::sum;
@@ -103,7 +105,11 @@ pub const ENDED: u8 = 2;
 pub fn mode_of(info: u8) -> u8
     ensures { λ r. ⌜ r ≡ modeBy info ⌝ }
 {
-    if info == 31 { BROKEN } else { COUNTED }
+    if info == INDEFINITE_LENGTH {
+        BROKEN
+    } else {
+        COUNTED
+    }
 }
 
 // Whether none of them is left at a place; `n` of them are, where they are counted.
@@ -117,7 +123,7 @@ pub fn is_over(bytes: &[u8], at: usize, mode: u8, n: u64) -> bool
         if bytes.len() <= at {
             return false;
         }
-        return bytes[at] == 0xff;
+        return bytes[at] == BREAK;
     }
     bytes.len() <= at
 }

@@ -1,5 +1,8 @@
 // What a walk passes over outside its cycle, at the front of a slice: the content of a string, a chunk, a head that is refused.
 use head::HeadRead;
+use head::initial::BYTE_STRING;
+use head::initial::INDEFINITE_LENGTH;
+use head::initial::TEXT_STRING;
 use refusal::RefusalKind;
 use walk_answer::Passed;
 use walk_answer::reached;
@@ -44,7 +47,7 @@ pub fn content(bytes: &[u8], from: usize, n: u64, text: bool) -> Passed
 fn string_major(text: bool) -> u8
     ensures { λ r. ⌜ r ≡ majorNumber (strings (kindOf text)) ⌝ }
 {
-    if text { 3 } else { 2 }
+    if text { TEXT_STRING } else { BYTE_STRING }
 }
 
 // A chunk of a string.
@@ -61,7 +64,7 @@ pub fn chunk(bytes: &[u8], text: bool) -> Passed
     match read {
         HeadRead::Refused(e) => Passed::Refused(e),
         HeadRead::Head(h) => {
-            if h.info == 31 {
+            if h.info == INDEFINITE_LENGTH {
                 return refuse(RefusalKind::NotWellFormed, 0);
             }
             content(bytes, h.end, h.argument, text)

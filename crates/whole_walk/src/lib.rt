@@ -1,5 +1,14 @@
 // The whole walk over items: where each ends, or why it is refused. An item walker gets a slice that starts at its item, and hands the part that starts at
 // the next item on.
+use head::initial::ARRAY;
+use head::initial::BREAK;
+use head::initial::BYTE_STRING;
+use head::initial::INDEFINITE_LENGTH;
+use head::initial::MAP;
+use head::initial::NEGATIVE_INTEGER;
+use head::initial::SIMPLE_VALUE;
+use head::initial::TAG;
+use head::initial::TEXT_STRING;
 use refusal::RefusalKind;
 use walk_answer::BROKEN;
 use walk_answer::COUNTED;
@@ -52,11 +61,11 @@ pub fn one(bytes: &[u8], levels: usize) -> Passed
     }
     let initial = bytes[0];
     let major = initial / 32;
-    if major <= 1 {
+    if major <= NEGATIVE_INTEGER {
         return reached(end, 0);
     }
-    if major == 7 {
-        if initial == 0xff {
+    if major == SIMPLE_VALUE {
+        if initial == BREAK {
             return refuse(RefusalKind::NotWellFormed, 0);
         }
         return reached(end, 0);
@@ -77,19 +86,19 @@ fn behind(bytes: &[u8], major: u8, info: u8, argument: u64, end: usize, levels: 
     requires { ⌜ (1 < major) × (major ≡ 7 → ⊥) ⌝ }
     ensures { λ r. ⌜ passTold r ≡ passOf (length (now (bytes .entry))) (item levels (now (bytes .entry))) ⌝ }
 {
-    if major <= 3 {
-        if info == 31 {
+    if major <= TEXT_STRING {
+        if info == INDEFINITE_LENGTH {
             return after(end, 0, several(&bytes[end..], BROKEN, 0, major, levels));
         }
-        return content(bytes, end, argument, major == 3);
+        return content(bytes, end, argument, major == TEXT_STRING);
     }
     if levels == 0 {
         return refuse(RefusalKind::TooDeep, 0);
     }
-    if major == 6 {
+    if major == TAG {
         return tag(bytes, end, argument, levels - 1);
     }
-    if major == 4 {
+    if major == ARRAY {
         return after(
             end,
             0,
@@ -108,7 +117,7 @@ fn tag(bytes: &[u8], from: usize, n: u64, levels: usize) -> Passed
     match inner {
         Passed::Refused(e) => Passed::Refused(e),
         Passed::Span(m) => {
-            if typed_array::may_tag(n, major_at(bytes, from) == 2, m.size) {
+            if typed_array::may_tag(n, major_at(bytes, from) == BYTE_STRING, m.size) {
                 return reached(m.end, m.size);
             }
             refuse(RefusalKind::BadTypedArray, 0)
@@ -126,7 +135,7 @@ fn map(bytes: &[u8], from: usize, mode: u8, count: u64, levels: usize) -> Passed
             return after(from, 0, slowly(&bytes[from..], COUNTED, count * 2, levels));
         }
     }
-    after(from, 0, several(&bytes[from..], mode, count, 5, levels))
+    after(from, 0, several(&bytes[from..], mode, count, MAP, levels))
 }
 
 // Entries of a map, or chunks of a string, one by one.
@@ -156,8 +165,8 @@ fn other(bytes: &[u8], major: u8, levels: usize) -> Passed
     requires { ⌜ (major ≡ 4 → ⊥) ⌝ }
     ensures { λ r. ⌜ passTold r ≡ toldOf (length (now (bytes .entry))) (oneOf major (suc levels) (now (bytes .entry))) ⌝ }
 {
-    if major == 5 {
+    if major == MAP {
         return slowly(bytes, COUNTED, 2, levels);
     }
-    chunk(bytes, major == 3)
+    chunk(bytes, major == TEXT_STRING)
 }

@@ -2,11 +2,11 @@
 -- Assumes nothing.
 use mathlib.Core.Path.{_≡_, refl, sym, ap, _∙_}
 use mathlib.Core.List.{List, [], _∷_, _++_}
-use mathlib.Core.Bool.{Bool, true, false, _&&_, _||_, not}
-use Prim.Native.Nat.{ℕ, zero, suc, _+_, _-_, _*_, _≤_, _<_, min}
+use mathlib.Core.Bool.{Bool, true, false, _&&_, not}
+use Prim.Native.Nat.{ℕ, suc, _+_, _-_, _≤_, _<_}
 use native.Mathlib.Omega.{arith}
 use lib.Dec.{leb, eqb}
-use lib.ListN.{length, drop, getD, drop-of-length-le, length-append}
+use lib.ListN.{length, drop, getD, drop-of-length-le}
 use borrow.Author.Tests.{le-leb, lt-leb, eq-eqb, ne-eqb, not-true, not-false}
 use Rattle.cbor.specs.Refusals.{Result, bind, noToken, unknownWord, float}
 use Rattle.cbor.specs.Items.{simple}
@@ -31,7 +31,6 @@ use Rattle.amounts.specs.declared.Digits.{Digits}
 use Rattle.token.specs.declared.Token.{Token as Cut}
 use Rattle.words.specs.declared.WordMeaning.{WordMeaning}
 use Rattle.words.specs.declared.WordMeaning.the-variants.{Value, SimpleOf, Refused as WordRefused}
-use Rattle.words.specs.declared.Prefix.{Prefix}
 use Rattle.words.specs.declared.Prefix.the-variants.{Form, Refused as PrefixRefused}
 use Rattle.notation.proofs.ScanningElements.{clash, class-digit}
 use Rattle.scanning.proofs.Marked.{front, length-marked, at-byte, at-end, past-end, span-none, span-split, span-length}

@@ -2,7 +2,6 @@
 -- Assumes nothing.
 use Rattle.amounts.proofs.makes_float.Statement.{statement}
 use Rattle.amounts.proofs.makes_float.Tie as tie
-use borrow.Author.Needs.{needs}
 use Rattle.amounts.proofs.AmountCode.{float-ways}
 
 pub makes-float-spec : {M : Type 1} → statement M

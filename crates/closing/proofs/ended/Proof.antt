@@ -2,7 +2,6 @@
 -- Assumes nothing.
 use Rattle.closing.proofs.ended.Statement.{statement}
 use Rattle.closing.proofs.ended.Tie as tie
-use borrow.Author.Needs.{needs}
 use Rattle.closing.proofs.Closers.{ended-ways}
 
 pub ended-spec : {M : Type 1} → statement M

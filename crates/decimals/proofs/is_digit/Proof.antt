@@ -1,6 +1,5 @@
 -- `decimals::is_digit` meets its contract.
 -- Assumes nothing.
-use borrow.Author.Needs.{needs}
 use Rattle.decimals.proofs.DigitCode.{digit-ways}
 use Rattle.decimals.proofs.is_digit.Statement.{statement}
 use Rattle.decimals.proofs.is_digit.Tie as tie

@@ -1,6 +1,5 @@
 -- `decimals::leads` meets its contract.
 -- Assumes nothing.
-use borrow.Author.Needs.{needs}
 use Rattle.decimals.proofs.DigitCode.{leads-ways}
 use Rattle.decimals.proofs.leads.Statement.{statement}
 use Rattle.decimals.proofs.leads.Tie as tie

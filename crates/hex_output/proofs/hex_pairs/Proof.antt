@@ -17,13 +17,13 @@ pub hex-pairs-spec : {M : Type 1} → statement M
 hex-pairs-spec =
     tie.close (tie.spec Inv-loop μ-loop
     (λ c. search pairs-start)  -- loop-holds
-    (λ c. search needs)  -- shared-slice-read-high-added
-    (λ c κs. search needs)  -- high-added-requires
+    (λ c. search needs)  -- shared-slice-read-high-digit
+    (λ c κs. search needs)  -- high-digit-requires
     (λ c. search needs)  -- mul-out
     (λ c. search needs)  -- add-out
     (λ c. search needs)  -- slice-write-out
-    (λ c. search needs)  -- shared-slice-read-low-added
-    (λ c κs. search needs)  -- low-added-requires
+    (λ c. search needs)  -- shared-slice-read-low-digit
+    (λ c κs. search needs)  -- low-digit-requires
     (λ c. search needs)  -- mul-out-2
     (λ c. search needs)  -- add-out-2
     (λ c. search needs)  -- add-out-3

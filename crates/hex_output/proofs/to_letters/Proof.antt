@@ -1,6 +1,5 @@
 use Rattle.hex_output.proofs.to_letters.Statement.{statement}
 use Rattle.hex_output.proofs.to_letters.Tie as tie
-use borrow.Author.Needs.{needs}
 use Rattle.hex_output.proofs.HexCode.{letters-ways}
 
 pub to-letters-spec : {M : Type 1} → statement M

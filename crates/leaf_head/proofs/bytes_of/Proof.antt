@@ -1,6 +1,5 @@
 -- `leaf_head::bytes_of` meets its contract.
 -- Assumes nothing.
-use borrow.Author.Needs.{needs}
 use Rattle.leaf_head.proofs.HeadsCode.{bytes-ways}
 use Rattle.leaf_head.proofs.bytes_of.Statement.{statement}
 use Rattle.leaf_head.proofs.bytes_of.Tie as tie

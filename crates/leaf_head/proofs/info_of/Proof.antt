@@ -1,6 +1,5 @@
 -- `leaf_head::info_of` meets its contract.
 -- Assumes nothing.
-use borrow.Author.Needs.{needs}
 use Rattle.leaf_head.proofs.HeadsCode.{info-ways, info-fits}
 use Rattle.leaf_head.proofs.info_of.Statement.{statement}
 use Rattle.leaf_head.proofs.info_of.Tie as tie

@@ -1,6 +1,5 @@
 -- `leaf_head::scale_of` meets its contract.
 -- Assumes nothing.
-use borrow.Author.Needs.{needs}
 use Rattle.leaf_head.proofs.HeadsCode.{scale-ways}
 use Rattle.leaf_head.proofs.scale_of.Statement.{statement}
 use Rattle.leaf_head.proofs.scale_of.Tie as tie

@@ -2,7 +2,6 @@
 -- Assumes nothing.
 use Rattle.leaf_printer.proofs.quote.Statement.{statement}
 use Rattle.leaf_printer.proofs.quote.Tie as tie
-use borrow.Author.Needs.{needs}
 use Rattle.leaf_printer.proofs.PrintHeads.{quote-ways}
 
 pub quote-spec : {M : Type 1} → statement M

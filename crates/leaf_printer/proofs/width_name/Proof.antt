@@ -2,7 +2,6 @@
 -- Assumes nothing.
 use Rattle.leaf_printer.proofs.width_name.Statement.{statement}
 use Rattle.leaf_printer.proofs.width_name.Tie as tie
-use borrow.Author.Needs.{needs}
 use Rattle.leaf_printer.proofs.PrintHeads.{name-ways}
 
 pub width-name-spec : {M : Type 1} → statement M

@@ -2,7 +2,6 @@
 -- Assumes nothing.
 use Rattle.leaf_reader.proofs.start_of.Statement.{statement}
 use Rattle.leaf_reader.proofs.start_of.Tie as tie
-use borrow.Author.Needs.{needs}
 use Rattle.leaf_reader.proofs.StartCode.{starts-ways}
 
 pub start-of-spec : {M : Type 1} → statement M

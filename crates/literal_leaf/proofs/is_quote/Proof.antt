@@ -2,7 +2,6 @@
 -- Assumes nothing.
 use Rattle.literal_leaf.proofs.is_quote.Statement.{statement}
 use Rattle.literal_leaf.proofs.is_quote.Tie as tie
-use borrow.Author.Needs.{needs}
 use Rattle.literal_leaf.proofs.LiteralCode.{quote-ways}
 
 pub is-quote-spec : {M : Type 1} → statement M

@@ -1,6 +1,5 @@
 use Rattle.pass_parts.proofs.comma.Statement.{statement}
 use Rattle.pass_parts.proofs.comma.Tie as tie
-use borrow.Author.Needs.{needs}
 use Rattle.pass_parts.proofs.PartCode.{comma-ways}
 
 pub comma-spec : {M : Type 1} → statement M

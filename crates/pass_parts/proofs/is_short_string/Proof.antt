@@ -1,4 +1,3 @@
-use borrow.Author.Needs.{needs}
 use Rattle.pass_parts.proofs.PartCode.{string-ways}
 use Rattle.pass_parts.proofs.is_short_string.Statement.{statement}
 use Rattle.pass_parts.proofs.is_short_string.Tie as tie

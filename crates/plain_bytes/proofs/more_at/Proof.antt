@@ -3,7 +3,6 @@
 use Rattle.plain_bytes.proofs.more_at.Statement.{statement}
 use Rattle.plain_bytes.proofs.more_at.Tie as tie
 use Rattle.plain_bytes.proofs.PlainRuns.{at-ways}
-use borrow.Author.Needs.{needs}
 
 pub more-at-spec : {M : Type 1} → statement M
 more-at-spec =

@@ -3,7 +3,6 @@
 use Rattle.plain_bytes.proofs.more_below.Statement.{statement}
 use Rattle.plain_bytes.proofs.more_below.Tie as tie
 use Rattle.plain_bytes.proofs.PlainRuns.{below-ways}
-use borrow.Author.Needs.{needs}
 
 pub more-below-spec : {M : Type 1} → statement M
 more-below-spec =

@@ -3,7 +3,6 @@
 use Rattle.planning.proofs.level.Statement.{statement}
 use Rattle.planning.proofs.level.Tie as tie
 use Rattle.planning.proofs.Planning.{level-ways}
-use borrow.Author.Needs.{needs}
 
 pub level-spec : {M : Type 1} → statement M
 level-spec =

@@ -2,7 +2,6 @@
 -- Assumes nothing.
 use Rattle.printer.proofs.closing.Statement.{statement}
 use Rattle.printer.proofs.closing.Tie as tie
-use borrow.Author.Needs.{needs}
 use Rattle.printer.proofs.PrintSeveral.{closing-ways}
 
 pub closing-spec : {M : Type 1} → statement M

@@ -2,7 +2,6 @@
 -- Assumes nothing.
 use Rattle.printer.proofs.opening.Statement.{statement}
 use Rattle.printer.proofs.opening.Tie as tie
-use borrow.Author.Needs.{needs}
 use Rattle.printer.proofs.PrintSeveral.{opening-ways}
 
 pub opening-spec : {M : Type 1} → statement M

@@ -3,7 +3,6 @@
 use Rattle.quick_leaf.proofs.if_below.Statement.{statement}
 use Rattle.quick_leaf.proofs.if_below.Tie as tie
 use Rattle.quick_leaf.proofs.LeafCode.{below-ways}
-use borrow.Author.Needs.{needs}
 
 pub if-below-spec : {M : Type 1} → statement M
 if-below-spec =

@@ -3,7 +3,6 @@
 use Rattle.quick_leaf.proofs.if_same.Statement.{statement}
 use Rattle.quick_leaf.proofs.if_same.Tie as tie
 use Rattle.quick_leaf.proofs.LeafCode.{same-ways}
-use borrow.Author.Needs.{needs}
 
 pub if-same-spec : {M : Type 1} → statement M
 if-same-spec =

@@ -1,6 +1,5 @@
 -- `quick_walk::shift` meets its contract.
 -- Assumes nothing.
-use borrow.Author.Needs.{needs}
 use Rattle.quick_walk.proofs.QuickWays.{shift-add, shift-ways}
 use Rattle.quick_walk.proofs.shift.Statement.{statement}
 use Rattle.quick_walk.proofs.shift.Tie as tie

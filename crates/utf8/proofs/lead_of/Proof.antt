@@ -5,7 +5,6 @@ use Rattle.utf8.proofs.lead_of.Tie as tie
 use Rattle.cbor.proofs.Sequences.{lead-rule, lead-ascii, lead-last}
 use Rattle.cbor.specs.Utf8.{isIn, rows, followIn, follow}
 use Rattle.cbor.specs.Sequences.{ranges, behindFirst}
-use borrow.Author.Needs.{needs}
 
 pub lead-of-spec : {M : Type 1} → statement M
 unfolding isIn rows followIn follow ranges behindFirst

@@ -3,7 +3,6 @@
 use Rattle.walk_answer.proofs.mode_of.Statement.{statement}
 use Rattle.walk_answer.proofs.mode_of.Tie as tie
 use Rattle.walk_answer.proofs.Turns.{mode-ways}
-use borrow.Author.Needs.{needs}
 
 pub mode-of-spec : {M : Type 1} → statement M
 mode-of-spec =

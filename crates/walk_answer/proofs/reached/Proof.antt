@@ -2,7 +2,6 @@
 -- Assumes nothing.
 use Rattle.walk_answer.proofs.reached.Statement.{statement}
 use Rattle.walk_answer.proofs.reached.Tie as tie
-use borrow.Author.Needs.{needs}
 use Rattle.walk_answer.proofs.AnswerCode.{told-span}
 
 pub reached-spec : {M : Type 1} → statement M

@@ -2,7 +2,6 @@
 -- Assumes nothing.
 use Rattle.walk_answer.proofs.refuse.Statement.{statement}
 use Rattle.walk_answer.proofs.refuse.Tie as tie
-use borrow.Author.Needs.{needs}
 use Rattle.walk_answer.proofs.AnswerCode.{told-refused}
 
 pub refuse-spec : {M : Type 1} → statement M

@@ -3,7 +3,6 @@
 use Rattle.walk_parts.proofs.major_of.Statement.{statement}
 use Rattle.walk_parts.proofs.major_of.Tie as tie
 use Rattle.walk_parts.proofs.WalkItems.{major-byte}
-use borrow.Author.Needs.{needs}
 
 pub major-of-spec : {M : Type 1} → statement M
 major-of-spec =

@@ -2,7 +2,6 @@
 -- Assumes nothing.
 use Rattle.walk_parts.proofs.string_major.Statement.{statement}
 use Rattle.walk_parts.proofs.string_major.Tie as tie
-use borrow.Author.Needs.{needs}
 use Rattle.walk_parts.proofs.StringCode.{major-ways}
 
 pub string-major-spec : {M : Type 1} → statement M

@@ -2,7 +2,6 @@
 -- Assumes nothing.
 use Rattle.words.proofs.is_simple.Statement.{statement}
 use Rattle.words.proofs.is_simple.Tie as tie
-use borrow.Author.Needs.{needs}
 use Rattle.words.proofs.WordCode.{simple-tests}
 
 pub is-simple-spec : {M : Type 1} → statement M

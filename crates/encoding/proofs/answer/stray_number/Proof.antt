@@ -2,7 +2,6 @@
 -- Assumes nothing.
 use Rattle.encoding.proofs.answer.stray_number.Statement.{statement}
 use Rattle.encoding.proofs.answer.stray_number.Tie as tie
-use borrow.Author.Needs.{needs}
 use Rattle.encoding.proofs.ReadSmall.{stray-ways}
 
 pub stray-number-spec : {M : Type 1} → statement M

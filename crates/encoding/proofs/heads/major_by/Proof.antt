@@ -2,7 +2,6 @@
 -- Assumes nothing.
 use Rattle.encoding.proofs.heads.major_by.Statement.{statement}
 use Rattle.encoding.proofs.heads.major_by.Tie as tie
-use borrow.Author.Needs.{needs}
 use Rattle.encoding.proofs.ReadSmall.{major-ways}
 
 pub major-by-spec : {M : Type 1} → statement M

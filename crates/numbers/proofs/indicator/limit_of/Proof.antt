@@ -2,7 +2,6 @@
 -- Assumes nothing.
 use Rattle.numbers.proofs.indicator.limit_of.Statement.{statement}
 use Rattle.numbers.proofs.indicator.limit_of.Tie as tie
-use borrow.Author.Needs.{needs}
 use Rattle.numbers.proofs.IndicatorCode.{limit-ways}
 
 pub limit-of-spec : {M : Type 1} → statement M

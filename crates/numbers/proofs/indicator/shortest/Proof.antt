@@ -2,7 +2,6 @@
 -- Assumes nothing.
 use Rattle.numbers.proofs.indicator.shortest.Statement.{statement}
 use Rattle.numbers.proofs.indicator.shortest.Tie as tie
-use borrow.Author.Needs.{needs}
 use Rattle.numbers.proofs.IndicatorCode.{short-ways}
 
 pub shortest-spec : {M : Type 1} → statement M

@@ -2,7 +2,6 @@
 -- Assumes nothing.
 use Rattle.numbers.proofs.number.radix_of.Statement.{statement}
 use Rattle.numbers.proofs.number.radix_of.Tie as tie
-use borrow.Author.Needs.{needs}
 use Rattle.numbers.proofs.NumberCode.{radix-ways}
 
 pub radix-of-spec : {M : Type 1} → statement M

@@ -1,6 +1,5 @@
 -- `plain_leaf::integer::argument_of` meets its contract.
 -- Assumes nothing.
-use borrow.Author.Needs.{needs}
 use Rattle.plain_leaf.proofs.IntegerCode.{argument-ways, argument-sub}
 use Rattle.plain_leaf.proofs.integer.argument_of.Statement.{statement}
 use Rattle.plain_leaf.proofs.integer.argument_of.Tie as tie

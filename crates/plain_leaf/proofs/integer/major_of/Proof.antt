@@ -1,6 +1,5 @@
 -- `plain_leaf::integer::major_of` meets its contract.
 -- Assumes nothing.
-use borrow.Author.Needs.{needs}
 use Rattle.plain_leaf.proofs.IntegerCode.{major-ways}
 use Rattle.plain_leaf.proofs.integer.major_of.Statement.{statement}
 use Rattle.plain_leaf.proofs.integer.major_of.Tie as tie

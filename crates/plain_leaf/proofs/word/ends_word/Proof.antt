@@ -1,6 +1,5 @@
 -- `plain_leaf::word::ends_word` meets its contract.
 -- Assumes nothing.
-use borrow.Author.Needs.{needs}
 use Rattle.plain_leaf.proofs.WordCode.{byte-ways}
 use Rattle.plain_leaf.proofs.word.ends_word.Statement.{statement}
 use Rattle.plain_leaf.proofs.word.ends_word.Tie as tie

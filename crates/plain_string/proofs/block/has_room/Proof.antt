@@ -1,6 +1,5 @@
 -- `plain_string::block::has_room` meets its contract.
 -- Assumes nothing.
-use borrow.Author.Needs.{needs}
 use Rattle.plain_string.proofs.BlockCode.{room-ways}
 use Rattle.plain_string.proofs.block.has_room.Statement.{statement}
 use Rattle.plain_string.proofs.block.has_room.Tie as tie

@@ -1,6 +1,5 @@
 -- `plain_string::string::major_of` meets its contract.
 -- Assumes nothing.
-use borrow.Author.Needs.{needs}
 use Rattle.plain_string.proofs.StringCode.{major-ways}
 use Rattle.plain_string.proofs.string.major_of.Statement.{statement}
 use Rattle.plain_string.proofs.string.major_of.Tie as tie

@@ -2,7 +2,6 @@
 -- Assumes nothing.
 use Rattle.tokens.proofs.string.kind_of.Statement.{statement}
 use Rattle.tokens.proofs.string.kind_of.Tie as tie
-use borrow.Author.Needs.{needs}
 use Rattle.tokens.proofs.StringCode.{code-text, code-bytes}
 
 pub kind-of-spec : {M : Type 1} → statement M

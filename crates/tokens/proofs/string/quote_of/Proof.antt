@@ -2,7 +2,6 @@
 -- Assumes nothing.
 use Rattle.tokens.proofs.string.quote_of.Statement.{statement}
 use Rattle.tokens.proofs.string.quote_of.Tie as tie
-use borrow.Author.Needs.{needs}
 use Rattle.tokens.proofs.StringCode.{quote-text, quote-bytes}
 
 pub quote-of-spec : {M : Type 1} → statement M
