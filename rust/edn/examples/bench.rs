@@ -22,6 +22,21 @@ const SAMPLE: f64 = 20e-6;
 /// Inputs are timed in so many parts, each with its own least time: on a busy machine short times are the better ones.
 const PARTS: usize = 5;
 
+/// Each round is at another of so many places on the stack, a step apart; together they are some 4,096 bytes. A load waits for a store just before it
+/// whose address ends alike in 12 bits, so a buffer on the stack can make others slow, by where the system has put both.
+const PLACES: usize = 14;
+const STEP: usize = 256;
+
+#[inline(never)]
+fn deeper(steps: usize, work: &mut dyn FnMut()) {
+    let step = black_box([0u8; STEP]);
+    match steps {
+        0 => work(),
+        _ => deeper(steps - 1, work),
+    }
+    black_box(&step);
+}
+
 /// The least seconds that each of two calls takes for all of its inputs, given their numbers. The two take turns: one has all of its inputs,
 /// then the other, so that neither meets an input while the processor still foretells its branches from the time before.
 fn least(inputs: [usize; 2], mut a: impl FnMut(usize), mut b: impl FnMut(usize)) -> (f64, f64) {
@@ -31,16 +46,18 @@ fn least(inputs: [usize; 2], mut a: impl FnMut(usize), mut b: impl FnMut(usize))
     let mut least = [[f64::MAX; PARTS]; 2];
     let mut rounds = 0;
     while rounds < LEAST_ROUNDS || started.elapsed() < ROW {
-        let calls = [&mut a as &mut dyn FnMut(usize), &mut b];
-        for (call, (least, count)) in calls.into_iter().zip(least.iter_mut().zip(inputs)) {
-            for (part, least) in least.iter_mut().enumerate() {
-                let clock = Instant::now();
-                for _ in 0..times {
-                    (count * part / PARTS..count * (part + 1) / PARTS).for_each(&mut *call);
+        deeper(rounds % PLACES, &mut || {
+            let calls = [&mut a as &mut dyn FnMut(usize), &mut b];
+            for (call, (least, count)) in calls.into_iter().zip(least.iter_mut().zip(inputs)) {
+                for (part, least) in least.iter_mut().enumerate() {
+                    let clock = Instant::now();
+                    for _ in 0..times {
+                        (count * part / PARTS..count * (part + 1) / PARTS).for_each(&mut *call);
+                    }
+                    *least = least.min(clock.elapsed().as_secs_f64() / times as f64);
                 }
-                *least = least.min(clock.elapsed().as_secs_f64() / times as f64);
             }
-        }
+        });
         rounds += 1;
     }
     least.map(|parts| parts.iter().sum()).into()
