@@ -13,45 +13,25 @@ use Rattle.cbor.specs.Refusals.{Result, ok, refuse, verdictOf}
 use Rattle.cbor.specs.Items.{Items}
 use Rattle.cbor.specs.Decode.{decode}
 use Rattle.memory.specs.Buffer.{over, overIfFits, copied}
-use Rattle.memory.proofs.Buffer.{clipped-fits, copied-yes, written-fits}
+use Rattle.memory.proofs.Buffer.{copied-yes, written-fits}
 use Rattle.refusal.specs.RefusalKinds.{kindNumber}
 use Rattle.walk_answer.specs.WalkAnswers.{passTold, mapResult, toldOf, walkAllOf, contentsAll}
 use Rattle.refusal.specs.declared.Refusal.{Refusal}
-use Rattle.refusal.specs.declared.RefusalKind.the-variants.{NoRoom}
 use Rattle.walk_answer.specs.declared.Passage.{Passage}
 use Rattle.walk_answer.specs.declared.Passed.{Passed}
 use Rattle.walk_answer.specs.declared.Passed.the-variants.{Span as SpanV, Refused as RefusedV}
 use Rattle.notation.specs.Printing.{printText}
 use Rattle.one_pass.specs.PassAnswers.{PassTold}
-use Rattle.printer.specs.PrintAnswers.{PrintedAll}
 use Rattle.operations.specs.Operations.{written, itemsOf, textOf, andThen, print}
 use Rattle.cbor.specs.Valid.{Bytes}
 use Rattle.cbor.proofs.EncodeDecode.{encode-of-decode}
 use Rattle.walk_answer.proofs.Slices.{bytes-of}
-use Rattle.outcome.specs.Outcomes.{outcomeOf, laid, Refuses}
-use Rattle.printing.specs.PrintOutcomes.{TextSize, Lays, AtOnce}
+use Rattle.outcome.specs.Outcomes.{outcomeOf, laid}
+use Rattle.printing.specs.PrintOutcomes.{AtOnce}
+use Rattle.fitting_text.specs.FittingAnswers.{Lays}
 use Rattle.outcome.specs.declared.Answer.{Answer}
 use Rattle.outcome.specs.declared.Answer.the-variants.{Written, Refused}
-use Rattle.outcome.proofs.Room.{laid-room, laid-yes, laid-no}
-
--- PRINTING
-pub measured : {s b b′ : List ℕ} {n : ℕ} → PrintedAll s b b′ n → TextSize s n
-measured p = record { size = p .size }
-
-module _ {s : List ℕ} (b : List ℕ) {n : ℕ} (t : TextSize s n) {v : Bool} (f : v ≡ leb n (min (length b) 65535)) where
-  pub lay-done : {b′ : List ℕ} {k : ℕ} → v ≡ true → PrintedAll s b b′ k → Lays s b b′ (Written n)
-  lay-done {b′} h p = record {
-    is = λ xs d.
-        let z : n ≡ length (printText xs) = t .size xs d in
-        let m = laid-room b f h in
-        let w : b′ ≡ over b 0 (printText xs) = p .is xs d ∙ clipped-fits b 0 (printText xs) (omega arith) in
-        rw w (laid-yes b f (printText xs) z h);
-  }
-
-  pub lay-refused : {r : Answer} → v ≡ false → Refuses NoRoom 0 r → Lays s b b r
-  lay-refused h x = record { is = λ xs d. laid-no b f (printText xs) (t .size xs d) h x }
-
-pub ruleset lay-ways = (lay-done, lay-refused)
+use Rattle.outcome.proofs.Room.{laid-room, laid-yes}
 
 print-no : (s b : List ℕ) (e : Refusal) (res : Result Items) → decode s ≡ res → passTold (RefusedV e) ≡ toldOf (length s) (mapResult contentsAll res) → outcomeOf (Refused e) b ≡ print s b
 unfolding passTold toldOf mapResult itemsOf verdictOf textOf andThen print written outcomeOf

@@ -1,36 +1,14 @@
 // Bytes as a text in diagnostic notation, in a lent buffer.
 use outcome::Answer;
 use outcome::fits;
-use outcome::refuse;
 use outcome::turns_for;
-use refusal::RefusalKind;
 use walk_answer::Passed;
 ghost use mathlib.Core.Path.{_≡_};
 ghost use Rattle.operations.specs.Operations.{print};
 ghost use Rattle.outcome.specs.Outcomes.{outcomeOf};
-ghost use Rattle.printing.specs.PrintOutcomes.{TextSize, Lays, AtOnce};
+ghost use Rattle.printing.specs.PrintOutcomes.{AtOnce};
 
 // THE WHOLE WAY, which says why there is no text
-
-// The length of the text of bytes that were checked: what is printed with no room at all is measured.
-fn text_size(bytes: &[u8]) -> usize
-    ensures { λ r. ⌜ TextSize (now (bytes .entry)) r ⌝ }
-{
-    let mut nowhere = [0; 0];
-    printer::print_items(bytes, &mut nowhere)
-}
-
-// The text of bytes that were checked. Its size is known before its first byte is written.
-fn lay(bytes: &[u8], out: &mut [u8]) -> Answer
-    ensures { λ r. ⌜ Lays (now (bytes .entry)) (now (out .entry)) (now (out .exit)) r ⌝ }
-{
-    let size = text_size(bytes);
-    if fits(size, out.len()) {
-        printer::print_items(bytes, out);
-        return Answer::Written(size);
-    }
-    refuse(RefusalKind::NoRoom, 0)
-}
 
 fn whole(bytes: &[u8], out: &mut [u8]) -> Answer
     ensures { λ r. ⌜ outcomeOf r (now (out .exit)) ≡ print (now (bytes .entry)) (now (out .entry)) ⌝ }
@@ -38,7 +16,7 @@ fn whole(bytes: &[u8], out: &mut [u8]) -> Answer
     let all = walk::walk_all(bytes);
     match all {
         Passed::Refused(e) => Answer::Refused(e),
-        Passed::Span(_m) => lay(bytes, out),
+        Passed::Span(_m) => fitting_text::lay(bytes, out),
     }
 }
 

@@ -1,9 +1,9 @@
--- `printing::lay` meets its contract.
+-- `fitting_text::lay` meets its contract.
 -- Assumes nothing.
 use borrow.Author.Needs.{needs}
-use Rattle.printing.proofs.lay.Statement.{statement}
-use Rattle.printing.proofs.lay.Tie as tie
-use Rattle.printing.proofs.Laid.{lay-ways}
+use Rattle.fitting_text.proofs.lay.Statement.{statement}
+use Rattle.fitting_text.proofs.lay.Tie as tie
+use Rattle.fitting_text.proofs.Fitting.{lay-ways}
 
 pub lay-spec : {M : Type 1} → statement M
 lay-spec =

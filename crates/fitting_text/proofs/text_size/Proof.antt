@@ -1,9 +1,9 @@
--- `printing::text_size` meets its contract.
+-- `fitting_text::text_size` meets its contract.
 -- Assumes nothing.
 use borrow.Author.Needs.{needs}
-use Rattle.printing.proofs.text_size.Statement.{statement}
-use Rattle.printing.proofs.text_size.Tie as tie
-use Rattle.printing.proofs.Laid.{measured}
+use Rattle.fitting_text.proofs.text_size.Statement.{statement}
+use Rattle.fitting_text.proofs.text_size.Tie as tie
+use Rattle.fitting_text.proofs.Fitting.{measured}
 
 pub text-size-spec : {M : Type 1} → statement M
 text-size-spec =
