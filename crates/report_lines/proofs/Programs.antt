@@ -14,19 +14,17 @@ use Rattle.refusal.specs.RefusalKinds.{kindNumber}
 use Rattle.cbor.specs.Decode.{mostBytes}
 use Rattle.memory.specs.Buffer.{over}
 use Rattle.refusal.specs.declared.Refusal.{Refusal}
-use Rattle.text_output.specs.PrintParts.{Prints}
 use Rattle.operations.specs.Operations.{Outcome, andThen, room, fitting, written}
 use Rattle.outcome.specs.Outcomes.{outcomeOf}
 use Rattle.operations.specs.Programs.{refusedLine, said, empty}
 use Rattle.outcome.specs.declared.Answer.{Answer}
 use Rattle.outcome.specs.declared.Answer.the-variants.{Written, Refused}
 use Rattle.cbor.proofs.Results.{refused-not-accepted}
-use Rattle.report_lines.specs.Reports.{Reports}
+use Rattle.report_lines.specs.Reports.{Reports, saidOf}
 use Rattle.operations.proofs.Verdicts.{front-all, fitting-yes, fitting-no, fitting-same}
-use Rattle.report_lines.proofs.Lines.{reported}
 
 -- THE PROGRAMS: an answer and the buffer behind it, as the verdict v has them
-module _ (lines : List ℕ → List ℕ) (b b′ : List ℕ) {a : Answer} where
+module _ (lines : List ℕ → List ℕ) (b b′ : List ℕ) (a : Answer) where
   said-done : (v : Verdict (List ℕ)) (n : ℕ) → outcomeOf a b′ ≡ written b (λ w. w) v → a ≡ Written n → said lines v ≡ lines (take n b′)
   unfolding outcomeOf written said
   said-done (accepted w) n e i =
@@ -46,32 +44,13 @@ module _ (lines : List ℕ → List ℕ) (b b′ : List ℕ) {a : Answer} where
       let l : e .place ≡ q = cc in
       rw (j, l)
 
--- what was written has room in the buffer
-room-over : (b w : List ℕ) → length w ≤ room b → length w ≤ length (over b 0 w)
-unfolding over
-room-over b w h = simp length-append (omega arith)
-
--- what was written is in the buffer, and no more than ever is
-pub record Short (b′ : List ℕ) (n : ℕ) : Type 0 where
-  pub inside : n ≤ length b′
-  pub most : n ≤ mostBytes
-
-pub said-short : (b b′ : List ℕ) {a : Answer} {n : ℕ} {A : Type 0} (u : Verdict A) (f : A → List ℕ) → outcomeOf a b′ ≡ written b (λ w. w) (andThen u (λ x. fitting b (f x))) → a ≡ Written n → Short b′ n
-unfolding outcomeOf written andThen room
-said-short b b′ {n = n} (accepted x) f e i = go (leb (length (f x)) (room b)) refl
-  where
-    go : (v : Bool) → leb (length (f x)) (room b) ≡ v → Short b′ n
-    go true t =
-        let h = leb-true (length (f x)) (room b) t in
-        let g : outcomeOf (Written n) b′ ≡ written b (λ w. w) (accepted (f x)) = (rw i at e) ∙ ap (written b (λ w. w)) (fitting-yes b (f x) h) in
-        let k : _≡_ {A = Verdict ℕ} (accepted n) (accepted (length (f x))) = ap (λ (o : Outcome ℕ). o .answer) g in
-        let m : n ≡ length (f x) = cc in
-        let j : b′ ≡ over b 0 (f x) = ap (λ (o : Outcome ℕ). o .buffer) g in
-        record { inside = rw (m, j) (room-over b (f x) h); most = omega arith }
-    go false t =
-        let g : outcomeOf (Written n) b′ ≡ written b (λ w. w) (refused noRoom 0) = (rw i at e) ∙ ap (written b (λ w. w)) (fitting-no b (f x) (leb-false (length (f x)) (room b) t)) in
-        absurd (refused-not-accepted (sym (ap (λ (o : Outcome ℕ). o .answer) g)))
-said-short b b′ (refused k q) f e i = absurd (refused-not-accepted (sym (ap (λ (o : Outcome ℕ). o .answer) (rw i at e))))
+  said-of : (v : Verdict (List ℕ)) → outcomeOf a b′ ≡ written b (λ w. w) v → saidOf lines a b′ ≡ said lines v
+  unfolding saidOf
+  said-of v h = go a refl
+    where
+      go : (x : Answer) → a ≡ x → saidOf lines a b′ ≡ said lines v
+      go (Written n) i = rw i (sym (said-done v n h i))
+      go (Refused e) i = rw i (sym (said-refused v e h i))
 
 -- only the length of the buffer counts
 onward-same : {A : Type 0} (u : Verdict A) (f : A → List ℕ) (b c : List ℕ) → length c ≡ length b → andThen u (λ x. fitting c (f x)) ≡ andThen u (λ x. fitting b (f x))
@@ -92,15 +71,8 @@ module _ {A : Type 0} (lines : List ℕ → List ℕ) (u : Verdict A) (f : A →
   program : said lines (andThen u (λ x. fitting b (f x))) ≡ said lines (andThen u (λ x. fitting empty (f x)))
   program = ap (said lines) (onward-same u f empty b (l ∙ sym empty-length))
 
-  module _ {a : Answer} {o o′ : List ℕ} {r : ℕ} (h : outcomeOf a b′ ≡ written b (λ w. w) (andThen u (λ x. fitting b (f x)))) where
-    pub program-done : {n : ℕ} → ((w : List ℕ) → length w ≤ mostBytes → length (lines w) < 2 ^ 64) → a ≡ Written n → Prints o o′ 0 (lines (take n b′)) r → Reports o o′ (said lines (andThen u (λ x. fitting empty (f x)))) r
-    program-done {n} s i p =
-        let m = said-short b b′ u f h i in
-        let k : length (take n b′) ≤ mostBytes = rw (length-take n b′) (omega arith) in
-        reports-as (sym (said-done lines b b′ (andThen u (λ x. fitting b (f x))) n h i) ∙ program) (reported (s (take n b′) k) p)
-
-    pub program-refused : {e : Refusal} → a ≡ Refused e → Reports o o′ (refusedLine (kindNumber (e .kind)) (e .place)) r → Reports o o′ (said lines (andThen u (λ x. fitting empty (f x)))) r
-    program-refused {e} i p = reports-as (sym (said-refused lines b b′ (andThen u (λ x. fitting b (f x))) e h i) ∙ program) p
+  pub program-said : (a : Answer) {o o′ : List ℕ} {r : ℕ} → outcomeOf a b′ ≡ written b (λ w. w) (andThen u (λ x. fitting b (f x))) → Reports o o′ (saidOf lines a b′) r → Reports o o′ (said lines (andThen u (λ x. fitting empty (f x)))) r
+  program-said a h p = reports-as (said-of lines b b′ a (andThen u (λ x. fitting b (f x))) h ∙ program) p
 
 -- a front that is longer than all
 pub front-all-of : (s : List ℕ) (n : ℕ) → length s < n → s ≡ take n s

@@ -1,11 +1,14 @@
 // The lines that the programs write.
+use outcome::Answer;
 use refusal::Refusal;
 ghost use mathlib.Core.Path.{_≡_};
-ghost use lib.ListN.{take};
+ghost use Prim.Native.Nat.{_≤_};
+ghost use lib.ListN.{length, take};
+ghost use Rattle.cbor.specs.Decode.{mostBytes};
 ghost use Rattle.refusal.specs.RefusalKinds.{kindNumber};
 ghost use Rattle.text_output.specs.PrintParts.{Prints};
 ghost use Rattle.operations.specs.Programs.{acceptedLine, acceptedLines, atPlace, refusedLine};
-ghost use Rattle.report_lines.specs.Reports.{Reports};
+ghost use Rattle.report_lines.specs.Reports.{Reports, itself, saidOf};
 
 // `accepted N`.
 fn accepted_line(n: u64, out: &mut [u8]) -> usize
@@ -17,7 +20,7 @@ fn accepted_line(n: u64, out: &mut [u8]) -> usize
 }
 
 // The same, and the bytes in hexadecimal.
-pub fn accepted(bytes: &[u8], out: &mut [u8]) -> usize
+fn accepted(bytes: &[u8], out: &mut [u8]) -> usize
     ensures { λ r. ⌜ Prints (now (out .entry)) (now (out .exit)) 0 (acceptedLines (now (bytes .entry))) r ⌝ }
 {
     let p = accepted_line(bytes.len() as u64, out);
@@ -35,7 +38,7 @@ fn at_place(place: usize, out: &mut [u8], pos: usize) -> usize
 }
 
 // `refused C at P`.
-pub fn refused(e: Refusal, out: &mut [u8]) -> usize
+fn refused(e: Refusal, out: &mut [u8]) -> usize
     ensures { λ r. ⌜ Reports (now (out .entry)) (now (out .exit)) (refusedLine (kindNumber (e .kind)) (e .place)) r ⌝ }
 {
     let kind = e.kind;
@@ -53,4 +56,26 @@ pub fn front(bytes: &[u8], size: usize) -> &[u8]
         return bytes;
     }
     &bytes[..size]
+}
+
+// What is written of an answer of reading: the lines of the bytes that it left at the front of a buffer, or that of its refusal.
+pub fn said_of_bytes(a: Answer, bytes: &[u8], out: &mut [u8]) -> usize
+    requires { ⌜ length (now bytes) ≤ mostBytes ⌝ }
+    ensures { λ r. ⌜ Reports (now (out .entry)) (now (out .exit)) (saidOf acceptedLines a (now (bytes .entry))) r ⌝ }
+{
+    match a {
+        Answer::Written(n) => accepted(front(bytes, n), out),
+        Answer::Refused(e) => refused(e, out),
+    }
+}
+
+// The same of an answer of printing: the text itself, or the line of its refusal.
+pub fn said_of_text(a: Answer, text: &[u8], out: &mut [u8]) -> usize
+    requires { ⌜ length (now text) ≤ mostBytes ⌝ }
+    ensures { λ r. ⌜ Reports (now (out .entry)) (now (out .exit)) (saidOf itself a (now (text .entry))) r ⌝ }
+{
+    match a {
+        Answer::Written(n) => text_output::put_all(front(text, n), out, 0),
+        Answer::Refused(e) => refused(e, out),
+    }
 }
