@@ -34,7 +34,8 @@ use Rattle.operations.specs.Operations.{andThen, room, fitting, written, itemsO
 use Rattle.part.specs.PartAnswers.{locateTold, locateOf}
 use Rattle.outcome.specs.Outcomes.{outcomeOf, Roomy}
 use Rattle.text_check.specs.TextAnswers.{textTold, passing}
-use Rattle.planning.specs.PlanAnswers.{splice, Bounded, lengthFor, PlanFor, Plans}
+use Rattle.planning.specs.PlanAnswers.{Bounded, lengthFor, PlanFor}
+use Rattle.splicing.specs.Splices.{splice, Plans}
 use Rattle.correcting.specs.Corrections.{Spots, NewRead, Newly, decisionOf, Planned, roomFor, Replaces, Decides, Corrects}
 use Rattle.outcome.specs.declared.Answer.{Answer}
 use Rattle.outcome.specs.declared.Answer.the-variants.{Written, Refused as AnswerRefused}
@@ -49,7 +50,7 @@ use Rattle.planning.specs.declared.Decision.the-variants.{Replace, Refused}
 use Rattle.operations.proofs.Verdicts.{and-then-ok, and-then-is, and-then-refused}
 use Rattle.text_check.proofs.Texts.{passes, fails, passed-short}
 use Rattle.operations.proofs.Demands.{itemsOf-ok}
-use Rattle.planning.proofs.Putting.{whole-length}
+use Rattle.splicing.proofs.Putting.{whole-length}
 
 -- THE NEW ITEM
 newly : (s : List ℕ) (levels : ℕ) (item : List ℕ) (a : ReadAnswer) (v : Verdict Item) → readItem levels s ≡ v → NewRead item a v → Newly s levels item a

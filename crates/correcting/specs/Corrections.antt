@@ -24,7 +24,8 @@ use Rattle.part.specs.declared.Located.{Located}
 use Rattle.part.specs.declared.Part.{Part}
 use Rattle.planning.specs.declared.Decision.{Decision}
 use Rattle.planning.specs.declared.Decision.the-variants.{Replace, Refused}
-use Rattle.planning.specs.PlanAnswers.{splice, lengthFor, Plans}
+use Rattle.planning.specs.PlanAnswers.{lengthFor}
+use Rattle.splicing.specs.Splices.{splice, Plans}
 
 -- where the item is, in bytes
 pub record Spots (s path : List ℕ) (r : Located) : Type 0 where

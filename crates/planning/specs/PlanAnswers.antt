@@ -1,20 +1,13 @@
--- Of the code: what a correction plans, and what carries it out.
+-- Of the code: what a correction plans.
 use Prim.Native.Nat.{ℕ, _+_, _-_, _≤_, min}
 use mathlib.Core.Path.{_≡_}
-use mathlib.Core.List.{List, _++_}
 use mathlib.Core.Bool.{true, false}
 use lib.Dec.{leb}
-use lib.ListN.{length, take, drop}
 use Rattle.cbor.specs.Decode.{mostBytes}
 use Rattle.refusal.specs.declared.RefusalKind.the-variants.{NoRoom}
 use Rattle.part.specs.declared.Part.{Part}
-use Rattle.planning.specs.declared.Plan.{Plan}
 use Rattle.planning.specs.declared.Decision.{Decision}
 use Rattle.planning.specs.declared.Decision.the-variants.{Replace, Refused}
-
--- the first `used` bytes of b, with w for those from `start` to `end`
-unfoldable pub splice : List ℕ → ℕ → ℕ → ℕ → List ℕ → List ℕ
-splice b used start end w = take start b ++ (w ++ drop end (take used b))
 
 pub record Bounded (p : Part) (used : ℕ) : Type 0 where
   pub order : p .start ≤ p .end
@@ -28,13 +21,3 @@ lengthFor p used size = p .start + size + (used - p .end)
 pub record PlanFor (p : Part) (used size room : ℕ) (d : Decision) : Type 0 where
   pub yes : leb (lengthFor p used size) (min room mostBytes) ≡ true → d ≡ Replace (record { start = p .start; end = p .end; size = size; length = lengthFor p used size })
   pub no : leb (lengthFor p used size) (min room mostBytes) ≡ false → d ≡ Refused (record { kind = NoRoom; place = 0 })
-
--- a plan that can be carried out
-pub record Plans (b : List ℕ) (used : ℕ) (item : List ℕ) (p : Plan) : Type 0 where
-  pub order : p .start ≤ p .end
-  pub inside : p .end ≤ used
-  pub within : used ≤ length b
-  pub held : p .size ≤ length item
-  pub sized : p .length ≡ p .start + p .size + (used - p .end)
-  pub room : p .length ≤ length b
-  pub short : p .length ≤ mostBytes

@@ -1,4 +1,4 @@
-// What is planned of a correction, and the writing.
+// What is planned of a correction, before anything is written.
 use outcome::fits;
 use part::Part;
 use refusal::Refusal;
@@ -6,10 +6,8 @@ use refusal::RefusalKind;
 use refusal::limit::MOST_BYTES;
 use refusal::limit::MOST_LEVELS;
 ghost use mathlib.Core.Path.{_≡_};
-ghost use lib.ListN.{take};
-ghost use Rattle.memory.specs.Buffer.{over};
-ghost use Rattle.operations.specs.Operations.{level, zeroed};
-ghost use Rattle.planning.specs.PlanAnswers.{splice, Bounded, PlanFor, Plans};
+ghost use Rattle.operations.specs.Operations.{level};
+ghost use Rattle.planning.specs.PlanAnswers.{Bounded, PlanFor};
 
 // The item's bytes go from `start` to `end`, `size` bytes come for them, and `length` bytes are used then.
 pub struct Plan {
@@ -65,18 +63,4 @@ pub fn plan_for(p: Part, used: usize, size: usize, room: usize) -> Decision
         });
     }
     refuse(RefusalKind::NoRoom, 0)
-}
-
-// The bytes behind the item are moved once, the new ones come before them, and what is used no longer is zeroed. It answers the new length.
-pub fn put(buffer: &mut [u8], used: usize, p: Plan, item: &[u8]) -> usize
-    requires { ⌜ Plans (now buffer) used (now item) p ⌝ }
-    ensures { λ r. ⌜ r ≡ p .length ⌝ }
-    ensures { λ _. ⌜ now (buffer .exit) ≡ over (now (buffer .entry)) 0 (zeroed used (splice (now (buffer .entry)) used (p .start) (p .end) (take (p .size) (now (item .entry))))) ⌝ }
-{
-    buffer::move_part(buffer, p.end, p.start + p.size, used - p.end);
-    buffer::copy_at(item, p.size, buffer, p.start);
-    if p.length < used {
-        buffer::zero(buffer, p.length, used - p.length);
-    }
-    p.length
 }

@@ -9,8 +9,8 @@ use lib.Seq.{take-add, drop-at}
 use Rattle.memory.specs.Buffer.{over, overIfFits, moved, copied}
 use Rattle.memory.proofs.Buffer.{written-fits, copied-yes, fitting-yes, length-over, over-before, over-more}
 use Rattle.operations.specs.Operations.{zeroed}
-use Rattle.planning.specs.PlanAnswers.{splice, Plans}
 use Rattle.planning.specs.declared.Plan.{Plan}
+use Rattle.splicing.specs.Splices.{splice, Plans}
 
 -- what is left of a front, and the front of what is left
 drop-front : (k n : ℕ) (b : List ℕ) → k ≤ n → k ≤ length b → drop k (take n b) ≡ take (n - k) (drop k b)

@@ -1,9 +1,9 @@
--- `planning::put` meets its contract.
+-- `splicing::put` meets its contract.
 -- Assumes nothing.
 use borrow.Author.Needs.{needs}
-use Rattle.planning.proofs.put.Statement.{statement}
-use Rattle.planning.proofs.put.Tie as tie
-use Rattle.planning.proofs.Putting.{put-ways}
+use Rattle.splicing.proofs.put.Statement.{statement}
+use Rattle.splicing.proofs.put.Tie as tie
+use Rattle.splicing.proofs.Putting.{put-ways}
 
 pub put-spec : {M : Type 1} → statement M
 put-spec =
