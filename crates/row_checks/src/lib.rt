@@ -1,6 +1,6 @@
-// What came of a row of examples, compared with what the row says.
-pub mod compare;
-pub mod correction;
+// Rows of examples: what each asks for, turn by turn, and whether what came is what the row says.
+pub mod call;
+mod compare;
 pub mod count;
-pub mod item;
-pub mod kind;
+pub mod judge;
+pub mod reply;

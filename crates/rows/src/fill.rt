@@ -17,6 +17,17 @@ pub fn put(v: u8, n: usize, out: &mut [u8]) -> usize {
     FAILED
 }
 
+// Bytes as they are.
+pub fn copy(s: &[u8], out: &mut [u8]) -> usize {
+    let mut n: usize = 0;
+    let mut at: usize = 0;
+    while at < s.len() {
+        n = put(s[at], n, out);
+        at += 1;
+    }
+    n
+}
+
 // The value of a digit; 16 where it is none.
 fn digit(b: u8) -> u8
     ensures { λ r. ⌜ r ≤ 16 ⌝ }
@@ -143,6 +154,21 @@ pub fn fill(text: bool, s: &[u8], n: usize, out: &mut [u8]) -> usize {
 // The bytes of the field number k of a line.
 pub fn fill_field(text: bool, line: &[u8], k: usize, n: usize, out: &mut [u8]) -> usize {
     fill(text, field(line, k), n, out)
+}
+
+// A blank, where one is to be.
+fn blank(is_there: bool, n: usize, out: &mut [u8]) -> usize {
+    if is_there {
+        return put(b' ', n, out);
+    }
+    n
+}
+
+// A text of three fields, of which that in the middle is number k, perhaps with a blank before it and behind it.
+pub fn fill_around(line: &[u8], blanks: bool, k: usize, out: &mut [u8]) -> usize {
+    let before = fill_field(true, line, 1, 0, out);
+    let item = fill_field(true, line, k, blank(blanks, before, out), out);
+    fill_field(true, line, 3, blank(blanks, item, out), out)
 }
 
 fn none(text: bool) -> u8 {

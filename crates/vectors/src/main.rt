@@ -1,8 +1,6 @@
 // Runs the examples on standard input through the public functions, and compares each with what it should be. The file `stdin`
 // beside this folder says how a row is written. A line is written for each group and for each row that is wrong, and a last one with
 // the counts.
-mod correct;
-mod lines;
 mod run;
 
 ghost use mathlib.Core.Path.{_≡_};
@@ -10,12 +8,14 @@ ghost use lib.ListN.{length};
 use libc::STDIN_FILENO;
 use libc::STDOUT_FILENO;
 
+// Room for the rows, and a byte more, which tells that there are too many.
 fn space() -> [u8; 131072]
     ensures { λ r. ⌜ 131072 ≡ length r ⌝ }
 {
     [0; 131072]
 }
 
+// Reads the rows, and runs them.
 fn main() {
     let mut text = space();
     let input = streams::read_all(STDIN_FILENO, &mut text);
@@ -27,5 +27,5 @@ fn main() {
     if 131071 < n {
         io::write_all(STDOUT_FILENO, b"there are more rows than are read\n");
     }
-    lines::run_all(&text[..n]);
+    run::run_all(&text[..n]);
 }

@@ -1,149 +1,96 @@
-// Runs one row, and says whether it came out right.
-use crate::correct::with_path;
-use edn::Checked;
-use edn::Located;
-use edn::Scanned;
-use edn::print;
-use edn::read;
-use row_checks::compare::Reply;
-use row_checks::compare::denied;
-use row_checks::compare::is_refusal;
-use row_checks::compare::lent;
-use row_checks::compare::refused;
-use row_checks::compare::told;
-use row_checks::compare::told_refusal;
-use row_checks::compare::wrote;
-use row_checks::item::is_item;
-use row_checks::item::is_part;
-use row_checks::kind::BACK;
-use row_checks::kind::CHECK;
-use row_checks::kind::CORRECT;
-use row_checks::kind::LOOK;
-use row_checks::kind::PRINT;
-use row_checks::kind::READ;
-use row_checks::kind::SCAN;
-use row_checks::kind::takes_text;
-use row_checks::kind::width;
-use rows::cut::FAILED;
-use rows::cut::field;
-use rows::cut::number;
+// Goes through the lines, and asks what each row asks for.
+use row_checks::call::LENT_BYTES;
+use row_checks::call::function_of;
+use row_checks::call::granted;
+use row_checks::call::input_of;
+use row_checks::call::lent;
+use row_checks::call::number_of;
+use row_checks::call::path_of;
+use row_checks::call::room_of;
+use row_checks::call::used_of;
+use row_checks::count::counted;
+use row_checks::count::nothing;
+use row_checks::count::show_last;
+use row_checks::judge::judge;
+use row_checks::reply::Reply;
+use row_checks::reply::told;
+use row_checks::reply::told_check;
+use row_checks::reply::told_item;
+use row_checks::reply::told_part;
+use rows::cut::find;
 use rows::cut::part;
-use rows::cut::pieces;
-use rows::cut::same;
 use rows::cut::steps;
-use rows::cut::word;
-use rows::fill::fill;
-use rows::fill::path;
+use rows::turn::CHECK;
+use rows::turn::LOOK;
+use rows::turn::PRINT;
+use rows::turn::READ;
+use rows::turn::SCAN;
+use rows::turn::State;
+use rows::turn::WRONG;
+use rows::turn::is_done;
+use rows::turn::start;
 
-// A text is read, or bytes are printed.
-pub(crate) fn ask(printing: bool, input: &[u8], out: &mut [u8]) -> Reply {
-    if printing {
-        return told(print(input, out));
-    }
-    told(read(input, out))
-}
-
-// A buffer that is one byte too short for a result of n bytes is refused.
-fn short(printing: bool, input: &[u8], n: usize, out: &mut [u8]) -> bool {
-    if n == 0 {
-        return true;
-    }
-    if out.len() < n {
-        return false;
-    }
-    denied(ask(printing, input, &mut out[0..n - 1]), b"!14@0", out)
-}
-
-// The result is some bytes.
-pub(crate) fn gives(printing: bool, input: &[u8], want: &[u8]) -> bool {
-    let mut out = lent();
-    wrote(ask(printing, input, &mut out), &out, want)
-}
-
-fn refuses(printing: bool, input: &[u8], expected: &[u8]) -> bool {
-    let mut out = lent();
-    denied(ask(printing, input, &mut out), expected, &out)
-}
-
-// The result is what a field says.
-fn asks(printing: bool, input: &[u8], expected: &[u8]) -> bool {
-    if is_refusal(expected) {
-        return refuses(printing, input, expected);
-    }
-    let mut want = io::large_buffer();
-    let n = fill(printing, expected, 0, &mut want);
-    n < FAILED
-        && gives(printing, input, part(&want, 0, n))
-        && short(printing, input, n, &mut lent())
-}
-
-// Bytes are printed, and that text is read.
-fn goes_back(bytes: &[u8]) -> bool {
-    let mut text = lent();
-    let t = ask(true, bytes, &mut text);
-    t.number == 0 && gives(false, part(&text, 0, t.at as usize), bytes)
-}
-
-fn checks(bytes: &[u8], expected: &[u8]) -> bool {
-    let c = edn::check(bytes);
-    match c {
-        Checked::Accepted => same(expected, b"ok"),
-        Checked::Refused(e) => refused(told_refusal(e), expected),
+// The call of a turn, which is lent `out`.
+fn ask(turn: u64, input: &[u8], path: &[u16], used: usize, out: &mut [u8]) -> Reply {
+    let number = number_of(turn, used, out.len());
+    let function = function_of(turn);
+    match function {
+        READ => told(edn::read(input, out)),
+        PRINT => told(edn::print(input, out)),
+        CHECK => told_check(edn::check(input)),
+        LOOK => told_part(edn::locate(input, path), edn::look_up(input, path), input),
+        SCAN => told_item(edn::scan(input, number)),
+        _ => told(edn::correct(out, number, path, input)),
     }
 }
 
-fn looks(bytes: &[u8], path: &[u16], expected: &[u8]) -> bool {
-    let found = edn::look_up(bytes, path);
-    let l = edn::locate(bytes, path);
-    match l {
-        Located::Part(p) => is_part(bytes, p.start, p.end, found, expected),
-        Located::Refused(e) => found.len() == 0 && refused(told_refusal(e), expected),
+// One turn of a row: the buffers are filled, the call is made, and the answer is judged. What it keeps for the next one goes into `kept`.
+fn turn(line: &[u8], state: State, kept: &mut [u8]) -> State {
+    let turn = state.turn;
+    if is_done(turn) {
+        return state;
     }
-}
-
-fn row_look(line: &[u8], bytes: &[u8], expected: &[u8]) -> bool {
-    let mut space = [0u16; 64];
-    let n = path(field(line, 2), &mut space);
-    n < FAILED && looks(bytes, steps(&space, n), expected)
-}
-
-fn scans(line: &[u8], bytes: &[u8], at: usize, expected: &[u8]) -> bool {
-    let s = edn::scan(bytes, at);
-    match s {
-        Scanned::Item(i) => is_item(i, line),
-        Scanned::Refused(e) => refused(told_refusal(e), expected),
-    }
-}
-
-fn row_scan(line: &[u8], bytes: &[u8], expected: &[u8]) -> bool {
-    let at = number(field(line, 2));
-    at < FAILED && scans(line, bytes, at, expected)
-}
-
-// A row whose first field gave the input. The last says what is expected.
-fn run_of(kind: u64, line: &[u8], input: &[u8], expected: &[u8]) -> bool {
-    match kind {
-        BACK => goes_back(input),
-        READ => asks(false, input, expected),
-        PRINT => asks(true, input, expected),
-        CHECK => checks(input, expected),
-        LOOK => row_look(line, input, expected),
-        SCAN => row_scan(line, input, expected),
-        CORRECT => with_path(line, false, field(line, 3), field(line, 4)),
-        _ => with_path(line, true, field(line, 4), field(line, 5)),
-    }
-}
-
-fn run_row(kind: u64, line: &[u8], expected: &[u8]) -> bool {
     let mut input = io::large_buffer();
-    let n = fill(takes_text(kind), field(line, 1), 0, &mut input);
-    n < FAILED && run_of(kind, line, part(&input, 0, n), expected)
+    let mut path = [0u16; 64];
+    let mut out = lent();
+    let before = part(kept, 0, state.size);
+    let n = input_of(turn, line, before, &mut input);
+    let k = path_of(turn, line, &mut path);
+    let used = used_of(turn, line, before, &mut out);
+    let room = granted(n, k, used, room_of(turn, line, state.size, used, &mut out));
+    if LENT_BYTES < room {
+        return State {
+            turn: WRONG,
+            size: 0,
+        };
+    }
+    let reply = ask(
+        turn,
+        part(&input, 0, n),
+        steps(&path, k),
+        used,
+        &mut out[0..room],
+    );
+    judge(line, state, room, reply, &out, kept)
 }
 
-// A row that no kind has is wrong.
-pub(crate) fn run(line: &[u8]) -> bool {
-    let kind = word(field(line, 0));
-    let n = pieces(line, b'\t');
-    let expected = field(line, n - 1);
-    n == width(kind, is_refusal(expected)) && run_row(kind, line, expected)
+// What a line comes to. A row takes three turns at most, and a turn of a row that is done does nothing.
+fn run(line: &[u8]) -> u64 {
+    let mut kept = io::large_buffer();
+    let second = turn(line, start(line), &mut kept);
+    let third = turn(line, second, &mut kept);
+    let end = turn(line, third, &mut kept);
+    end.turn
+}
+
+// All lines, each counted.
+pub(crate) fn run_all(text: &[u8]) {
+    let mut tally = nothing();
+    let mut at: usize = 0;
+    while at < text.len() {
+        let end = find(text, at, b'\n');
+        tally = counted(tally, text, at, run(part(text, at, end)));
+        at = end + 1;
+    }
+    show_last(tally, text);
 }
