@@ -1,23 +1,11 @@
 // Reads a stream to its end, and writes all of a slice, where a call that fails is told from the end of the input, and one that a signal
 // interrupted is made again.
+use transfer::Next;
+use transfer::Transfer;
+use transfer::meaning;
 ghost use Prim.Native.Nat.{_≤_};
-ghost use mathlib.Core.Path.{_≡_};
 ghost use lib.ListN.{length};
 ghost use Rattle.io.specs.Counts.{Counts};
-ghost use Rattle.streams.specs.Transfers.{transferOf};
-
-// What is to be done after a call of read or write.
-enum Next {
-    CallAgain,
-    Stop,
-    GiveUp,
-}
-
-// What a call of read or write came to: how many bytes it moved, and what is to be done.
-struct Transfer {
-    moved: usize,
-    next: Next,
-}
 
 // How many bytes were read, and whether those are all: the input has ended, or the buffer is full. If not, a read failed.
 pub struct Input {
@@ -27,33 +15,6 @@ pub struct Input {
 
 // A proved loop ends, and nothing says that signals do: a number of calls that no run uses up.
 const MOST_CALLS: u64 = u64::MAX;
-
-fn meaning(got: isize, error: i32) -> Transfer
-    ensures { λ r. ⌜ r ≡ transferOf got error ⌝ }
-{
-    if got > 0 {
-        return Transfer {
-            moved: got as usize,
-            next: Next::CallAgain,
-        };
-    }
-    if got == 0 {
-        return Transfer {
-            moved: 0,
-            next: Next::Stop,
-        };
-    }
-    if error == libc::EINTR {
-        return Transfer {
-            moved: 0,
-            next: Next::CallAgain,
-        };
-    }
-    Transfer {
-        moved: 0,
-        next: Next::GiveUp,
-    }
-}
 
 fn read_some(fd: i32, buf: &mut [u8]) -> Transfer
     ensures { λ r. ⌜ r .moved ≤ length (now (buf .entry)) ⌝ }

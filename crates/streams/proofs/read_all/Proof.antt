@@ -6,7 +6,7 @@ use lib.ListN.{length}
 use borrow.Author.Needs.{needs}
 use Rattle.streams.proofs.read_all.Statement.{statement}
 use Rattle.streams.proofs.read_all.Tie as tie
-use Rattle.streams.proofs.Meanings.{counted}
+use Rattle.streams.proofs.Counting.{counted}
 
 abbrev Inv-loop : tie.InvT-loop
 Inv-loop fd buf₀ done₀ calls₀ buf done calls = (length buf ≡ length buf₀) × (done ≤ length buf)

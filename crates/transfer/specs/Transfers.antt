@@ -3,9 +3,9 @@ use Prim.Native.Nat.{ℕ, zero, suc}
 use mathlib.Core.Bool.{true, false}
 use lib.Dec.{eqb}
 use lib.IntN.{ℤ, pos, negsuc}
-use Rattle.streams.specs.declared.Next.{Next}
-use Rattle.streams.specs.declared.Next.the-variants.{CallAgain, Stop, GiveUp}
-use Rattle.streams.specs.declared.Transfer.{Transfer}
+use Rattle.transfer.specs.declared.Next.{Next}
+use Rattle.transfer.specs.declared.Next.the-variants.{CallAgain, Stop, GiveUp}
+use Rattle.transfer.specs.declared.Transfer.{Transfer}
 
 -- Linux's number of EINTR, errno where a signal came before a byte was moved
 abbrev pub interrupted : ℕ

@@ -1,25 +1,19 @@
 -- What the answer of a call means, from the tests that the code makes of it.
 -- Assumes nothing.
-use Prim.Native.Nat.{ℕ, zero, suc, _≤_}
+use Prim.Native.Nat.{ℕ, zero, suc}
 use mathlib.Core.Path.{_≡_, refl, sym, ap, subst, _∙_}
 use mathlib.Core.Bool.{true, false}
-use mathlib.Core.List.{List}
 use native.Mathlib.Omega.{arith}
 use borrow.Author.Tests.{ltb-false, ne-eqb}
 use lib.Dec.{T}
-use lib.ListN.{length}
-use lib.Seq.{length-take-le}
 use lib.IntN.{ℤ, pos, negsuc, natAbs}
 use lib.Signed.{ltZ, nonNeg}
 use mir.Syntax.{Width, w32, w64}
 use mir.Val.{SFits, Fits, ofZ, toZ}
 use mir.Facts.{toZ-ofZ}
-use Rattle.io.specs.Counts.{Counts}
-use Rattle.libc.specs.Io.{Moved}
-use Rattle.streams.specs.Transfers.{transferOf, afterFailure}
-use Rattle.streams.specs.declared.Next.{Next}
-use Rattle.streams.specs.declared.Next.the-variants.{CallAgain, Stop, GiveUp}
-use Rattle.streams.specs.declared.Transfer.{Transfer}
+use Rattle.transfer.specs.Transfers.{transferOf, afterFailure}
+use Rattle.transfer.specs.declared.Next.{Next}
+use Rattle.transfer.specs.declared.Next.the-variants.{CallAgain, Stop, GiveUp}
 
 -- a number is told by its bits
 by-bits : {w : Width} {z : ℤ} {n : ℕ} → SFits w z → ofZ w z ≡ n → z ≡ toZ w n
@@ -75,17 +69,3 @@ module _ {z : ℤ} (f : SFits w64 z) (t : ltZ (pos 0) (toZ w64 (ofZ w64 z)) ≡ 
       go (negsuc k) g = refl
 
 pub ruleset meanings = (some, none, again, failed)
-
--- A CALL THAT WAS LENT BYTES
-pub within : (room : ℕ) {z : ℤ} (e : ℤ) {t : Transfer} → SFits w64 z → t ≡ transferOf (toZ w64 (ofZ w64 z)) e → Moved room z → t .moved ≤ room
-unfolding transferOf
-within room {z} e f q h = rw (q, toZ-ofZ f) (go z h)
-  where
-    go : (z : ℤ) → Moved room z → (transferOf z e) .moved ≤ room
-    go (pos zero) h = omega arith
-    go (pos (suc k)) h = h
-    go (negsuc k) h = omega arith
-
--- THE INPUT
-pub counted : (b : List ℕ) {n : ℕ} → n ≤ length b → Counts n b
-counted b {n} h = (h, sym (length-take-le n b h))

@@ -1,8 +1,8 @@
--- `streams::meaning` meets its contract.
+-- `transfer::meaning` meets its contract.
 -- Assumes nothing.
-use Rattle.streams.proofs.meaning.Statement.{statement}
-use Rattle.streams.proofs.meaning.Tie as tie
-use Rattle.streams.proofs.Meanings.{meanings, countable}
+use Rattle.transfer.proofs.meaning.Statement.{statement}
+use Rattle.transfer.proofs.meaning.Tie as tie
+use Rattle.transfer.proofs.Meanings.{meanings, countable}
 
 pub meaning-spec : {M : Type 1} → statement M
 meaning-spec =
