@@ -14,12 +14,13 @@ use Rattle.notation.specs.Literals.{standsFor, Sextet, sextetAt, sextets, base6
 use Rattle.scanning.specs.Stands.{span}
 use Rattle.literal_body.specs.LiteralReading.{Within}
 use Rattle.base64_letter.specs.LetterAnswers.{sextetNumber}
-use Rattle.base64_group.specs.GroupAnswers.{sextetOf, Blanks, waits, waitingOf, Letters, allSextets, IsLast, flowing, fullSize, Last, Ending}
-use Rattle.base64_group.specs.declared.Group.{Group}
+use Rattle.base64_quantum.specs.QuantumAnswers.{sextetOf, waits, waitingOf, flowing, fullSize, Last}
+use Rattle.base64_quantum.specs.declared.Group.{Group}
+use Rattle.base64_group.specs.GroupAnswers.{Blanks, Letters, Ending}
 use Rattle.notation.proofs.SoundContent.{sextet-fits}
-use Rattle.literal_body.proofs.LiteralCode.{true-false}
 use Rattle.literal_body.proofs.ReadingCode.{span-step, span-over}
-use Rattle.base64_group.proofs.GroupCode.{sextet-back, counted, full-is, flow-bad}
+use Rattle.base64_quantum.proofs.QuantumCode.{counted, full-is}
+use Rattle.base64_group.proofs.GroupCode.{sextet-back, flow-bad}
 
 -- LETTERS, BLANKS BETWEEN
 
@@ -97,18 +98,6 @@ module _ {s : List ℕ} {stop from i : ℕ} (w : Within s from stop) (x : Blanks
 pub ruleset letters-ways = (letters-none, letters-one, letters-two, letters-three, letters-four)
 
 -- THE LAST LETTERS
-
-module _ (g : Group) where
-  pub last-few : g .count < 4 → IsLast g true
-  last-few h = record { four = λ z. absurd (true-false z); last = λ z k. absurd (omega arith) }
-
-  pub last-not : {t : Bool} → 4 ≤ g .count → t ≡ allSextets g → t ≡ true → IsLast g false
-  last-not h x e = record { four = λ z. (h, sym x ∙ e); last = λ z. absurd (true-false (sym z)) }
-
-  pub last-wrong : {t : Bool} → t ≡ allSextets g → t ≡ false → IsLast g true
-  last-wrong x e = record { four = λ z. absurd (true-false z); last = λ z k. sym x ∙ e }
-
-pub ruleset is-last-ways = (last-few, last-not, last-wrong)
 
 module _ {s : List ℕ} {stop : ℕ} (g : Group) {q : ℕ} (w : Within s (g .next) stop) (x : Blanks s stop (g .next) q) where
   pub ending-more : q < stop → Ending s stop g 4

@@ -1,26 +1,19 @@
-// Groups of base64 text: up to four letters, whatever blanks stand between, and the bytes that they make; the last group of a text.
-use base64_letter::letter_number::PADDING;
+// Groups of base64 text: up to four letters, whatever blanks stand between; the last of a text; their bytes, written.
 use base64_letter::letter_number::sextet_value;
+use base64_quantum::Group;
+use base64_quantum::WRONG;
+use base64_quantum::first_byte;
+use base64_quantum::last_size;
+use base64_quantum::second_byte;
+use base64_quantum::third_byte;
 use literal_body::is_blank;
 use literal_body::put;
 ghost use mathlib.Core.Path.{_≡_};
 ghost use lib.ListN.{take};
 ghost use Rattle.literal_body.specs.LiteralAnswers.{Put};
 ghost use Rattle.literal_body.specs.LiteralReading.{Within};
-ghost use Rattle.base64_group.specs.GroupAnswers.{Blanks, Letters, allSextets, IsLast, firstByte, secondOf, thirdOf, base64Bytes, Last, Ending, lastTwoSize, lastThreeSize, lastFourSize, fullSize};
-
-// More bytes than letters make: they may not stand so.
-pub const WRONG: usize = 4;
-
-// Up to four letters, and the place behind them.
-pub struct Group {
-    count: u8,
-    a: u8,
-    b: u8,
-    c: u8,
-    d: u8,
-    pub next: usize,
-}
+ghost use Rattle.base64_quantum.specs.QuantumAnswers.{base64Bytes};
+ghost use Rattle.base64_group.specs.GroupAnswers.{Blanks, Letters, Ending};
 
 fn past_blanks(text: &[u8], from: usize, stop: usize) -> usize
     requires { ⌜ Within (now text) from stop ⌝ }
@@ -78,62 +71,6 @@ pub fn letters(text: &[u8], from: usize, stop: usize) -> Group
     grouped(4, a, b, c, d, l + 1)
 }
 
-fn all_sextets(g: Group) -> bool
-    ensures { λ r. ⌜ r ≡ allSextets g ⌝ }
-{
-    if 63 < g.a {
-        return false;
-    }
-    if 63 < g.b {
-        return false;
-    }
-    if 63 < g.c {
-        return false;
-    }
-    g.d <= 63
-}
-
-// Whether letters are the last of a text or stand wrongly, being no four with values.
-pub fn is_last(g: Group) -> bool
-    ensures { λ r. ⌜ IsLast g r ⌝ }
-{
-    if g.count < 4 {
-        return true;
-    }
-    if all_sextets(g) {
-        return false;
-    }
-    true
-}
-
-// How many bytes four letters with others behind them make.
-fn full_size(g: Group) -> usize
-    ensures { λ r. ⌜ r ≡ fullSize g ⌝ }
-{
-    if all_sextets(g) {
-        return 3;
-    }
-    WRONG
-}
-
-fn first_byte(g: Group) -> u8
-    ensures { λ r. ⌜ r ≡ firstByte g ⌝ }
-{
-    g.a % 64 * 4 + g.b % 64 / 16
-}
-
-fn second_byte(g: Group) -> u8
-    ensures { λ r. ⌜ r ≡ secondOf g ⌝ }
-{
-    g.b % 16 * 16 + g.c % 64 / 4
-}
-
-fn third_byte(g: Group) -> u8
-    ensures { λ r. ⌜ r ≡ thirdOf g ⌝ }
-{
-    g.c % 4 * 64 + g.d % 64
-}
-
 // Writes the first bytes of a group.
 pub fn put_bytes(out: &mut [u8], p: usize, g: Group, n: usize) -> usize
     ensures { λ r. ⌜ Put (now (out .entry)) (now (out .exit)) p r (take n (base64Bytes g)) ⌝ }
@@ -150,66 +87,6 @@ pub fn put_bytes(out: &mut [u8], p: usize, g: Group, n: usize) -> usize
         return r;
     }
     put(out, r, third_byte(g))
-}
-
-// How many bytes two letters at the end make.
-fn last_two(a: u8, b: u8) -> usize
-    ensures { λ r. ⌜ r ≡ lastTwoSize a b ⌝ }
-{
-    if 63 < a {
-        return WRONG;
-    }
-    if 63 < b {
-        return WRONG;
-    }
-    if b % 16 == 0 {
-        return 1;
-    }
-    WRONG
-}
-
-fn last_three(a: u8, b: u8, c: u8) -> usize
-    ensures { λ r. ⌜ r ≡ lastThreeSize a b c ⌝ }
-{
-    if 63 < a {
-        return WRONG;
-    }
-    if 63 < b {
-        return WRONG;
-    }
-    if 63 < c {
-        return WRONG;
-    }
-    if c % 4 == 0 {
-        return 2;
-    }
-    WRONG
-}
-
-// Four letters at the end, the last of them perhaps `=`.
-fn last_four(g: Group) -> usize
-    ensures { λ r. ⌜ r ≡ lastFourSize g ⌝ }
-{
-    if g.d == PADDING {
-        if g.c == PADDING {
-            return last_two(g.a, g.b);
-        }
-        return last_three(g.a, g.b, g.c);
-    }
-    full_size(g)
-}
-
-fn last_size(g: Group) -> usize
-    ensures { λ r. ⌜ Last g r ⌝ }
-{
-    let count = g.count;
-    match count {
-        0 => 0,
-        1 => WRONG,
-        2 => last_two(g.a, g.b),
-        3 => last_three(g.a, g.b, g.c),
-        _ => last_four(g),
-    }
 }
 
 // How many bytes the last letters make, if only blanks follow them.

@@ -1,9 +1,9 @@
--- `base64_group::last_size` meets its contract.
+-- `base64_quantum::last_size` meets its contract.
 -- Assumes nothing.
-use Rattle.base64_group.proofs.GroupCode.{last-ways}
+use Rattle.base64_quantum.proofs.QuantumCode.{last-ways}
 use borrow.Author.Needs.{needs}
-use Rattle.base64_group.proofs.last_size.Statement.{statement}
-use Rattle.base64_group.proofs.last_size.Tie as tie
+use Rattle.base64_quantum.proofs.last_size.Statement.{statement}
+use Rattle.base64_quantum.proofs.last_size.Tie as tie
 
 pub last-size-spec : {M : Type 1} → statement M
 last-size-spec =

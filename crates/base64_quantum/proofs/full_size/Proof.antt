@@ -1,9 +1,9 @@
--- `base64_group::full_size` meets its contract.
+-- `base64_quantum::full_size` meets its contract.
 -- Assumes nothing.
-use Rattle.base64_group.proofs.GroupCode.{full-ways}
+use Rattle.base64_quantum.proofs.QuantumCode.{full-ways}
 use borrow.Author.Needs.{needs}
-use Rattle.base64_group.proofs.full_size.Statement.{statement}
-use Rattle.base64_group.proofs.full_size.Tie as tie
+use Rattle.base64_quantum.proofs.full_size.Statement.{statement}
+use Rattle.base64_quantum.proofs.full_size.Tie as tie
 
 pub full-size-spec : {M : Type 1} → statement M
 full-size-spec =

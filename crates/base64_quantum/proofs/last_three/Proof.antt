@@ -1,8 +1,8 @@
--- `base64_group::last_three` meets its contract.
+-- `base64_quantum::last_three` meets its contract.
 -- Assumes nothing.
-use Rattle.base64_group.proofs.GroupCode.{three-ways}
-use Rattle.base64_group.proofs.last_three.Statement.{statement}
-use Rattle.base64_group.proofs.last_three.Tie as tie
+use Rattle.base64_quantum.proofs.QuantumCode.{three-ways}
+use Rattle.base64_quantum.proofs.last_three.Statement.{statement}
+use Rattle.base64_quantum.proofs.last_three.Tie as tie
 
 pub last-three-spec : {M : Type 1} → statement M
 last-three-spec =

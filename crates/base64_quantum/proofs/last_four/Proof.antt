@@ -1,9 +1,9 @@
--- `base64_group::last_four` meets its contract.
+-- `base64_quantum::last_four` meets its contract.
 -- Assumes nothing.
-use Rattle.base64_group.proofs.GroupCode.{four-ways}
+use Rattle.base64_quantum.proofs.QuantumCode.{four-ways}
 use borrow.Author.Needs.{needs}
-use Rattle.base64_group.proofs.last_four.Statement.{statement}
-use Rattle.base64_group.proofs.last_four.Tie as tie
+use Rattle.base64_quantum.proofs.last_four.Statement.{statement}
+use Rattle.base64_quantum.proofs.last_four.Tie as tie
 
 pub last-four-spec : {M : Type 1} → statement M
 last-four-spec =

@@ -1,9 +1,9 @@
--- `base64_group::first_byte` meets its contract.
+-- `base64_quantum::first_byte` meets its contract.
 -- Assumes nothing.
-use Rattle.base64_group.proofs.GroupCode.{first-is}
+use Rattle.base64_quantum.proofs.QuantumCode.{first-is}
 use borrow.Author.Needs.{needs}
-use Rattle.base64_group.proofs.first_byte.Statement.{statement}
-use Rattle.base64_group.proofs.first_byte.Tie as tie
+use Rattle.base64_quantum.proofs.first_byte.Statement.{statement}
+use Rattle.base64_quantum.proofs.first_byte.Tie as tie
 
 pub first-byte-spec : {M : Type 1} → statement M
 first-byte-spec =

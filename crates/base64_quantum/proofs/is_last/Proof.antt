@@ -1,8 +1,8 @@
--- `base64_group::is_last` meets its contract.
+-- `base64_quantum::is_last` meets its contract.
 -- Assumes nothing.
-use Rattle.base64_group.proofs.is_last.Statement.{statement}
-use Rattle.base64_group.proofs.is_last.Tie as tie
-use Rattle.base64_group.proofs.BlankCode.{is-last-ways}
+use Rattle.base64_quantum.proofs.is_last.Statement.{statement}
+use Rattle.base64_quantum.proofs.is_last.Tie as tie
+use Rattle.base64_quantum.proofs.QuantumCode.{is-last-ways}
 use borrow.Author.Needs.{needs}
 
 pub is-last-spec : {M : Type 1} → statement M

@@ -1,9 +1,9 @@
--- `base64_group::third_byte` meets its contract.
+-- `base64_quantum::third_byte` meets its contract.
 -- Assumes nothing.
-use Rattle.base64_group.proofs.GroupCode.{third-is}
+use Rattle.base64_quantum.proofs.QuantumCode.{third-is}
 use borrow.Author.Needs.{needs}
-use Rattle.base64_group.proofs.third_byte.Statement.{statement}
-use Rattle.base64_group.proofs.third_byte.Tie as tie
+use Rattle.base64_quantum.proofs.third_byte.Statement.{statement}
+use Rattle.base64_quantum.proofs.third_byte.Tie as tie
 
 pub third-byte-spec : {M : Type 1} → statement M
 third-byte-spec =

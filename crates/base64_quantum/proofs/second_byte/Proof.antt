@@ -1,9 +1,9 @@
--- `base64_group::second_byte` meets its contract.
+-- `base64_quantum::second_byte` meets its contract.
 -- Assumes nothing.
-use Rattle.base64_group.proofs.GroupCode.{second-is}
+use Rattle.base64_quantum.proofs.QuantumCode.{second-is}
 use borrow.Author.Needs.{needs}
-use Rattle.base64_group.proofs.second_byte.Statement.{statement}
-use Rattle.base64_group.proofs.second_byte.Tie as tie
+use Rattle.base64_quantum.proofs.second_byte.Statement.{statement}
+use Rattle.base64_quantum.proofs.second_byte.Tie as tie
 
 pub second-byte-spec : {M : Type 1} → statement M
 second-byte-spec =

@@ -1,8 +1,8 @@
--- `base64_group::last_two` meets its contract.
+-- `base64_quantum::last_two` meets its contract.
 -- Assumes nothing.
-use Rattle.base64_group.proofs.GroupCode.{two-ways}
-use Rattle.base64_group.proofs.last_two.Statement.{statement}
-use Rattle.base64_group.proofs.last_two.Tie as tie
+use Rattle.base64_quantum.proofs.QuantumCode.{two-ways}
+use Rattle.base64_quantum.proofs.last_two.Statement.{statement}
+use Rattle.base64_quantum.proofs.last_two.Tie as tie
 
 pub last-two-spec : {M : Type 1} → statement M
 last-two-spec =

@@ -1,8 +1,8 @@
--- `base64_group::all_sextets` meets its contract.
+-- `base64_quantum::all_sextets` meets its contract.
 -- Assumes nothing.
-use Rattle.base64_group.proofs.GroupCode.{all-ways}
-use Rattle.base64_group.proofs.all_sextets.Statement.{statement}
-use Rattle.base64_group.proofs.all_sextets.Tie as tie
+use Rattle.base64_quantum.proofs.QuantumCode.{all-ways}
+use Rattle.base64_quantum.proofs.all_sextets.Statement.{statement}
+use Rattle.base64_quantum.proofs.all_sextets.Tie as tie
 
 pub all-sextets-spec : {M : Type 1} → statement M
 all-sextets-spec =
