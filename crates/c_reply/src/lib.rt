@@ -1,16 +1,14 @@
-// What an operation returns in numbers, and what it writes into `value`.
-use checked::Checked;
+// What reading, printing and correcting return in numbers, and what they write into `value`: a length, or the place of the refusal.
 use outcome::Answer;
-use part::Located;
 use refusal::Refusal;
 ghost use mathlib.Core.Path.{_≡_};
 ghost use lib.Dec.{eqb};
 ghost use lib.ListN.{set};
 ghost use Rattle.refusal.specs.RefusalKinds.{kindNumber};
-ghost use Rattle.c_reply.specs.Replies.{code, succeeds, lengthIn, answerOf, CheckReplied, PartReplied};
+ghost use Rattle.c_reply.specs.Replies.{code, succeeds, lengthIn, answerOf};
 
 // Puts a number into a slice that reaches that far.
-fn put(value: &mut [u64], i: usize, x: u64)
+pub fn put(value: &mut [u64], i: usize, x: u64)
     ensures { λ _. ⌜ now (value .exit) ≡ set (now (value .entry)) i x ⌝ }
 {
     if i < value.len() {
@@ -18,7 +16,8 @@ fn put(value: &mut [u64], i: usize, x: u64)
     }
 }
 
-fn refused(e: Refusal, value: &mut [u64]) -> u8
+// The number of a refusal, and its place.
+pub fn refused(e: Refusal, value: &mut [u64]) -> u8
     ensures { λ r. ⌜ r ≡ kindNumber (e .kind) ⌝ }
     ensures { λ _. ⌜ now (value .exit) ≡ set (now (value .entry)) 0 (e .place) ⌝ }
 {
@@ -40,34 +39,5 @@ pub fn reply(a: Answer, value: &mut [u64]) -> u8
             0
         }
         Answer::Refused(e) => refused(e, value),
-    }
-}
-
-// 0, or the place of the refusal.
-pub fn check_reply(checked: Checked, value: &mut [u64]) -> u8
-    ensures { λ r. ⌜ CheckReplied checked (now (value .entry)) (now (value .exit)) r ⌝ }
-{
-    match checked {
-        Checked::Refused(e) => refused(e, value),
-        Checked::Accepted => {
-            put(value, 0, 0);
-            0
-        }
-    }
-}
-
-// Where a part starts and ends, or the place of the refusal.
-pub fn part_reply(found: Located, value: &mut [u64]) -> u8
-    ensures { λ r. ⌜ PartReplied found (now (value .entry)) (now (value .exit)) r ⌝ }
-{
-    match found {
-        Located::Refused(e) => refused(e, value),
-        Located::Part(p) => {
-            let start = p.start as u64;
-            let end = p.end as u64;
-            put(value, 0, start);
-            put(value, 1, end);
-            0
-        }
     }
 }

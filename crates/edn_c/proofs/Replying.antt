@@ -15,7 +15,8 @@ use Rattle.outcome.specs.declared.Answer.{Answer}
 use Rattle.outcome.specs.declared.Answer.the-variants.{Written, Refused}
 use Rattle.checked.specs.declared.Checked.{Checked}
 use Rattle.part.specs.declared.Located.{Located}
-use Rattle.c_reply.specs.Replies.{code, succeeds, lengthIn, spotIn, placeIn, answerOf, CheckReplied, PartReplied}
+use Rattle.c_reply.specs.Replies.{code, succeeds, lengthIn, answerOf}
+use Rattle.c_place_reply.specs.PlaceReplies.{spotIn, placeIn, CheckReplied, PartReplied}
 
 -- AN OPERATION WITH A BUFFER
 answer-of : (a : Answer) (b : List ℕ) → answerOf a ≡ (outcomeOf a b) .answer

@@ -1,12 +1,13 @@
 // The operations on numbers and slices alone, for programs in C, Rust and other languages (include/edn.h). Each returns 0, or the number
 // of its refusal; what goes with that is written into `value`, as far as it reaches.
-use c_reply::check_reply;
-use c_reply::part_reply;
+use c_place_reply::check_reply;
+use c_place_reply::part_reply;
 use c_reply::reply;
 ghost use mathlib.Core.Path.{_≡_};
 ghost use lib.Dec.{eqb};
 ghost use Rattle.operations.specs.Operations.{read, print, correct, lookUp, itemsOf};
-ghost use Rattle.c_reply.specs.Replies.{code, succeeds, lengthIn, spotIn, placeIn};
+ghost use Rattle.c_reply.specs.Replies.{code, succeeds, lengthIn};
+ghost use Rattle.c_place_reply.specs.PlaceReplies.{spotIn, placeIn};
 
 // The bytes of a text's items, at the front of `out`; their length, or the place of the refusal, in value[0].
 #[no_mangle]

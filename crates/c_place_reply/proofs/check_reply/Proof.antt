@@ -1,9 +1,9 @@
--- `c_reply::check_reply` meets its contract.
+-- `c_place_reply::check_reply` meets its contract.
 -- Assumes nothing.
 use borrow.Author.Needs.{needs}
-use Rattle.c_reply.proofs.check_reply.Statement.{statement}
-use Rattle.c_reply.proofs.check_reply.Tie as tie
-use Rattle.c_reply.proofs.Replying.{check-ways}
+use Rattle.c_place_reply.proofs.check_reply.Statement.{statement}
+use Rattle.c_place_reply.proofs.check_reply.Tie as tie
+use Rattle.c_place_reply.proofs.PlaceReplying.{check-ways}
 
 pub check-reply-spec : {M : Type 1} → statement M
 check-reply-spec =

@@ -1,9 +1,9 @@
--- `c_reply::part_reply` meets its contract.
+-- `c_place_reply::part_reply` meets its contract.
 -- Assumes nothing.
 use borrow.Author.Needs.{needs}
-use Rattle.c_reply.proofs.part_reply.Statement.{statement}
-use Rattle.c_reply.proofs.part_reply.Tie as tie
-use Rattle.c_reply.proofs.Replying.{part-ways}
+use Rattle.c_place_reply.proofs.part_reply.Statement.{statement}
+use Rattle.c_place_reply.proofs.part_reply.Tie as tie
+use Rattle.c_place_reply.proofs.PlaceReplying.{part-ways}
 
 pub part-reply-spec : {M : Type 1} → statement M
 part-reply-spec =
