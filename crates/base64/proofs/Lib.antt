@@ -1,1 +1,3 @@
+mod GroupCode
+mod BlankCode
 pub mod LoopCode

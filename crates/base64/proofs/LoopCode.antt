@@ -19,11 +19,11 @@ use Rattle.literal_body.specs.LiteralReading.{Yields, Progressed, DecodesInto}
 use Rattle.literal_body.specs.declared.Progress.{Progress}
 use Rattle.base64_quantum.specs.QuantumAnswers.{sextetOf, waits, allSextets, IsLast, firstByte, secondOf, thirdOf, base64Bytes, flowing}
 use Rattle.base64_quantum.specs.declared.Group.{Group}
-use Rattle.base64_group.specs.GroupAnswers.{Letters, Ending}
+use Rattle.base64.specs.GroupAnswers.{Letters, Ending}
 use Rattle.notation.proofs.SoundContent.{Fits}
 use Rattle.literal_body.proofs.ReadingCode.{span-over, progress-more, progress-append, decodes-good, decodes-bad}
 use Rattle.base64_quantum.proofs.QuantumCode.{counted}
-use Rattle.base64_group.proofs.GroupCode.{length-some, flow-bad, flow-on}
+use Rattle.base64.proofs.GroupCode.{length-some, flow-bad, flow-on}
 use Rattle.base64_word.proofs.WordCode.{bytesOf, four-front}
 
 nothing-left : (s : List ℕ) (stop i : ℕ) → stop ≤ i → base64Content (span i stop s) ≡ standsFor []

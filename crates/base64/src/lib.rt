@@ -1,7 +1,9 @@
 // Base64 text: what stands between the quotes of b64'..'.
-use base64_group::ending_size;
-use base64_group::letters;
-use base64_group::put_bytes;
+mod group;
+
+use crate::group::ending_size;
+use crate::group::letters;
+use crate::group::put_bytes;
 use base64_quantum::WRONG;
 use base64_quantum::is_last;
 use base64_word::put_fours;

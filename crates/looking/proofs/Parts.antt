@@ -29,10 +29,10 @@ use Rattle.walk_parts.proofs.WalkItems.{item-told, all-short}
 use Rattle.operations.specs.Operations.{itemsOf, andThen, spotOf, lookUp, partOf}
 use Rattle.path.specs.Following.{at, trace}
 use Rattle.path.specs.StepAnswers.{tracedTo, Still, Traced}
-use Rattle.guided_walk.specs.GuidedAnswers.{WayThrough, IfFound, Through}
-use Rattle.guided_walk.specs.declared.Way.{Way}
-use Rattle.guided_walk.specs.declared.Guided.{Guided}
-use Rattle.guided_walk.specs.declared.Guided.the-variants.{Found as FoundWay}
+use Rattle.looking.specs.GuidedAnswers.{WayThrough, IfFound, Through}
+use Rattle.looking.specs.declared.guided.Way.{Way}
+use Rattle.looking.specs.declared.guided.Guided.{Guided}
+use Rattle.looking.specs.declared.guided.Guided.the-variants.{Found as FoundWay}
 use Rattle.part.specs.PartAnswers.{partFound, locateRefused, locateTold, locateOf, Ordered, taken}
 use Rattle.part.proofs.Taking.{taken-is}
 use Rattle.looking.specs.Answers.{Checks, Accepts, Parts}

@@ -1,6 +1,8 @@
 // The part of bytes at a path, looked up.
-use guided_walk::Guided;
-use guided_walk::walk_through;
+mod guided;
+
+use crate::guided::Guided;
+use crate::guided::walk_through;
 use part::Located;
 use part::between;
 use part::nowhere;

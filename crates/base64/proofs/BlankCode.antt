@@ -16,11 +16,11 @@ use Rattle.literal_body.specs.LiteralReading.{Within}
 use Rattle.base64_letter.specs.LetterAnswers.{sextetNumber}
 use Rattle.base64_quantum.specs.QuantumAnswers.{sextetOf, waits, waitingOf, flowing, fullSize, Last}
 use Rattle.base64_quantum.specs.declared.Group.{Group}
-use Rattle.base64_group.specs.GroupAnswers.{Blanks, Letters, Ending}
+use Rattle.base64.specs.GroupAnswers.{Blanks, Letters, Ending}
 use Rattle.notation.proofs.SoundContent.{sextet-fits}
 use Rattle.literal_body.proofs.ReadingCode.{span-step, span-over}
 use Rattle.base64_quantum.proofs.QuantumCode.{counted, full-is}
-use Rattle.base64_group.proofs.GroupCode.{sextet-back, flow-bad}
+use Rattle.base64.proofs.GroupCode.{sextet-back, flow-bad}
 
 -- LETTERS, BLANKS BETWEEN
 

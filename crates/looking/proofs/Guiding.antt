@@ -29,12 +29,12 @@ use Rattle.walk_answer.proofs.WalkCycle.{reached, tail-is, all-leaves, all-one,
 use Rattle.walk_parts.proofs.WalkItems.{all-told}
 use Rattle.path.specs.Following.{Place, at, onto, behindOne, pastOne, stepTo, standing, nthFrom, childBy, childIn, numbered, followFrom, trace}
 use Rattle.path.specs.StepAnswers.{Step as StepOf}
-use Rattle.guided_walk.specs.GuidedAnswers.{Walks, Passes, Below, Leads, WayInside, WayAmong, WayThrough, IfFound, Inside, Among, Through}
-use Rattle.guided_walk.specs.declared.Way.{Way}
-use Rattle.guided_walk.specs.declared.Guided.{Guided}
-use Rattle.guided_walk.specs.declared.Guided.the-variants.{Found, Unknown}
+use Rattle.looking.specs.GuidedAnswers.{Walks, Passes, Below, Leads, WayInside, WayAmong, WayThrough, IfFound, Inside, Among, Through}
+use Rattle.looking.specs.declared.guided.Way.{Way}
+use Rattle.looking.specs.declared.guided.Guided.{Guided}
+use Rattle.looking.specs.declared.guided.Guided.the-variants.{Found, Unknown}
 use Rattle.path.proofs.Stepping.{left-of, lessBy, less-mode, pastSome, skip, Got, got, mode-is, child-is}
-use Rattle.guided_walk.proofs.Joining.{all-over, all-on, Last, last-of, not-ended, all-join, all-raised, array-one, map-one}
+use Rattle.looking.proofs.Joining.{all-over, all-on, Last, last-of, not-ended, all-join, all-raised, array-one, map-one}
 
 -- PAST ITEMS
 

@@ -1,9 +1,9 @@
--- `guided_walk::past_items` meets its contract.
+-- `looking::guided::past_items` meets its contract.
 -- Assumes nothing.
 use borrow.Author.Needs.{needs}
-use Rattle.guided_walk.proofs.Guiding.{pass-ways}
-use Rattle.guided_walk.proofs.past_items.Statement.{statement}
-use Rattle.guided_walk.proofs.past_items.Tie as tie
+use Rattle.looking.proofs.Guiding.{pass-ways}
+use Rattle.looking.proofs.guided.past_items.Statement.{statement}
+use Rattle.looking.proofs.guided.past_items.Tie as tie
 
 pub past-items-spec : {M : Type 1} → statement M
 past-items-spec =

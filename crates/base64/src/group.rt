@@ -13,7 +13,7 @@ ghost use lib.ListN.{take};
 ghost use Rattle.literal_body.specs.LiteralAnswers.{Put};
 ghost use Rattle.literal_body.specs.LiteralReading.{Within};
 ghost use Rattle.base64_quantum.specs.QuantumAnswers.{base64Bytes};
-ghost use Rattle.base64_group.specs.GroupAnswers.{Blanks, Letters, Ending};
+ghost use Rattle.base64.specs.GroupAnswers.{Blanks, Letters, Ending};
 
 fn past_blanks(text: &[u8], from: usize, stop: usize) -> usize
     requires { ⌜ Within (now text) from stop ⌝ }
@@ -44,7 +44,7 @@ fn grouped(count: u8, a: u8, b: u8, c: u8, d: u8, next: usize) -> Group
 }
 
 // The next four letters, whatever blanks stand between; fewer where the text ends.
-pub fn letters(text: &[u8], from: usize, stop: usize) -> Group
+pub(crate) fn letters(text: &[u8], from: usize, stop: usize) -> Group
     requires { ⌜ Within (now text) from stop ⌝ }
     ensures { λ r. ⌜ Letters (now (text .entry)) stop from r ⌝ }
 {
@@ -72,7 +72,7 @@ pub fn letters(text: &[u8], from: usize, stop: usize) -> Group
 }
 
 // Writes the first bytes of a group.
-pub fn put_bytes(out: &mut [u8], p: usize, g: Group, n: usize) -> usize
+pub(crate) fn put_bytes(out: &mut [u8], p: usize, g: Group, n: usize) -> usize
     ensures { λ r. ⌜ Put (now (out .entry)) (now (out .exit)) p r (take n (base64Bytes g)) ⌝ }
 {
     if n == 0 {
@@ -90,7 +90,7 @@ pub fn put_bytes(out: &mut [u8], p: usize, g: Group, n: usize) -> usize
 }
 
 // How many bytes the last letters make, if only blanks follow them.
-pub fn ending_size(text: &[u8], g: Group, stop: usize) -> usize
+pub(crate) fn ending_size(text: &[u8], g: Group, stop: usize) -> usize
     requires { ⌜ Within (now text) (g .next) stop ⌝ }
     ensures { λ r. ⌜ Ending (now (text .entry)) stop g r ⌝ }
 {

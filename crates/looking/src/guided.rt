@@ -18,16 +18,16 @@ ghost use Prim.Native.Nat.{_≤_};
 ghost use lib.ListN.{length};
 ghost use Rattle.cbor.specs.Decode.{mostBytes};
 ghost use Rattle.walk_answer.specs.WalkAnswers.{untilBy};
-ghost use Rattle.guided_walk.specs.GuidedAnswers.{Passes, Below, Inside, Among, Through};
+ghost use Rattle.looking.specs.GuidedAnswers.{Passes, Below, Inside, Among, Through};
 
 // The item at the path goes from `start` to `end`; what the path was followed in ends before `behind`.
-pub struct Way {
-    pub start: usize,
-    pub end: usize,
-    pub behind: usize,
+pub(crate) struct Way {
+    pub(crate) start: usize,
+    pub(crate) end: usize,
+    pub(crate) behind: usize,
 }
 
-pub enum Guided {
+pub(crate) enum Guided {
     Found(Way),
     Unknown,
 }
@@ -174,7 +174,7 @@ fn top_item(bytes: &[u8], k: u64) -> Guided
 }
 
 // All of the bytes, if they are items, and the item at a path, if there is one.
-pub fn walk_through(bytes: &[u8], path: &[u16]) -> Guided
+pub(crate) fn walk_through(bytes: &[u8], path: &[u16]) -> Guided
     ensures { λ r. ⌜ Through (now (bytes .entry)) (now (path .entry)) r ⌝ }
 {
     if MOST_BYTES < bytes.len() {

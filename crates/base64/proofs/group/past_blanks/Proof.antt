@@ -1,9 +1,9 @@
--- `base64_group::past_blanks` meets its contract.
+-- `base64::group::past_blanks` meets its contract.
 -- Assumes nothing.
-use Rattle.base64_group.proofs.past_blanks.Statement.{statement}
-use Rattle.base64_group.proofs.past_blanks.Tie as tie
+use Rattle.base64.proofs.group.past_blanks.Statement.{statement}
+use Rattle.base64.proofs.group.past_blanks.Tie as tie
 use Prim.Native.Nat.{_-_, _≤_}
-use Rattle.base64_group.proofs.BlankCode.{Passed, blanks-start, blanks-on, blanks-ways}
+use Rattle.base64.proofs.BlankCode.{Passed, blanks-start, blanks-on, blanks-ways}
 use borrow.Author.Needs.{needs}
 
 abbrev Inv-loop : tie.InvT-loop

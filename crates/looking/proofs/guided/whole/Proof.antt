@@ -1,9 +1,9 @@
--- `guided_walk::whole` meets its contract.
+-- `looking::guided::whole` meets its contract.
 -- Assumes nothing.
 use borrow.Author.Needs.{needs}
-use Rattle.guided_walk.proofs.Guiding.{whole-ways}
-use Rattle.guided_walk.proofs.whole.Statement.{statement}
-use Rattle.guided_walk.proofs.whole.Tie as tie
+use Rattle.looking.proofs.Guiding.{whole-ways}
+use Rattle.looking.proofs.guided.whole.Statement.{statement}
+use Rattle.looking.proofs.guided.whole.Tie as tie
 
 pub whole-spec : {M : Type 1} → statement M
 whole-spec =

@@ -4,24 +4,24 @@ use Prim.Native.Nat.{ℕ, _<_, _+_, _*_}
 use native.Mathlib.Omega.{arith}
 use borrow.Fn.Kinds.{In}
 use borrow.Fn.PlainCycle.{Measures, is, falls, and}
-use Rattle.guided_walk.proofs.among.Reads as among
-use Rattle.guided_walk.proofs.among.Kinds as among-kinds
-use Rattle.guided_walk.proofs.+among+inside.Lts-among as among-lts
-use Rattle.guided_walk.proofs.inside.Reads as inside
-use Rattle.guided_walk.proofs.inside.Kinds as inside-kinds
-use Rattle.guided_walk.proofs.+among+inside.Lts-inside as inside-lts
+use Rattle.looking.proofs.guided.among.Reads as among
+use Rattle.looking.proofs.guided.among.Kinds as among-kinds
+use Rattle.looking.proofs.guided.+among+inside.Lts-among as among-lts
+use Rattle.looking.proofs.guided.inside.Reads as inside
+use Rattle.looking.proofs.guided.inside.Kinds as inside-kinds
+use Rattle.looking.proofs.guided.+among+inside.Lts-inside as inside-lts
 use Rattle.head.proofs.read_head.Reads as read-head-reads
 use Rattle.path.proofs.behind.Reads as behind-reads
-use Rattle.guided_walk.proofs.past_items.Reads as past-items-reads
-use Rattle.guided_walk.proofs.whole.Reads as whole-reads
+use Rattle.looking.proofs.guided.past_items.Reads as past-items-reads
+use Rattle.looking.proofs.guided.whole.Reads as whole-reads
 use Rattle.path.proofs.wide.Reads as wide-reads
 use Rattle.walk_answer.proofs.is_over.Reads as is-over-reads
 use Rattle.walk_answer.proofs.less.Reads as less-reads
 use Rattle.walk_answer.proofs.mode_of.Reads as mode-of-reads
-use Rattle.guided_walk.proofs.+among+inside.{statement}
-use Rattle.guided_walk.proofs.+among+inside.Tie.{close}
+use Rattle.looking.proofs.guided.+among+inside.{statement}
+use Rattle.looking.proofs.guided.+among+inside.Tie.{close}
 use borrow.Author.Needs.{needs}
-use Rattle.guided_walk.proofs.Guiding.{among-at as at-below, among-behind, among-ways, inside-room, inside-ways}
+use Rattle.looking.proofs.Guiding.{among-at as at-below, among-behind, among-ways, inside-room, inside-ways}
 
 abbrev μ-among : Measures 2 among-kinds.ps ℕ
 μ-among κs a = 2 * a .1 .1 .1 .1 .1 .1 .0 + 1

@@ -1,8 +1,8 @@
--- `base64_group::letters` meets its contract.
+-- `base64::group::letters` meets its contract.
 -- Assumes nothing.
-use Rattle.base64_group.proofs.letters.Statement.{statement}
-use Rattle.base64_group.proofs.letters.Tie as tie
-use Rattle.base64_group.proofs.BlankCode.{letters-ways}
+use Rattle.base64.proofs.group.letters.Statement.{statement}
+use Rattle.base64.proofs.group.letters.Tie as tie
+use Rattle.base64.proofs.BlankCode.{letters-ways}
 use borrow.Author.Needs.{needs}
 
 pub letters-spec : {M : Type 1} → statement M

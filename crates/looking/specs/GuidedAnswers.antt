@@ -9,9 +9,9 @@ use Rattle.cbor.specs.Decode.{Until, counted, ended, another, stepAt, mostBytes
 use Rattle.cbor.specs.Paths.{found}
 use Rattle.walk_answer.specs.WalkAnswers.{allOf, untilBy}
 use Rattle.path.specs.Following.{followFrom, trace}
-use Rattle.guided_walk.specs.declared.Way.{Way}
-use Rattle.guided_walk.specs.declared.Guided.{Guided}
-use Rattle.guided_walk.specs.declared.Guided.the-variants.{Found, Unknown}
+use Rattle.looking.specs.declared.guided.Way.{Way}
+use Rattle.looking.specs.declared.guided.Guided.{Guided}
+use Rattle.looking.specs.declared.guided.Guided.the-variants.{Found, Unknown}
 
 -- items are walked over, with d levels left for each: they begin s, and r is left behind them
 pub record Walks (d : ℕ) (u : Until) (s r : List ℕ) : Type 0 where

@@ -1,8 +1,8 @@
--- `base64_group::ending_size` meets its contract.
+-- `base64::group::ending_size` meets its contract.
 -- Assumes nothing.
-use Rattle.base64_group.proofs.ending_size.Statement.{statement}
-use Rattle.base64_group.proofs.ending_size.Tie as tie
-use Rattle.base64_group.proofs.BlankCode.{ending-ways}
+use Rattle.base64.proofs.group.ending_size.Statement.{statement}
+use Rattle.base64.proofs.group.ending_size.Tie as tie
+use Rattle.base64.proofs.BlankCode.{ending-ways}
 use borrow.Author.Needs.{needs}
 
 pub ending-size-spec : {M : Type 1} → statement M

@@ -1,9 +1,9 @@
--- `base64_group::put_bytes` meets its contract.
+-- `base64::group::put_bytes` meets its contract.
 -- Assumes nothing.
-use Rattle.base64_group.proofs.GroupCode.{bytes-ways}
+use Rattle.base64.proofs.GroupCode.{bytes-ways}
 use borrow.Author.Needs.{needs}
-use Rattle.base64_group.proofs.put_bytes.Statement.{statement}
-use Rattle.base64_group.proofs.put_bytes.Tie as tie
+use Rattle.base64.proofs.group.put_bytes.Statement.{statement}
+use Rattle.base64.proofs.group.put_bytes.Tie as tie
 
 pub put-bytes-spec : {M : Type 1} → statement M
 put-bytes-spec =

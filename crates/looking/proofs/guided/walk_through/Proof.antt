@@ -1,9 +1,9 @@
--- `guided_walk::walk_through` meets its contract.
+-- `looking::guided::walk_through` meets its contract.
 -- Assumes nothing.
 use borrow.Author.Needs.{needs}
-use Rattle.guided_walk.proofs.walk_through.Statement.{statement}
-use Rattle.guided_walk.proofs.walk_through.Tie as tie
-use Rattle.guided_walk.proofs.Guiding.{through-not, through-start, through-ways}
+use Rattle.looking.proofs.guided.walk_through.Statement.{statement}
+use Rattle.looking.proofs.guided.walk_through.Tie as tie
+use Rattle.looking.proofs.Guiding.{through-not, through-start, through-ways}
 
 pub walk-through-spec : {M : Type 1} → statement M
 walk-through-spec =

@@ -1,2 +1,0 @@
-pub mod GroupCode
-pub mod BlankCode
