@@ -1,11 +1,10 @@
 // The number of a letter of base64 text, by a table.
+use base64_quantum::PADDING;
 ghost use mathlib.Core.Path.{_≡_};
 ghost use Rattle.notation.specs.Literals.{sextetAt};
 ghost use Rattle.base64_letter.specs.LetterAnswers.{sextetNumber};
 
-// The numbers of `=` and of what is in neither alphabet, above those of the 64 letters.
-pub const PADDING: u8 = 64;
-
+// The number of what is in neither alphabet, above that of `=`.
 const NO_LETTER: u8 = 65;
 
 // The number of a byte. Letters and digits are mixed in every way, and branches on them would be foretold badly: a table has none.

@@ -2,7 +2,7 @@
 -- Assumes nothing.
 use mathlib.Core.Path.{_≡_, refl, sym, ap, _∙_}
 use mathlib.Core.List.{[], _∷_}
-use mathlib.Core.Bool.{Bool, true, false, _&&_}
+use mathlib.Core.Bool.{Bool, true, false, _&&_, true≢false}
 use Prim.Native.Nat.{ℕ, _+_, _*_, _/_, _%_, _≤_, _<_}
 use native.Mathlib.Omega.{arith}
 use lib.Dec.{leb, eqb}
@@ -12,7 +12,6 @@ use Rattle.cbor.proofs.Utf8Laws.{both-true}
 use Rattle.notation.specs.Literals.{Content, standsFor, bad, after, sextet, padding, nonAlphabet, valued, lastTwo, lastThree, isPadding, lastFour, fullFour, base64From}
 use Rattle.base64_quantum.specs.QuantumAnswers.{sextetOf, waits, waitingOf, allSextets, firstByte, secondOf, thirdOf, base64Bytes, flowing, fullSize, lastTwoSize, lastThreeSize, lastFourSize, Last, IsLast}
 use Rattle.base64_quantum.specs.declared.Group.{Group}
-use Rattle.literal_body.proofs.LiteralCode.{true-false}
 
 -- GROUPS
 
@@ -291,12 +290,12 @@ pub ruleset last-ways = (last-none, last-one, last-pair, last-triple, last-whole
 
 module _ (g : Group) where
   pub last-few : g .count < 4 → IsLast g true
-  last-few h = record { four = λ z. absurd (true-false z); last = λ z k. absurd (omega arith) }
+  last-few h = record { four = λ z. absurd (true≢false z); last = λ z k. absurd (omega arith) }
 
   pub last-not : {t : Bool} → 4 ≤ g .count → t ≡ allSextets g → t ≡ true → IsLast g false
-  last-not h x e = record { four = λ z. (h, sym x ∙ e); last = λ z. absurd (true-false (sym z)) }
+  last-not h x e = record { four = λ z. (h, sym x ∙ e); last = λ z. absurd (true≢false (sym z)) }
 
   pub last-wrong : {t : Bool} → t ≡ allSextets g → t ≡ false → IsLast g true
-  last-wrong x e = record { four = λ z. absurd (true-false z); last = λ z k. sym x ∙ e }
+  last-wrong x e = record { four = λ z. absurd (true≢false z); last = λ z k. sym x ∙ e }
 
 pub ruleset is-last-ways = (last-few, last-not, last-wrong)

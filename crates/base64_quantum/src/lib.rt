@@ -1,7 +1,9 @@
 // Up to four letters of base64 text, a quantum of RFC 4648: how many bytes they make, and which.
-use base64_letter::letter_number::PADDING;
 ghost use mathlib.Core.Path.{_≡_};
 ghost use Rattle.base64_quantum.specs.QuantumAnswers.{allSextets, IsLast, firstByte, secondOf, thirdOf, Last, lastTwoSize, lastThreeSize, lastFourSize, fullSize};
+
+// The number of `=`, above those of the 64 letters.
+pub const PADDING: u8 = 64;
 
 // More bytes than letters make: they may not stand so.
 pub const WRONG: usize = 4;
