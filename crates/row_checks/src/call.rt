@@ -94,10 +94,18 @@ pub fn used_of(turn: u64, line: &[u8], before: &[u8], out: &mut [u8]) -> usize {
     }
 }
 
+// One byte too few for what the turn before kept.
+fn too_short(kept: usize) -> usize {
+    if kept == 0 {
+        return 0;
+    }
+    kept - 1
+}
+
 // How much is lent: for a correction the used bytes, and the spare ones behind them.
-pub fn room_of(turn: u64, line: &[u8], size: usize, used: usize, out: &mut [u8]) -> usize {
+pub fn room_of(turn: u64, line: &[u8], kept: usize, used: usize, out: &mut [u8]) -> usize {
     match turn {
-        SHORT_READ | SHORT_PRINT => size,
+        SHORT_READ | SHORT_PRINT => too_short(kept),
         CORRECT | CORRECT_USED => fill_field(false, line, 2, used, out),
         _ => LENT_BYTES,
     }

@@ -164,7 +164,7 @@ fn is_right(turn: u64, r: Reply, line: &[u8], out: &[u8], room: usize, before: &
 fn again(turn: u64, number: u64, size: usize) -> State {
     if number == 0 {
         if 0 < size {
-            return go(true, turn, size - 1);
+            return go(true, turn, size);
         }
     }
     go(true, RIGHT, 0)

@@ -50,7 +50,7 @@ pub const READ_EDITED: u64 = 9;
 
 pub const READ_REFUSED: u64 = 10;
 
-// The turn that a row is at, and a size for it: how many bytes the turn before kept, or how many are lent where that is one too few.
+// The turn that a row is at, and how many bytes the turn before it kept.
 pub struct State {
     pub turn: u64,
     pub size: usize,
