@@ -17,7 +17,7 @@ use Rattle.base64_letter.specs.LetterAnswers.{sextetNumber}
 use Rattle.base64_quantum.specs.QuantumAnswers.{sextetOf, waits, waitingOf, flowing, fullSize, Last}
 use Rattle.base64_quantum.specs.declared.Group.{Group}
 use Rattle.base64.specs.GroupAnswers.{Blanks, Letters, Ending}
-use Rattle.notation.proofs.SoundContent.{sextet-fits}
+use Rattle.notation_theorems.proofs.SoundContent.{sextet-fits}
 use Rattle.literal_body.proofs.ReadingCode.{span-step, span-over}
 use Rattle.base64_quantum.proofs.QuantumCode.{counted, full-is}
 use Rattle.base64.proofs.GroupCode.{sextet-back, flow-bad}

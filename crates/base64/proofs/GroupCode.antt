@@ -11,7 +11,7 @@ use Rattle.literal_body.specs.LiteralAnswers.{Put}
 use Rattle.base64_letter.specs.LetterAnswers.{sextetNumber}
 use Rattle.base64_quantum.specs.QuantumAnswers.{sextetOf, firstByte, secondOf, thirdOf, base64Bytes, flowing}
 use Rattle.base64_quantum.specs.declared.Group.{Group}
-use Rattle.notation.proofs.SoundContent.{Fits}
+use Rattle.notation_theorems.proofs.SoundContent.{Fits}
 use Rattle.literal_body.proofs.LiteralCode.{take-none, put-none, put-more}
 
 -- LETTERS

@@ -20,7 +20,7 @@ use Rattle.literal_body.specs.declared.Progress.{Progress}
 use Rattle.base64_quantum.specs.QuantumAnswers.{sextetOf, waits, allSextets, IsLast, firstByte, secondOf, thirdOf, base64Bytes, flowing}
 use Rattle.base64_quantum.specs.declared.Group.{Group}
 use Rattle.base64.specs.GroupAnswers.{Letters, Ending}
-use Rattle.notation.proofs.SoundContent.{Fits}
+use Rattle.notation_theorems.proofs.SoundContent.{Fits}
 use Rattle.literal_body.proofs.ReadingCode.{span-over, progress-more, progress-append, decodes-good, decodes-bad}
 use Rattle.base64_quantum.proofs.QuantumCode.{counted}
 use Rattle.base64.proofs.GroupCode.{length-some, flow-bad, flow-on}

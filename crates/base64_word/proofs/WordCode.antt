@@ -21,7 +21,7 @@ use Rattle.literal_body.specs.LiteralReading.{Within, Yields, Progressed}
 use Rattle.literal_body.specs.declared.Progress.{Progress}
 use Rattle.base64_letter.specs.LetterAnswers.{sextetNumber, sextetWeight, Weighs}
 use Rattle.base64_word.specs.WordAnswers.{wordAt, WordThere, TooLate}
-use Rattle.notation.proofs.SoundContent.{Fits, sextet-fits}
+use Rattle.notation_theorems.proofs.SoundContent.{Fits, sextet-fits}
 use Rattle.literal_body.proofs.LiteralCode.{put-one, put-more}
 use Rattle.literal_body.proofs.MatchCode.{range-above}
 use Rattle.literal_body.proofs.ReadingCode.{span-step, progress-start, progress-more}

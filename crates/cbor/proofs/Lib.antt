@@ -4,6 +4,7 @@ pub mod Several
 pub mod DecodeEncode
 pub mod EncodeBytes
 pub mod Results
+pub mod Tests
 pub mod EncodeDecode
 pub mod Paths
 pub mod Table

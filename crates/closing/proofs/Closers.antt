@@ -12,13 +12,14 @@ use Rattle.cbor.specs.Refusals.{Result, ok, bind}
 use Rattle.cbor.proofs.Results.{refuse-not-ok}
 use Rattle.cbor.proofs.Table.{every, between}
 use Rattle.cbor.specs.Utf8.{isIn}
+use Rattle.cbor.proofs.Tests.{is-true}
 use Rattle.notation.specs.Classes.{classNumber, classOf, classIn, classRows, is, blank, slash, hash}
 use Rattle.notation.specs.Scanning.{expect, between as apart-from-tokens, stops, skip, skipFrom, skipped}
 use Rattle.notation.specs.Indicators.{Indicator, absent, indicator}
 use Rattle.notation.specs.Tokens.{Shape, square, curly, round, angle, whole, Token, begins, closes, aComma, aColon}
 use Rattle.notation.specs.Cutting.{cut, cutBy, next}
 use Rattle.notation.specs.Reading.{marked}
-use Rattle.notation.proofs.ScanningElements.{is-true, high-other}
+use Rattle.notation_theorems.proofs.ScanningElements.{high-other}
 use Rattle.scanning.specs.ScanAnswers.{isNext, Peeked, Skips}
 use Rattle.scanning.proofs.Marked.{length-marked, at-byte, at-end, past-end}
 use Rattle.scanning.proofs.ScanCode.{peeked-yes, expect-no}

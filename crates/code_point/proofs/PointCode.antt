@@ -10,7 +10,7 @@ use borrow.Author.Tests.{lt-ltb, le-ltb}
 use Rattle.notation.specs.Quoted.{utf8Of}
 use Rattle.literal_body.specs.LiteralAnswers.{Put}
 use Rattle.code_point.specs.Points.{Tail}
-use Rattle.notation.proofs.TextScan.{tested}
+use Rattle.notation_theorems.proofs.TextScan.{tested}
 use Rattle.literal_body.proofs.LiteralCode.{put-more}
 
 pub utf8-one : (c : ℕ) → c < 0x80 → utf8Of c ≡ c ∷ []

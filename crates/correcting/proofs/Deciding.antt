@@ -23,7 +23,7 @@ use Rattle.cbor.proofs.Results.{refused-not-accepted}
 use Rattle.cbor.proofs.Paths.{part-at-path}
 use Rattle.notation.specs.Reading.{marked, single, readItem}
 use Rattle.notation.specs.Alone.{plus}
-use Rattle.notation.proofs.MarkedText.{marked-length}
+use Rattle.notation_theorems.proofs.MarkedText.{marked-length}
 use Rattle.encoding.specs.ReadAnswers.{Wrote, ReadTold, ofItem}
 use Rattle.encoding.proofs.Wrote.{wrote-held}
 use Rattle.correcting.proofs.ReadOne.{one-accepted, one-denied}

@@ -17,7 +17,7 @@ use Rattle.notation.specs.Cutting.{next, place}
 use Rattle.notation.specs.Form.{one, stray, reads}
 use Rattle.notation.specs.Reading.{marked, outside, single}
 use Rattle.notation.specs.Alone.{plus, aloneMarked, singleMarked}
-use Rattle.notation.proofs.MarkedItem.{single-is, verdict-marked}
+use Rattle.notation_theorems.proofs.MarkedItem.{single-is, verdict-marked}
 use Rattle.scanning.specs.ScanAnswers.{Skips}
 use Rattle.token.specs.TokenAnswers.{Took}
 use Rattle.token.specs.declared.Token.{Token as Cut}

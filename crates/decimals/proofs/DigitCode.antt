@@ -11,12 +11,12 @@ use borrow.Author.Tests.{leb-true, leb-false, lt-ltb, le-leb, ne-eqb, not-true, 
 use Rattle.cbor.specs.Refusals.{Result, ok, refuse, bind}
 use Rattle.cbor.specs.Items.{unsigned}
 use Rattle.cbor.specs.Utf8.{isIn}
+use Rattle.cbor.proofs.Tests.{clash}
 use Rattle.notation.specs.Classes.{digit, minus, is}
 use Rattle.notation.specs.Scanning.{run}
 use Rattle.notation.specs.Numbers.{digitValue, isDigit, numberFrom, digits, makesFloat, isFloating, radixOf}
 use Rattle.notation.specs.Reading.{marked}
-use Rattle.notation.proofs.ScanningElements.{clash}
-use Rattle.notation.proofs.PrintNumbers.{digit-range}
+use Rattle.notation_theorems.proofs.PrintNumbers.{digit-range}
 use Rattle.scanning.proofs.Marked.{at-byte, at-end}
 use Rattle.decimals.specs.DigitParts.{Worth, Outside, GoesOn, EndsAt, Tally, Leads, Behind, DigitThere}
 

@@ -9,14 +9,15 @@ use lib.Dec.{leb, eqb}
 use borrow.Author.Tests.{eq-eqb, ne-eqb}
 use Rattle.cbor.specs.Refusals.{Result, ok, refuse, bind}
 use Rattle.cbor.specs.Items.{unsigned, negative, byteString, textString, Item, int, string, chunked, array, map, tag, simple, none, more, none₂}
+use Rattle.cbor.proofs.Results.{bind-same}
 use Rattle.notation.specs.Indicators.{Indicator, absent}
 use Rattle.notation.specs.Tokens.{bracket, brace, tagging, embedding, Beginning, leaf, literal, chunking, opens, Shape, square, curly, round, angle, whole, Token, begins, closes, aComma, aColon}
 use Rattle.notation.specs.Cutting.{next, place}
 use Rattle.notation.specs.Form.{atStart, behindComma, one, items, pairs, Closed, Rule, give, take, then, stray, strays, shapeNumber, closingRule, beginning, oneRule, addItem, afterItem, itemsRule, afterKey, pairsRule, rules, obey, reads}
 use Rattle.token.specs.TokenAnswers.{itemCode, openCode, kindCode, beginCode, shapeCode, codeOf}
 use Rattle.encoding.specs.ReadAnswers.{followBy}
-use Rattle.notation.proofs.ByName.{bind-ok, bind-refuse, reads-is}
-use Rattle.notation.proofs.Equations.{bind-same, first-is, obey-if}
+use Rattle.notation_theorems.proofs.ByName.{bind-ok, bind-refuse, reads-is}
+use Rattle.notation_theorems.proofs.Equations.{first-is, obey-if}
 
 -- CODES: those of tokens that begin an item are none of the others
 unfoldable pub opensBy : ℕ → Bool

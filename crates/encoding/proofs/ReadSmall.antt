@@ -17,8 +17,8 @@ use Rattle.memory.specs.Buffer.{overIfFits, moved, headPut}
 use Rattle.head.specs.HeadAnswers.{argumentSize, headBytes}
 use Rattle.refusal.specs.declared.RefusalKind.{RefusalKind}
 use Rattle.cbor.proofs.Arguments.{length-big}
+use Rattle.cbor.proofs.Tests.{clash}
 use Rattle.head.proofs.HeadCode.{size-none, size-most}
-use Rattle.notation.proofs.ScanningElements.{clash}
 use Rattle.numbers.specs.NumberAnswers.{chooseBy}
 use Rattle.encoding.specs.ReadAnswers.{verdictBy, infoBy, Informed, majorBy, initialBy, MajorBy, HeadSize, strayBy, Heavy, Light, Few, IsShort, Wrote, Strayed, Denies, Closes, Finished, FinishedShort}
 use Rattle.token.specs.TokenAnswers.{widthNumber}

@@ -25,9 +25,9 @@ use Rattle.notation.specs.Words.{same, falseWord, trueWord, nullWord, undefined
 use Rattle.notation.specs.Tokens.{Opener, bracket, brace, tagging, embedding, Beginning, leaf, literal, chunking, opens, Token, begins, closes, aComma, aColon}
 use Rattle.notation.specs.Cutting.{startsWith, afterMinus, openingToken, cutBy, cut, place, placed, next}
 use Rattle.token.specs.TokenAnswers.{shapeCode}
-use Rattle.notation.proofs.TextScan.{tested}
-use Rattle.notation.proofs.SoundContent.{Holds, hex-content, base64-content}
-use Rattle.notation.proofs.SoundToken.{Chose, choose-fits}
+use Rattle.notation_theorems.proofs.TextScan.{tested}
+use Rattle.notation_theorems.proofs.SoundContent.{Holds, hex-content, base64-content}
+use Rattle.notation_theorems.proofs.SoundToken.{Chose, choose-fits}
 
 pub record Known (k : ℕ) : Type 0 where
   pub low : 1 ≤ k

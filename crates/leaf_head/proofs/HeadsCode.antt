@@ -14,7 +14,7 @@ use borrow.Author.Tests.{le-leb, leb-true, leb-false, ne-eqb}
 use Rattle.cbor.specs.Widths.{Width, w0, w1, w2, w4, w8, argumentBytes, limit, fits, shortest, information, bigEndian}
 use Rattle.cbor.specs.Heads.{Major, majorNumber, initial, head}
 use Rattle.notation.specs.Indicators.{absent, choose}
-use Rattle.notation.proofs.SoundToken.{choose-fits}
+use Rattle.notation_theorems.proofs.SoundToken.{choose-fits}
 use Rattle.memory.specs.Buffer.{overIfFits}
 use Rattle.memory.proofs.Buffer.{take-written}
 use Rattle.head.specs.HeadAnswers.{argumentSize, headBytes}

@@ -1,2 +1,3 @@
+pub mod LiteralCode
 pub mod StartCode
 mod TokenCode

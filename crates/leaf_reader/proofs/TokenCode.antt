@@ -14,6 +14,7 @@ use Rattle.cbor.specs.Heads.{Major, integers, simples, majorNumber, initial, he
 use Rattle.cbor.specs.Encode.{encode}
 use Rattle.cbor.specs.Flags.{signOf}
 use Rattle.cbor.specs.Utf8.{isIn}
+use Rattle.cbor.proofs.Tests.{clash}
 use Rattle.memory.specs.Buffer.{overIfFits}
 use Rattle.memory.proofs.Buffer.{take-written}
 use Rattle.notation.specs.Classes.{Class, classNumber, classRows, classIn, classOf, is, isWord}
@@ -23,8 +24,7 @@ use Rattle.notation.specs.Words.{same, simpleToken, worded, word}
 use Rattle.notation.specs.Tokens.{bracket, brace, tagging, embedding, leaf, literal, chunking, opens, square, curly, round, angle, whole, Token, begins, closes, aComma, aColon}
 use Rattle.notation.specs.Cutting.{cutBy, cut}
 use Rattle.notation.specs.Reading.{marked}
-use Rattle.notation.proofs.ScanningElements.{clash}
-use Rattle.notation.proofs.Locality.{cut-below}
+use Rattle.notation_theorems.proofs.Locality.{cut-below}
 use Rattle.scanning.specs.ScanAnswers.{Peeked}
 use Rattle.scanning.proofs.Marked.{at-byte}
 use Rattle.scanning.proofs.ScanCode.{peeked-yes}

@@ -1,2 +1,3 @@
+pub mod LiteralParts
 pub mod Starts
 pub mod TokenParts

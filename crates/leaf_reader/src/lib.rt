@@ -1,17 +1,18 @@
 // Leaves, read and written at once: first as they are mostly written, then as they seldom are. What is neither is left to the token cutter.
 mod by_token;
+mod literal;
 
 use crate::by_token::other_integer;
 use crate::by_token::simple_value;
+use crate::literal::base64_literal;
+use crate::literal::hex_literal;
+use crate::literal::is_quote;
+use crate::literal::quoted_literal;
 use leaf_answer::Found;
 use leaf_answer::LeafRead;
 use leaf_answer::again;
 use leaf_answer::nothing;
 use leaf_answer::odd;
-use literal_leaf::base64_literal;
-use literal_leaf::hex_literal;
-use literal_leaf::is_quote;
-use literal_leaf::quoted_literal;
 use plain_leaf::integer::signed;
 use plain_leaf::word::word;
 use plain_string::string::hexadecimal;

@@ -14,8 +14,8 @@ use Rattle.notation.specs.Quoted.{Quoting, character, Move, gives, closed, wron
 use Rattle.notation.specs.Literals.{isBody, body, Content, standsFor, bad, hexContent, base64Content}
 use Rattle.literal_body.specs.LiteralAnswers.{FoundContent, scannedBy, Scans, Raw, decodedBy, Decodes}
 use Rattle.literal_body.specs.declared.LiteralScan.{LiteralScan}
-use Rattle.notation.proofs.TextScan.{tested}
-use Rattle.notation.proofs.SoundContent.{Holds, hex-content, base64-content}
+use Rattle.notation_theorems.proofs.TextScan.{tested}
+use Rattle.notation_theorems.proofs.SoundContent.{Holds, hex-content, base64-content}
 use Rattle.literal_body.proofs.LiteralCode.{true-false}
 
 -- A GOOD SCAN

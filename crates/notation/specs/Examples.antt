@@ -21,7 +21,7 @@ use Rattle.notation.specs.Indicators.{indicated, indicator, choose}
 use Rattle.notation.specs.Numbers.{digitValue, isDigit, numberFrom, digits, makesFloat, isFloating, radixOf, judged, integerToken, integer, decimal, afterZero, number}
 use Rattle.notation.specs.Quoted.{utf8Of, escapes, escapedIn, wholeUnit, unit, moveAt, unquote}
 use Rattle.notation.specs.Literals.{literalToken, quotedToken, quoted, isBody, body, after, halfEnd, hexDigit, hexFrom, hexContent, sextetAt, valued, isPadding, sextets, lastThree, lastFour, base64From, base64Content, contained, encodedLiteral}
-use Rattle.notation.specs.Words.{same, isFloatWord, worded, prefixed, word}
+use Rattle.notation.specs.Words.{same, isFloatWord, value, worded, prefixed, word}
 use Rattle.notation.specs.Cutting.{openingToken, cutBy, cut, place, placed, next}
 use Rattle.notation.specs.Form.{then, strayIndicator, strayClosing, stray, strays, shapeNumber, closingRule, widthRule, contains, tagRule, afterTag, inside, literalItem, beginning, oneRule, afterItem, itemsRule, afterChunk, isWanted, chunkRule, chunksRule, rules, obey, readsWithin, reads as readsBy}
 use Rattle.cbor.specs.Paths.{Found, found, nowhere}
@@ -34,10 +34,11 @@ unfoldable pub bytesOfText : Verdict Items → Verdict (List ℕ)
 bytesOfText (accepted xs) = accepted (encodeAll xs)
 bytesOfText (refused n place) = refused n place
 
--- what is asked: a text; the text of one item, with 16 levels left; the text of bytes; where the item at a path stands in a text
+-- what is asked: a text; the text of one item, with 16 levels left, or those that are left behind steps; the text of bytes; where the
+-- item at a path stands in a text
 pub data TextQuestion : Type 0 where
   ofText ofOneItem ofBytes : List ℕ → TextQuestion
-  ofPath : List ℕ → List ℕ → TextQuestion
+  ofItemBehind ofPath : List ℕ → List ℕ → TextQuestion
 
 unfoldable pub bytesOfItem : Verdict Item → Verdict (List ℕ)
 bytesOfItem (accepted x) = accepted (encode x)
@@ -54,6 +55,7 @@ spanned (nowhere i) = refused noSuchPath i
 unfoldable pub textAnswerTo : TextQuestion → Verdict (List ℕ)
 textAnswerTo (ofText t) = bytesOfText (readText t)
 textAnswerTo (ofOneItem t) = bytesOfItem (readItem mostLevels t)
+textAnswerTo (ofItemBehind p t) = bytesOfItem (readItem (levelsAt mostLevels p) t)
 textAnswerTo (ofBytes s) = printedOf (verdictOf (length s) (decode s))
 textAnswerTo (ofPath p t) = spanned (spanAt p t)
 
@@ -70,6 +72,9 @@ refuses t n place = record { question = ofText (ascii t); expected = refused n p
 
 refusesItem : String → ℕ → ℕ → TextExample
 refusesItem t n place = record { question = ofOneItem (ascii t); expected = refused n place }
+
+refusesBehind : List ℕ → String → ℕ → ℕ → TextExample
+refusesBehind p t n place = record { question = ofItemBehind p (ascii t); expected = refused n place }
 
 prints : List ℕ → String → TextExample
 prints b t = record { question = ofBytes b; expected = accepted (ascii t) }
@@ -90,6 +95,7 @@ textExamples =
     ∷ refuses "1 # c" 3 2
     -- the longest token is `0`, and a word follows
     ∷ refuses "0xg" 4 1
+    ∷ reads "null" (0xf6 ∷ [])
     -- dots, also where the form wants a comma
     ∷ refuses "1 ..." 5 2
     -- unused bits of `b64` are zero
@@ -105,6 +111,8 @@ textExamples =
     -- correct's text has no blank outside its item
     ∷ refusesItem "2 " 11 1
     ∷ refusesItem " 2" 11 0
+    -- behind fifteen steps one level is left
+    ∷ refusesBehind (0 ∷ 0 ∷ 0 ∷ 0 ∷ 0 ∷ 0 ∷ 0 ∷ 0 ∷ 0 ∷ 0 ∷ 0 ∷ 0 ∷ 0 ∷ 0 ∷ 0 ∷ []) "[[1]]" 10 1
     -- the printed layout: an indicator where a head is not the shortest, and a blank behind it
     ∷ prints (0x98 ∷ 0x00 ∷ []) "[_0 ]\n"
     -- an item runs from its first token to its last, here the value of a pair
@@ -112,5 +120,5 @@ textExamples =
     ∷ []
 
 pub text-examples-hold : L.map (λ (e : TextExample). textAnswerTo (e .question)) textExamples ≡ L.map (λ (e : TextExample). e .expected) textExamples
-unfolding textExamples reads refuses refusesItem prints stands textAnswerTo bytesOfText bytesOfItem printedOf spanned bind verdictOf argumentBytes limit fits shortest information bigEndian valueFrom count levels majorNumber majorOf initial head informationOf isFloat isAllowed taking started argued headBy nextHead encodeString openingHead closingBreak enclosed encode isIn rows followIn follow areIn sequenceBy firstBadFrom firstBad isUtf8 elementSize divides isTypedArray mayTag stepAt severalBy severalWithin several extent elements itemBy itemWith item decode classNumber classRows classIn classOf is isWord isComment skipped leftIn skipFrom skip run whether expect indicated indicator choose digitValue isDigit numberFrom digits makesFloat isFloating radixOf judged integerToken integer decimal afterZero number utf8Of escapes escapedIn wholeUnit unit moveAt unquote literalToken quotedToken quoted isBody body after halfEnd hexDigit hexFrom hexContent sextetAt valued isPadding sextets lastThree lastFour base64From base64Content contained encodedLiteral same isFloatWord worded prefixed word openingToken cutBy cut place placed next then strayIndicator strayClosing stray strays shapeNumber closingRule widthRule contains tagRule afterTag inside literalItem beginning oneRule afterItem itemsRule afterChunk isWanted chunkRule chunksRule rules obey readsWithin readsBy marked checked sequence readText outside alone single readItem widthName indicatorOf blankBehind sizeOf printItem printText separated past toElement toValue into toward levelsAt around spanOf spanAt
+unfolding textExamples reads refuses refusesItem refusesBehind prints stands textAnswerTo bytesOfText bytesOfItem printedOf spanned bind verdictOf argumentBytes limit fits shortest information bigEndian valueFrom count levels majorNumber majorOf initial head informationOf isFloat isAllowed taking started argued headBy nextHead encodeString openingHead closingBreak enclosed encode isIn rows followIn follow areIn sequenceBy firstBadFrom firstBad isUtf8 elementSize divides isTypedArray mayTag stepAt severalBy severalWithin several extent elements itemBy itemWith item decode classNumber classRows classIn classOf is isWord isComment skipped leftIn skipFrom skip run whether expect indicated indicator choose digitValue isDigit numberFrom digits makesFloat isFloating radixOf judged integerToken integer decimal afterZero number utf8Of escapes escapedIn wholeUnit unit moveAt unquote literalToken quotedToken quoted isBody body after halfEnd hexDigit hexFrom hexContent sextetAt valued isPadding sextets lastThree lastFour base64From base64Content contained encodedLiteral same isFloatWord value worded prefixed word openingToken cutBy cut place placed next then strayIndicator strayClosing stray strays shapeNumber closingRule widthRule contains tagRule afterTag inside literalItem beginning oneRule afterItem itemsRule afterChunk isWanted chunkRule chunksRule rules obey readsWithin readsBy marked checked sequence readText outside alone single readItem widthName indicatorOf blankBehind sizeOf printItem printText separated past toElement toValue into toward levelsAt around spanOf spanAt
 text-examples-hold = refl

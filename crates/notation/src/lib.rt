@@ -1,1 +1,1 @@
-// CBOR diagnostic notation: definitions and theorems, no code.
+// CBOR diagnostic notation: definitions and examples, no code.

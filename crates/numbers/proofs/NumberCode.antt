@@ -28,8 +28,9 @@ use Rattle.amounts.specs.declared.Digits.{Digits}
 use Rattle.numbers.specs.declared.indicator.Mark.{Mark}
 use Rattle.token.specs.declared.Token.{Token as Cut}
 use Rattle.cbor.proofs.Utf8Laws.{is-in}
-use Rattle.notation.proofs.ScanningElements.{clash, digit-cases}
-use Rattle.notation.proofs.TextScan.{tested, digit-less}
+use Rattle.cbor.proofs.Tests.{clash}
+use Rattle.notation_theorems.proofs.ScanningElements.{digit-cases}
+use Rattle.notation_theorems.proofs.TextScan.{tested, digit-less}
 use Rattle.literal_body.proofs.LiteralCode.{digit-yes, digit-no, digit-number}
 use Rattle.scanning.proofs.Marked.{at-byte, at-end, past-end, here}
 use Rattle.scanning.proofs.ScanCode.{whether-yes, whether-no}

@@ -24,10 +24,10 @@ use Rattle.notation.specs.Reading.{readText, readItem}
 use Rattle.notation.specs.Printing.{printText}
 use Rattle.notation.specs.Places.{levelsAt, Span, spanAt, edited}
 use Rattle.notation.specs.Theorems.{Edits}
-use Rattle.notation.proofs.PrintWhole.{text-of-print}
-use Rattle.notation.proofs.SoundRead.{text-valid}
-use Rattle.notation.proofs.Edited.{edited-text}
-use Rattle.notation.proofs.AllFound.{items-found}
+use Rattle.notation_theorems.proofs.PrintWhole.{text-of-print}
+use Rattle.notation_theorems.proofs.SoundRead.{text-valid}
+use Rattle.notation_theorems.proofs.Edited.{edited-text}
+use Rattle.notation_theorems.proofs.AllFound.{items-found}
 use Rattle.operations.specs.Operations.{andThen, room, fitting, written, bytesOf, read, itemsOf, textOf, print, spotOf, lookUp, partOf, level, replaced, correction, zeroed, correct}
 use Rattle.operations.specs.Demands.{Demand1, Allowed, Encoded, Restores, Demand2, PartLookedUp, Blank, tab, newline, carriageReturn, space, blankByte, OneItem, Stored, Edit, editedText, Agree, Demand3}
 use Rattle.operations.proofs.Verdicts.{and-then-ok, and-then-is, and-then-refused, fitting-yes, fitting-ok, fitting-same, written-ok, written-kept, front-all, agree-same, agree-refused}

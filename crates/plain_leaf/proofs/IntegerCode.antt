@@ -16,6 +16,7 @@ use Rattle.cbor.specs.Heads.{integers, majorNumber}
 use Rattle.cbor.specs.Encode.{encode}
 use Rattle.cbor.specs.Utf8.{isIn}
 use Rattle.cbor.specs.Flags.{signOf}
+use Rattle.cbor.proofs.Tests.{clash}
 use Rattle.notation.specs.Classes.{digit, minus, classNumber, classRows, classIn, classOf, is}
 use Rattle.notation.specs.Scanning.{whether}
 use Rattle.notation.specs.Indicators.{absent, indicator, choose}
@@ -23,8 +24,7 @@ use Rattle.notation.specs.Numbers.{digitValue, isDigit, digits, isFloating, jud
 use Rattle.notation.specs.Tokens.{Token, tagging, leaf, opens, begins}
 use Rattle.notation.specs.Cutting.{afterMinus, cutBy, cut}
 use Rattle.notation.specs.Reading.{marked}
-use Rattle.notation.proofs.ScanningElements.{clash}
-use Rattle.notation.proofs.PrintNumbers.{digit-range, digit-class, indicator-absent, whether-no}
+use Rattle.notation_theorems.proofs.PrintNumbers.{digit-range, digit-class, indicator-absent, whether-no}
 use Rattle.scanning.specs.ScanAnswers.{Peeked}
 use Rattle.scanning.proofs.Marked.{length-marked, at-byte}
 use Rattle.scanning.proofs.ScanCode.{peeked-yes}

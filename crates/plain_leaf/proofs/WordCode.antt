@@ -16,13 +16,13 @@ use Rattle.cbor.specs.Items.{simple, levels}
 use Rattle.cbor.specs.Heads.{simples, majorNumber}
 use Rattle.cbor.specs.Encode.{encode}
 use Rattle.cbor.specs.Utf8.{isIn}
+use Rattle.cbor.proofs.Tests.{clash}
 use Rattle.memory.specs.Buffer.{overIfFits}
 use Rattle.notation.specs.Classes.{letter, classNumber, classRows, classIn, classOf, is, isWord}
 use Rattle.notation.specs.Words.{same, value, worded, word}
 use Rattle.notation.specs.Cutting.{cutBy, cut}
 use Rattle.notation.specs.Reading.{marked}
-use Rattle.notation.proofs.ScanningElements.{clash}
-use Rattle.notation.proofs.PrintNumbers.{Each, run-all, whether-no}
+use Rattle.notation_theorems.proofs.PrintNumbers.{Each, run-all, whether-no}
 use Rattle.scanning.specs.ScanAnswers.{Peeked}
 use Rattle.scanning.proofs.ClassCode.{word-below}
 use Rattle.scanning.proofs.Marked.{length-marked, at-byte, at-end}

@@ -13,11 +13,11 @@ use mir.Syntax.{w8 as bits8}
 use mir.Val.{Fits}
 use borrow.Author.Count.{below-more}
 use borrow.Author.Tests.{leb-true, not-false}
+use Rattle.cbor.proofs.Tests.{clash}
 use Rattle.memory.specs.Buffer.{over, overIfFits, copied}
 use Rattle.memory.proofs.Buffer.{over-nil, over-snoc, length-part, written-fits, length-written, copied-yes, take-written, take-copied}
 use Rattle.notation.specs.Numbers.{isDigit, digitValue}
 use Rattle.notation.specs.Literals.{standsFor, after, hexContent, hexFrom, halfEnd}
-use Rattle.notation.proofs.ScanningElements.{clash}
 use Rattle.scanning.specs.Stands.{span}
 use Rattle.scanning.proofs.Marked.{tail-is}
 use Rattle.literal_body.specs.LiteralReading.{Yields}

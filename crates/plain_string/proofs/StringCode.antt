@@ -30,7 +30,8 @@ use Rattle.notation.specs.Form.{literalItem, beginning, oneRule, obey}
 use Rattle.notation.specs.Cutting.{cutBy, cut}
 use Rattle.notation.specs.Reading.{marked}
 use Rattle.cbor.proofs.Utf8Laws.{is-in}
-use Rattle.notation.proofs.ScanningElements.{clash, digit-cases}
+use Rattle.cbor.proofs.Tests.{clash}
+use Rattle.notation_theorems.proofs.ScanningElements.{digit-cases}
 use Rattle.scanning.specs.ScanAnswers.{Peeked}
 use Rattle.scanning.specs.TextRuns.{Textual, TextRun}
 use Rattle.scanning.proofs.Marked.{length-marked, tail-is, at-byte}

@@ -9,6 +9,7 @@ use lib.Dec.{leb}
 use lib.ListN.{length}
 use borrow.Author.Tests.{lt-leb}
 use Rattle.cbor.specs.Decode.{mostBytes, mostLevels}
+use Rattle.cbor.proofs.Tests.{clash}
 use Rattle.refusal.specs.declared.RefusalKind.the-variants.{NoRoom}
 use Rattle.notation.specs.Places.{levelsAt}
 use Rattle.operations.specs.Operations.{level}
@@ -40,9 +41,6 @@ module _ (p : List ℕ) where
   level-between h = omega (arith, level-length p)
 
 pub ruleset level-ways = (level-top, level-deep, level-between)
-
-pub clash : true ≡ false → ⊥
-clash q = let z : _≡_ {A = ℕ} 0 1 = cc in omega arith
 
 -- THE PLAN
 module _ {p : Part} {used size : ℕ} (room : ℕ) where

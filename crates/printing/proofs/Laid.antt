@@ -21,7 +21,7 @@ use Rattle.walk_answer.specs.declared.Passage.{Passage}
 use Rattle.walk_answer.specs.declared.Passed.{Passed}
 use Rattle.walk_answer.specs.declared.Passed.the-variants.{Span as SpanV, Refused as RefusedV}
 use Rattle.notation.specs.Printing.{printText}
-use Rattle.one_pass.specs.PassAnswers.{PassTold}
+use Rattle.printing.specs.PassAnswers.{PassTold}
 use Rattle.operations.specs.Operations.{written, itemsOf, textOf, andThen, print}
 use Rattle.cbor.specs.Valid.{Bytes}
 use Rattle.cbor.proofs.EncodeDecode.{encode-of-decode}

@@ -1,1 +1,2 @@
+pub mod PassCode
 pub mod Laid

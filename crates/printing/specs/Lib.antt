@@ -1,1 +1,2 @@
+pub mod PassAnswers
 pub mod PrintOutcomes

@@ -1,4 +1,7 @@
 // Bytes as a text in diagnostic notation, in a lent buffer.
+mod one_pass;
+
+use crate::one_pass::print_all;
 use outcome::Answer;
 use outcome::fits;
 use outcome::turns_for;
@@ -27,7 +30,7 @@ fn whole(bytes: &[u8], out: &mut [u8]) -> Answer
 fn pass(bytes: &[u8], made: &mut [u8], out: &mut [u8]) -> usize
     ensures { λ r. ⌜ AtOnce (now (bytes .entry)) (now (out .entry)) (now (out .exit)) r ⌝ }
 {
-    let length = one_pass::print_all(bytes, made);
+    let length = print_all(bytes, made);
     if length == 0 {
         return 0;
     }

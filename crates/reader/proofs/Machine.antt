@@ -10,11 +10,11 @@ use borrow.Author.Tests.{eq-eqb, ne-eqb, eqb-true, eqb-false}
 use Rattle.cbor.specs.Refusals.{Result, ok, refuse, bind}
 use Rattle.cbor.specs.Items.{Item, Pairs, none₂, more₂, count, count₂}
 use Rattle.cbor.specs.Encode.{encode, encodeAll, encodeAll₂}
+use Rattle.cbor.proofs.Results.{bind-same, bind-assoc}
 use Rattle.notation.specs.Indicators.{Indicator}
 use Rattle.notation.specs.Tokens.{Shape, square, curly, round, angle, whole, Token, begins, closes, aComma, aColon}
 use Rattle.notation.specs.Cutting.{next, place}
 use Rattle.notation.specs.Form.{behindComma, one, items, pairs, Closed, stray, strays, shapeNumber, closingRule, addItem, afterKey, afterValue, obey, reads}
-use Rattle.notation.proofs.Equations.{bind-same, bind-assoc}
 use Rattle.token.specs.TokenAnswers.{indicatorNumber, shapeCode, codeOf, markOf}
 use Rattle.encoding.specs.ReadAnswers.{View, unsaid, ofItem, ofClosed, ofPairs, followBy, followed}
 use Rattle.encoding.proofs.ReadRules.{opensBy, begin-not, begin-close, shape-low, code-some, indicatorOf, step, step-close, step-comma, step-stray, items-more, items-end, items-start, lastItem, follow-yes, follow-no, pairs-more, pairs-end, pairs-start}

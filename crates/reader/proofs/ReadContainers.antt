@@ -15,6 +15,7 @@ use Rattle.cbor.specs.Heads.{Major, strings, arrays, maps, tags, majorNumber, i
 use Rattle.cbor.specs.Encode.{encodeString, encode, encodeAll, encodeAll₂, enclosed, openingHead, closingBreak}
 use Rattle.cbor.specs.TypedArrays.{mayTag, divides}
 use Rattle.cbor.proofs.Arguments.{length-big}
+use Rattle.cbor.proofs.Results.{bind-same, bind-assoc}
 use Rattle.typed_array.specs.TypedArrayAnswers.{mayTagBy}
 use Rattle.head.specs.HeadAnswers.{headBytes}
 use Rattle.refusal.specs.declared.Refusal.{Refusal}
@@ -24,8 +25,8 @@ use Rattle.notation.specs.Tokens.{Opener as Opens, bracket, brace, tagging, emb
 use Rattle.notation.specs.Cutting.{next, place}
 use Rattle.notation.specs.Form.{atStart, one, items, pairs, give, denyFirst, strays, then, shapeNumber, closingRule, widthRule, contains, embeds, inside, afterTag, tagRule, beginning, oneRule, obey, reads}
 use Rattle.notation.specs.Reading.{marked, sequence}
-use Rattle.notation.proofs.Equations.{bind-same, bind-assoc, obey-if}
-use Rattle.notation.proofs.SoundToken.{Chose, choose-fits}
+use Rattle.notation_theorems.proofs.Equations.{obey-if}
+use Rattle.notation_theorems.proofs.SoundToken.{Chose, choose-fits}
 use Rattle.token.specs.TokenAnswers.{indicatorNumber, shapeCode, codeOf}
 use Rattle.numbers.specs.NumberAnswers.{chooseBy, chosenNumber}
 use Rattle.numbers.proofs.IndicatorCode.{choose-is}

@@ -11,13 +11,13 @@ use mir.Val.{Fits}
 use Rattle.cbor.specs.Refusals.{Result, ok, refuse, bind}
 use Rattle.cbor.specs.Items.{Item}
 use Rattle.cbor.specs.Encode.{encode}
+use Rattle.cbor.proofs.Results.{bind-same, bind-assoc}
 use Rattle.refusal.specs.declared.Refusal.{Refusal}
 use Rattle.notation.specs.Indicators.{Indicator}
 use Rattle.notation.specs.Tokens.{Token, closes}
 use Rattle.notation.specs.Cutting.{next, place}
 use Rattle.notation.specs.Form.{one, stray, reads}
 use Rattle.notation.specs.Reading.{marked}
-use Rattle.notation.proofs.Equations.{bind-same, bind-assoc}
 use Rattle.scanning.proofs.Marked.{stands-left}
 use Rattle.token.specs.TokenAnswers.{indicatorNumber, codeOf, markOf}
 use Rattle.encoding.specs.ReadAnswers.{View, Tells, heldOf, ofItem, Wrote, Room, ReadTold}

@@ -84,7 +84,7 @@ fn with_letter(v: u64, b: u8) -> u64 {
     v
 }
 
-pub fn word(s: &[u8]) -> u64 {
+pub(crate) fn word(s: &[u8]) -> u64 {
     let mut v: u64 = 0;
     let mut i: usize = 0;
     while i < s.len() {

@@ -9,7 +9,7 @@ use crate::cut::same;
 ghost use Prim.Native.Nat.{_≤_, _<_};
 ghost use lib.ListN.{length};
 
-pub fn put(v: u8, n: usize, out: &mut [u8]) -> usize {
+pub(crate) fn put(v: u8, n: usize, out: &mut [u8]) -> usize {
     if n < out.len() {
         out[n] = v;
         return n + 1;

@@ -9,11 +9,11 @@ use native.Mathlib.Omega.{arith}
 use lib.ListN.{length, take, drop, getD, take-append-drop, drop-of-length-le, length-drop, length-append, List·getD-append}
 use lib.Seq.{drop-cons, drop-at, take-suc, take-all}
 use Rattle.cbor.specs.Refusals.{Result, ok, refuse, bind}
+use Rattle.cbor.proofs.Results.{bind-assoc}
 use Rattle.notation.specs.Scanning.{run}
 use Rattle.notation.specs.Reading.{marked}
 use Rattle.scanning.specs.Stands.{Stands, span}
 use Rattle.scanning.specs.ScanAnswers.{Ran}
-use Rattle.notation.proofs.Equations.{bind-assoc}
 
 pub front : (s : List ℕ) (at : ℕ) → at < length s → drop at s ≡ getD s at 0 ∷ drop (at + 1) s
 front s at h = rw (add-one, drop-cons s at 0)

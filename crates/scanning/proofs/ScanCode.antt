@@ -11,12 +11,12 @@ use lib.ListN.{length, take, drop, getD}
 use borrow.Author.Tests.{eqb-true, eqb-false, ne-eqb, eq-eqb, leb-true, leb-false, not-true, not-false}
 use Rattle.cbor.specs.Refusals.{ok}
 use Rattle.cbor.specs.Utf8.{isIn}
+use Rattle.cbor.proofs.Tests.{clash}
 use Rattle.notation.specs.Classes.{blank, classNumber, classRows, classIn, classOf, is, isWord}
 use Rattle.notation.specs.Scanning.{isComment, Skipping, between, Skipped, skips, stops, skipped, leftIn, skipFrom, skip, fault, whether, expect}
 use Rattle.notation.specs.Reading.{marked}
 use Rattle.scanning.specs.TextRuns.{Textual, TextRun}
 use Rattle.scanning.specs.ScanAnswers.{Unblank, Blanks, InComment, inComment, Ends, Begins, CommentEnd, PastComment, Skips, Ran, isNext, Peeked}
-use Rattle.notation.proofs.ScanningElements.{clash}
 use Rattle.scanning.proofs.ClassCode.{slash-at, hash-at, comment-high}
 use Rattle.scanning.proofs.Marked.{tail-is, length-marked, at-byte, at-end, past-end, Running, run-start, run-step, run-stop, run-end}
 

@@ -11,6 +11,7 @@ use lib.ListN.{length, drop, length-append}
 use mir.Syntax.{w64 as bits64}
 use mir.Val.{Fits}
 use Rattle.cbor.specs.Refusals.{Result, ok, refuse, bind}
+use Rattle.cbor.proofs.Results.{bind-assoc}
 use Rattle.refusal.specs.declared.Refusal.{Refusal}
 use Rattle.notation.specs.Indicators.{Indicator}
 use Rattle.notation.specs.Tokens.{Shape, Token}
@@ -23,7 +24,6 @@ use Rattle.encoding.specs.declared.answer.MadeItem.{MadeItem as MadeS}
 use Rattle.encoding.specs.declared.answer.ReadAnswer.{ReadAnswer}
 use Rattle.encoding.specs.declared.answer.ReadAnswer.the-variants.{Made, Refused}
 use Rattle.scanning.proofs.Marked.{stands-left}
-use Rattle.notation.proofs.Equations.{bind-assoc}
 use Rattle.encoding.proofs.Wrote.{wrote-nothing, wrote-more}
 use Rattle.encoding.proofs.ReadRules.{indicatorOf, step, step-close, step-comma, step-stray, shape-low}
 use Rattle.encoding.proofs.Telling.{bind-yes, told-ok, told-lost, told-stop, Got, got, lost, token, past}

@@ -15,6 +15,7 @@ use Rattle.cbor.specs.Items.{unsigned, negative, Kind, byteString, textString, 
 use Rattle.cbor.specs.Heads.{strings, majorNumber, initial, head}
 use Rattle.cbor.specs.Encode.{encodeString, encodeChunks, encode, enclosed, openingHead, closingBreak}
 use Rattle.cbor.specs.TypedArrays.{chunksLength}
+use Rattle.cbor.proofs.Results.{bind-same, bind-assoc}
 use Rattle.head.specs.HeadAnswers.{headBytes}
 use Rattle.refusal.specs.declared.Refusal.{Refusal}
 use Rattle.notation.specs.Indicators.{Indicator}
@@ -29,9 +30,9 @@ use Rattle.token.specs.declared.Token.{Token as Cut}
 use Rattle.encoding.specs.declared.answer.MadeItem.{MadeItem as MadeS}
 use Rattle.encoding.specs.declared.answer.ReadAnswer.{ReadAnswer}
 use Rattle.encoding.specs.declared.answer.ReadAnswer.the-variants.{Made, Refused}
-use Rattle.notation.proofs.ByName.{reads-is}
-use Rattle.notation.proofs.Equations.{bind-same, bind-assoc, obey-if}
-use Rattle.notation.proofs.SoundToken.{head-most}
+use Rattle.notation_theorems.proofs.ByName.{reads-is}
+use Rattle.notation_theorems.proofs.Equations.{obey-if}
+use Rattle.notation_theorems.proofs.SoundToken.{head-most}
 use Rattle.scanning.proofs.Marked.{stands-left}
 use Rattle.encoding.proofs.ReadTokens.{SizeFine, Fine}
 use Rattle.encoding.proofs.Wrote.{wrote-more, wrote-front}

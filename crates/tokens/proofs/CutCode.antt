@@ -27,9 +27,9 @@ use Rattle.words.specs.WordAnswers.{frontClass, Stood}
 use Rattle.tokens.specs.CutAnswers.{quoteKind, quoteByte, QuotedAt, Opens, Paired}
 use Rattle.numbers.specs.declared.indicator.Mark.{Mark}
 use Rattle.token.specs.declared.Token.{Token as Cut}
-use Rattle.notation.proofs.Good.{Below}
-use Rattle.notation.proofs.Locality.{cut-below}
-use Rattle.notation.proofs.ScanningElements.{class-is}
+use Rattle.notation_theorems.proofs.Good.{Below}
+use Rattle.notation_theorems.proofs.Locality.{cut-below}
+use Rattle.notation_theorems.proofs.ScanningElements.{class-is}
 use Rattle.scanning.proofs.Marked.{front, length-marked, byte-at, stands-at}
 use Rattle.scanning.proofs.ScanCode.{expect-yes, expect-no}
 use Rattle.numbers.proofs.IndicatorCode.{width-some}

@@ -9,6 +9,7 @@ use lib.ListN.{length, take, drop, getD}
 use borrow.Author.Tests.{ne-eqb}
 use Rattle.cbor.specs.Refusals.{Result, ok, bind, noToken, unknownWord, float, badIndicator}
 use Rattle.cbor.specs.Items.{Kind, byteString, definite, indefinite}
+use Rattle.cbor.proofs.Tests.{clash}
 use Rattle.notation.specs.Classes.{isWord}
 use Rattle.notation.specs.Scanning.{fault}
 use Rattle.notation.specs.Indicators.{Indicator, absent, indefinitely, unknown, wide, indicator, Chosen, chosen, misfit, choose}
@@ -29,7 +30,6 @@ use Rattle.numbers.specs.declared.indicator.Mark.{Mark}
 use Rattle.token.specs.declared.Token.{Token as Cut}
 use Rattle.words.specs.declared.Prefix.{Prefix}
 use Rattle.words.specs.declared.Prefix.the-variants.{Form, Refused as PrefixRefused}
-use Rattle.notation.proofs.ScanningElements.{clash}
 use Rattle.scanning.proofs.Marked.{here}
 use Rattle.scanning.proofs.ScanCode.{whether-yes, whether-no}
 use Rattle.literal_body.proofs.LiteralViews.{scan-good, raw-good, quoted-bad, raw-bad, decodes-bad}

@@ -25,6 +25,7 @@ use Rattle.token.specs.TokenAnswers.{itemCode, beginCode, codeOf, itemMark, beg
 use Rattle.amounts.specs.AmountAnswers.{heavy, Counts, ScansDigits, Counted}
 use Rattle.numbers.specs.NumberAnswers.{DigitAt}
 use Rattle.cbor.specs.Flags.{signOf}
+use Rattle.cbor.proofs.Tests.{clash}
 use Rattle.words.specs.WordAnswers.{WordPart, Enclosed, otherWord, valueWord, prefixWord, Simples, SimpleIn, frontClass, Stood}
 use Rattle.amounts.specs.declared.Amount.{Amount}
 use Rattle.amounts.specs.declared.Digits.{Digits}
@@ -32,7 +33,7 @@ use Rattle.token.specs.declared.Token.{Token as Cut}
 use Rattle.words.specs.declared.WordMeaning.{WordMeaning}
 use Rattle.words.specs.declared.WordMeaning.the-variants.{Value, SimpleOf, Refused as WordRefused}
 use Rattle.words.specs.declared.Prefix.the-variants.{Form, Refused as PrefixRefused}
-use Rattle.notation.proofs.ScanningElements.{clash, class-digit}
+use Rattle.notation_theorems.proofs.ScanningElements.{class-digit}
 use Rattle.scanning.proofs.Marked.{front, length-marked, at-byte, at-end, past-end, span-none, span-split, span-length}
 use Rattle.scanning.proofs.ScanCode.{eqb-sym, peeked-yes, whether-yes, whether-no, expect-yes, expect-no}
 use Rattle.numbers.proofs.NumberCode.{says-as, says-refuse, says-made}

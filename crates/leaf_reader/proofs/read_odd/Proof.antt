@@ -4,7 +4,7 @@ use borrow.Author.Needs.{needs}
 use Rattle.leaf_reader.proofs.read_odd.Statement.{statement}
 use Rattle.leaf_reader.proofs.read_odd.Tie as tie
 use Rattle.leaf_answer.proofs.LeafCode.{leaf-none, leaf-again}
-use Rattle.literal_leaf.proofs.LiteralCode.{quote-at}
+use Rattle.leaf_reader.proofs.LiteralCode.{quote-at}
 
 pub read-odd-spec : {M : Type 1} → statement M
 read-odd-spec =

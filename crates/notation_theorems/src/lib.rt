@@ -1,0 +1,1 @@
+// What holds of the notation: theorems on its definitions, no code.
