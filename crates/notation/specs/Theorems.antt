@@ -1,4 +1,4 @@
--- Theorems: what holds of the notation's definitions. Each statement is proved in `proofs/` under its name in lower case.
+-- Theorems: what holds of the notation's definitions. Each statement is proved in the crate `notation_theorems`, under its name in lower case.
 use Prim.Native.Nat.{ℕ, _≤_}
 use mathlib.Core.Path.{_≡_}
 use mathlib.Core.List.{List, [], _∷_, _++_}

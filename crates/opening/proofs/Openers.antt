@@ -31,7 +31,7 @@ use Rattle.numbers.specs.NumberAnswers.{Indicated}
 use Rattle.numbers.specs.declared.indicator.Mark.{Mark}
 use Rattle.token.specs.TokenAnswers.{widthNumber, indicatorNumber, itemCode, openCode, kindCode, beginCode, codeOf, openMark, beginMark, markOf, openNumber, beginNumber, numberOf, itemMark, itemNumber, Seen, Took}
 use Rattle.numbers.proofs.IndicatorCode.{indicator-none}
-use Rattle.tokens.proofs.CutCode.{opening-known}
+use Rattle.signs.proofs.SignCode.{opening-known}
 use Rattle.token.specs.declared.Token.{Token as Cut}
 use Rattle.encoding.specs.Cuts.{CutAt}
 use Rattle.leaf_answer.specs.declared.LeafRead.{LeafRead}

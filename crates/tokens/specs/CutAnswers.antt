@@ -1,19 +1,15 @@
 -- Of the code: what the code that cuts strings and signs answers. s is a text.
-use Prim.Native.Nat.{ℕ, _+_, _≤_, _<_}
+use Prim.Native.Nat.{ℕ, _≤_, _<_}
 use mathlib.Core.Path.{_≡_}
 use mathlib.Core.Bool.{true, false}
 use mathlib.Core.List.{List}
 use lib.Dec.{eqb}
 use lib.ListN.{length, drop}
-use Rattle.cbor.specs.Refusals.{ok, bind, noToken}
 use Rattle.cbor.specs.Items.{Kind, byteString, textString}
-use Rattle.notation.specs.Scanning.{expect}
-use Rattle.notation.specs.Indicators.{Indicator, indicator}
+use Rattle.notation.specs.Indicators.{Indicator}
 use Rattle.notation.specs.Literals.{Content, hexContent, base64Content, literalToken, quotedToken}
-use Rattle.notation.specs.Tokens.{bracket, brace, Token}
-use Rattle.notation.specs.Cutting.{openingToken}
 use Rattle.notation.specs.Reading.{marked}
-use Rattle.token.specs.TokenAnswers.{indicatorNumber, codeOf, markOf, numberOf, Written, Spelled, Says}
+use Rattle.token.specs.TokenAnswers.{indicatorNumber, Spelled, Says}
 use Rattle.numbers.specs.NumberAnswers.{Indicated}
 use Rattle.numbers.specs.declared.indicator.Mark.{Mark}
 use Rattle.token.specs.declared.Token.{Token as Cut}
@@ -47,13 +43,3 @@ pub record Literally (form mark size start stop place next : ℕ) (t : Cut) : Ty
 
 pub record Quotedly (form size start place : ℕ) (m : Mark) (t : Cut) : Type 0 where
   pub is : (s b : List ℕ) (at : ℕ) → size ≡ length b → (x : Indicated s at m) → Spells s form start 0 (m .next) b → Says s place t (quotedToken (quoteKind form) b (x .ind) (drop (m .next) (marked s)))
-
--- SIGNS
--- `[` or `{`, by its code, and an indicator
-pub record Opens (s : List ℕ) (place code : ℕ) (t : Cut) : Type 0 where
-  pub square : code ≡ 15 → Says s place t (bind (indicator (drop (place + 1) (marked s))) (openingToken bracket))
-  pub curly : code ≡ 17 → Says s place t (bind (indicator (drop (place + 1) (marked s))) (openingToken brace))
-
--- a token of two bytes, of which c is the second
-pub record Paired (s : List ℕ) (place c code : ℕ) (t : Cut) : Type 0 where
-  pub is : (tok : Token) → code ≡ codeOf tok → 0 ≡ markOf tok → 0 ≡ numberOf tok → Written s t tok → Says s place t (bind (expect c noToken (drop (place + 1) (marked s))) (λ u r. ok tok r))

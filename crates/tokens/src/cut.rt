@@ -1,7 +1,6 @@
 // Tokens.
 use crate::string::quoted;
 use crate::string::word;
-use numbers::indicator::indicator_at;
 use numbers::number::number;
 use scanning::class::APOSTROPHE;
 use scanning::class::CLOSE_BRACE;
@@ -20,79 +19,27 @@ use scanning::class::OPEN_BRACKET;
 use scanning::class::OPEN_PAREN;
 use scanning::class::QUOTE;
 use scanning::scan::TextCursor;
-use scanning::scan::next_is;
+use signs::closing;
+use signs::dots;
+use signs::opening;
+use signs::paired;
 use token::Token;
 use token::form::APOSTROPHED;
 use token::form::QUOTED;
 use token::indicator::NONE;
-use token::indicator::UNKNOWN;
 use token::kind::BEHIND;
 use token::kind::END;
 use token::made;
-use token::reason::BAD_INDICATOR;
-use token::reason::DOTS;
 use token::reason::NOT_ALLOWED;
 use token::reason::NOTHING;
 use token::refuse;
 use words::after_minus;
 use words::class_at;
-ghost use Prim.Native.Nat.{_+_, _≤_, _<_};
+ghost use Prim.Native.Nat.{_+_, _≤_};
 ghost use lib.ListN.{length, drop};
-ghost use Rattle.notation.specs.Classes.{greater, dot};
-ghost use Rattle.notation.specs.Cutting.{cutBy, cut};
+ghost use Rattle.notation.specs.Cutting.{cut};
 ghost use Rattle.notation.specs.Reading.{marked};
 ghost use Rattle.token.specs.TokenAnswers.{Says, Took};
-ghost use Rattle.tokens.specs.CutAnswers.{Opens, Paired};
-
-// `[` or `{`.
-fn opening(text: &[u8], place: usize, kind: u8) -> Token
-    requires { ⌜ place < length (now text) ⌝ }
-    ensures { λ r. ⌜ Opens (now (text .entry)) place kind r ⌝ }
-{
-    let m = indicator_at(text, place + 1);
-    let mark = m.mark;
-    if mark == UNKNOWN {
-        return refuse(BAD_INDICATOR, place);
-    }
-    made(kind, mark, 0, place, m.next)
-}
-
-// `(_` or `<<`.
-fn paired(text: &[u8], place: usize, c: u8, kind: u8) -> Token
-    requires { ⌜ place < length (now text) ⌝ }
-    ensures { λ r. ⌜ Paired (now (text .entry)) place c kind r ⌝ }
-{
-    if next_is(text, place + 1, c) {
-        return made(kind, NONE, 0, place, place + 2);
-    }
-    refuse(NOTHING, place)
-}
-
-// `>>`.
-fn closing(text: &[u8], place: usize) -> Token
-    requires { ⌜ place < length (now text) ⌝ }
-    ensures { λ r. ⌜ Says (now (text .entry)) place r (cutBy greater 0 (drop (place + 1) (marked (now (text .entry))))) ⌝ }
-{
-    if next_is(text, place + 1, b'>') {
-        let m = indicator_at(text, place + 2);
-        return made(GREATER, m.mark, 0, place, m.next);
-    }
-    refuse(NOTHING, place)
-}
-
-// `...`.
-fn dots(text: &[u8], place: usize) -> Token
-    requires { ⌜ place < length (now text) ⌝ }
-    ensures { λ r. ⌜ Says (now (text .entry)) place r (cutBy dot 0 (drop (place + 1) (marked (now (text .entry))))) ⌝ }
-{
-    if next_is(text, place + 1, b'.') {
-        if next_is(text, place + 2, b'.') {
-            return refuse(DOTS, place);
-        }
-        return refuse(NOTHING, place);
-    }
-    refuse(NOTHING, place)
-}
 
 // The token at a place.
 fn cut(text: &[u8], at: usize) -> Token

@@ -1,9 +1,9 @@
--- `tokens::cut::opening` meets its contract.
+-- `signs::opening` meets its contract.
 -- Assumes nothing.
 use borrow.Author.Needs.{needs}
-use Rattle.tokens.proofs.cut.opening.Statement.{statement}
-use Rattle.tokens.proofs.cut.opening.Tie as tie
-use Rattle.tokens.proofs.CutCode.{opens-bad, opens-good}
+use Rattle.signs.proofs.opening.Statement.{statement}
+use Rattle.signs.proofs.opening.Tie as tie
+use Rattle.signs.proofs.SignCode.{opens-bad, opens-good}
 
 pub opening-spec : {M : Type 1} → statement M
 opening-spec =

@@ -1,9 +1,9 @@
--- `tokens::cut::paired` meets its contract.
+-- `signs::paired` meets its contract.
 -- Assumes nothing.
 use borrow.Author.Needs.{needs}
-use Rattle.tokens.proofs.cut.paired.Statement.{statement}
-use Rattle.tokens.proofs.cut.paired.Tie as tie
-use Rattle.tokens.proofs.CutCode.{pair-yes, pair-no}
+use Rattle.signs.proofs.paired.Statement.{statement}
+use Rattle.signs.proofs.paired.Tie as tie
+use Rattle.signs.proofs.SignCode.{pair-yes, pair-no}
 
 pub paired-spec : {M : Type 1} → statement M
 paired-spec =

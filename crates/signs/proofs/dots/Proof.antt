@@ -1,9 +1,9 @@
--- `tokens::cut::dots` meets its contract.
+-- `signs::dots` meets its contract.
 -- Assumes nothing.
 use borrow.Author.Needs.{needs}
-use Rattle.tokens.proofs.cut.dots.Statement.{statement}
-use Rattle.tokens.proofs.cut.dots.Tie as tie
-use Rattle.tokens.proofs.CutCode.{dot-ways}
+use Rattle.signs.proofs.dots.Statement.{statement}
+use Rattle.signs.proofs.dots.Tie as tie
+use Rattle.signs.proofs.SignCode.{dot-ways}
 
 pub dots-spec : {M : Type 1} → statement M
 dots-spec =

@@ -1,9 +1,9 @@
--- `tokens::cut::closing` meets its contract.
+-- `signs::closing` meets its contract.
 -- Assumes nothing.
 use borrow.Author.Needs.{needs}
-use Rattle.tokens.proofs.cut.closing.Statement.{statement}
-use Rattle.tokens.proofs.cut.closing.Tie as tie
-use Rattle.tokens.proofs.CutCode.{close-yes, close-no, close-from}
+use Rattle.signs.proofs.closing.Statement.{statement}
+use Rattle.signs.proofs.closing.Tie as tie
+use Rattle.signs.proofs.SignCode.{close-yes, close-no, close-from}
 
 pub closing-spec : {M : Type 1} → statement M
 closing-spec =
