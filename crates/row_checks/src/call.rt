@@ -65,7 +65,7 @@ fn input_field(turn: u64) -> usize {
 }
 
 // The input: a text or bytes of the line, or what the turn before kept.
-pub fn input_of(turn: u64, line: &[u8], before: &[u8], out: &mut [u8]) -> usize {
+fn input_of(turn: u64, line: &[u8], before: &[u8], out: &mut [u8]) -> usize {
     match turn {
         EDIT => fill_around(line, false, 2, out),
         READ_EDITED | READ_REFUSED => fill_around(line, true, 5, out),
@@ -75,7 +75,7 @@ pub fn input_of(turn: u64, line: &[u8], before: &[u8], out: &mut [u8]) -> usize 
 }
 
 // The path, where the function takes one.
-pub fn path_of(turn: u64, line: &[u8], out: &mut [u16]) -> usize {
+fn path_of(turn: u64, line: &[u8], out: &mut [u16]) -> usize {
     match turn {
         LOOK => path(field(line, 2), out),
         CORRECT | CORRECT_USED => path(field(line, 3), out),
@@ -85,7 +85,7 @@ pub fn path_of(turn: u64, line: &[u8], out: &mut [u16]) -> usize {
 }
 
 // The place of a scan; or how much of the buffer of a correction is in use, with the bytes of that.
-pub fn used_of(turn: u64, line: &[u8], before: &[u8], out: &mut [u8]) -> usize {
+fn used_of(turn: u64, line: &[u8], before: &[u8], out: &mut [u8]) -> usize {
     match turn {
         SCAN => number(field(line, 2)),
         CORRECT | CORRECT_USED => fill_field(false, line, 1, 0, out),
@@ -103,7 +103,7 @@ fn too_short(kept: usize) -> usize {
 }
 
 // How much is lent: for a correction the used bytes, and the spare ones behind them.
-pub fn room_of(turn: u64, line: &[u8], kept: usize, used: usize, out: &mut [u8]) -> usize {
+fn room_of(turn: u64, line: &[u8], kept: usize, used: usize, out: &mut [u8]) -> usize {
     match turn {
         SHORT_READ | SHORT_PRINT => too_short(kept),
         CORRECT | CORRECT_USED => fill_field(false, line, 2, used, out),
@@ -122,9 +122,38 @@ pub fn number_of(turn: u64, used: usize, room: usize) -> usize {
 }
 
 // The room, where all that a call takes could be read.
-pub fn granted(input: usize, path: usize, used: usize, room: usize) -> usize {
+fn granted(input: usize, path: usize, used: usize, room: usize) -> usize {
     if input < FAILED && path < FAILED && used < FAILED {
         return room;
     }
     FAILED
+}
+
+// How much of each buffer a call takes, and how much it is lent: FAILED where something could not be read.
+pub struct Asked {
+    pub input: usize,
+    pub path: usize,
+    pub used: usize,
+    pub room: usize,
+}
+
+// Fills the buffers of a call. `before` is what the turn before kept.
+pub fn prepare(
+    turn: u64,
+    line: &[u8],
+    before: &[u8],
+    input: &mut [u8],
+    path: &mut [u16],
+    out: &mut [u8],
+) -> Asked {
+    let n = input_of(turn, line, before, input);
+    let k = path_of(turn, line, path);
+    let used = used_of(turn, line, before, out);
+    let room = room_of(turn, line, before.len(), used, out);
+    Asked {
+        input: n,
+        path: k,
+        used,
+        room: granted(n, k, used, room),
+    }
 }

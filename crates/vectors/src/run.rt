@@ -1,13 +1,9 @@
 // Goes through the lines, and asks what each row asks for.
 use row_checks::call::LENT_BYTES;
 use row_checks::call::function_of;
-use row_checks::call::granted;
-use row_checks::call::input_of;
 use row_checks::call::lent;
 use row_checks::call::number_of;
-use row_checks::call::path_of;
-use row_checks::call::room_of;
-use row_checks::call::used_of;
+use row_checks::call::prepare;
 use row_checks::count::counted;
 use row_checks::count::nothing;
 use row_checks::count::show_last;
@@ -54,10 +50,8 @@ fn turn(line: &[u8], state: State, kept: &mut [u8]) -> State {
     let mut path = [0u16; 64];
     let mut out = lent();
     let before = part(kept, 0, state.size);
-    let n = input_of(turn, line, before, &mut input);
-    let k = path_of(turn, line, &mut path);
-    let used = used_of(turn, line, before, &mut out);
-    let room = granted(n, k, used, room_of(turn, line, state.size, used, &mut out));
+    let a = prepare(turn, line, before, &mut input, &mut path, &mut out);
+    let room = a.room;
     if LENT_BYTES < room {
         return State {
             turn: WRONG,
@@ -66,9 +60,9 @@ fn turn(line: &[u8], state: State, kept: &mut [u8]) -> State {
     }
     let reply = ask(
         turn,
-        part(&input, 0, n),
-        steps(&path, k),
-        used,
+        part(&input, 0, a.input),
+        steps(&path, a.path),
+        a.used,
         &mut out[0..room],
     );
     judge(line, state, room, reply, &out, kept)
