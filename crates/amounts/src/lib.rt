@@ -1,4 +1,6 @@
 // Amounts: digits of a text, any number of them, and the number that they make, which may be too large.
+#![tactic(auto)]
+
 ghost use Rattle.std.specs.Prelude.{◌≡◌, ◌+◌, ◌*◌, ◌≤◌, leb, drop};
 ghost use Rattle.cbor.specs.Widths.{w8, limit};
 ghost use Rattle.notation.specs.Numbers.{makes_float};
@@ -9,7 +11,7 @@ ghost use Rattle.amounts.specs.AmountAnswers.{Base, bound64, Grown, float_at, Sc
 use literal_body::hex_value;
 
 // A number: value, or 2^64 + value if over, which is then 0 or 1, and 1 stands for all that are larger.
-#[derive(Drop)]
+#[derive(Clone, Copy)]
 pub struct Amount {
     pub value: u64,
     pub over: bool,

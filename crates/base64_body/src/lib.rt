@@ -1,4 +1,6 @@
 // Base64 text: what stands between the quotes of b64'..'.
+#![tactic(auto)]
+
 mod group;
 
 ghost use Rattle.std.specs.Prelude.{◌-◌, take, drop};

@@ -6,7 +6,6 @@ use mathlib.Core.Bool.{Bool, true, false, ◌&&◌, true≢false}
 use Prim.Native.Nat.{ℕ, ◌+◌, ◌*◌, ◌/◌, ◌%◌, ◌≤◌, ◌<◌}
 use native.Mathlib.Omega.{arith}
 use lib.Dec.{leb, eqb}
-use mir.Val as Bits
 use borrow.Author.Tests.{le-leb, lt-leb, leb-true, eq-eqb, ne_eqb}
 use Rattle.cbor.proofs.Utf8Laws.{both_true}
 use Rattle.notation.specs.Literals.{Content, stands_for, bad, after, sextet, padding, non_alphabet, valued, last_two, last_three, is_padding, last_four, full_four, base64_from}

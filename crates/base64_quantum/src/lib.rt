@@ -1,4 +1,6 @@
 // Up to four letters of base64 text, a quantum of RFC 4648: how many bytes they make, and which.
+#![tactic(auto)]
+
 ghost use Rattle.std.specs.Prelude.{◌≡◌};
 ghost use Rattle.base64_quantum.specs.QuantumAnswers.{all_sextets, IsLast, first_byte, second_of, third_of, Last, last_two_size, last_three_size, last_four_size, full_size};
 
@@ -9,7 +11,7 @@ pub const PADDING: u8 = 64;
 pub const WRONG: usize = 4;
 
 // Up to four letters, and the place behind them.
-#[derive(Drop)]
+#[derive(Clone, Copy)]
 pub struct Group {
     pub count: u8,
     pub a: u8,

@@ -1,4 +1,6 @@
 // Letters of base64 text that stand four by four without a blank.
+#![tactic(auto)]
+
 ghost use Rattle.std.specs.Prelude.{◌≡◌, ◌∷◌, [], ◌+◌, ◌-◌, ◌*◌, ◌/◌, ◌%◌, ◌≤◌, ◌<◌, length};
 ghost use Rattle.notation.specs.Literals.{base64_content};
 ghost use Rattle.literal_body.specs.LiteralAnswers.{Put};

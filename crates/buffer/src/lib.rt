@@ -1,4 +1,6 @@
 // Writing into a buffer. Where something does not fit, the buffer is left as it was.
+#![tactic(auto)]
+
 ghost use Rattle.std.specs.Prelude.{◌≡◌, [], ◌∷◌, ◌+◌, leb, replicate};
 ghost use Rattle.memory.specs.Buffer.{over_if_fits, moved_up, moved_down, moved, head_put, copied};
 ghost use Rattle.head.specs.HeadAnswers.{head_bytes};

@@ -1,4 +1,6 @@
 // What checking and looking up return in numbers, and the places that they write into `value`.
+#![tactic(auto)]
+
 ghost use Rattle.c_place_reply.specs.PlaceReplies.{CheckReplied, PartReplied};
 
 use c_reply::{put, refused};

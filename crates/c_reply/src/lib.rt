@@ -1,4 +1,6 @@
 // What reading, printing and correcting return in numbers, and what they write into `value`: a length, or the place of the refusal.
+#![tactic(auto)]
+
 ghost use Rattle.std.specs.Prelude.{◌≡◌, eqb, set};
 ghost use Rattle.refusal.specs.RefusalKinds.{kind_number};
 ghost use Rattle.c_reply.specs.Replies.{code, succeeds, length_in, answer_of};

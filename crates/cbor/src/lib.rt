@@ -1,1 +1,2 @@
 // CBOR (RFC 8949): definitions and theorems, no code.
+#![tactic(auto)]

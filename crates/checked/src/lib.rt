@@ -1,4 +1,6 @@
 // What checking and scanning answer, by what the walk told.
+#![tactic(auto)]
+
 ghost use Rattle.std.specs.Prelude.{◌≡◌};
 ghost use Rattle.walk_answer.specs.WalkAnswers.{pass_told, walk_told};
 ghost use Rattle.checked.specs.CheckAnswers.{check_told, check_by, scan_told, scan_by};

@@ -1,4 +1,6 @@
 // Bytes checked, and one item of them scanned.
+#![tactic(auto)]
+
 ghost use Rattle.std.specs.Prelude.{◌≡◌, length, drop};
 ghost use Rattle.operations.specs.Operations.{items_of};
 ghost use Rattle.checked.specs.CheckAnswers.{check_told, check_of, scan_told};

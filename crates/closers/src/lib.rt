@@ -1,9 +1,11 @@
 // What closes a list of items, and what goes with it: tables by the closer.
+#![tactic(auto)]
+
 ghost use Rattle.std.specs.Prelude.{◌≡◌};
 ghost use Rattle.closers.specs.CloserTables.{is_single, may_be_empty, starts, turned, counted, separator_byte, may_separate, closing_byte, has_sign};
 
 // What closes a list: `]`, `}`, `)`, `>>` or the end of the text. `Nothing`: one item is all.
-#[derive(Drop)]
+#[derive(Clone, Copy)]
 pub enum Closer {
     Square,
     Curly,

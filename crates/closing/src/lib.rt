@@ -1,4 +1,6 @@
 // What closes a list of items, and what stands behind one of them.
+#![tactic(auto)]
+
 ghost use Rattle.std.specs.Prelude.{◌≡◌, false, ◌+◌, ◌≤◌, length};
 ghost use Rattle.notation.specs.Reading.{marked};
 ghost use Rattle.closers.specs.CloserTables.{is_single};

@@ -1,4 +1,6 @@
 // A code point in UTF-8.
+#![tactic(auto)]
+
 ghost use Rattle.std.specs.Prelude.{◌≡◌, ◌<◌, length};
 ghost use Rattle.notation.specs.Quoted.{utf8_of};
 ghost use Rattle.literal_body.specs.LiteralAnswers.{Put};

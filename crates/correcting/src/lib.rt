@@ -1,4 +1,6 @@
 // One item of bytes replaced by the item that a text spells: first what would come of it, with nothing written; then the writing.
+#![tactic(auto)]
+
 mod one_item;
 
 ghost use Rattle.std.specs.Prelude.{◌≡◌, ◌≤◌, length};

@@ -1,4 +1,6 @@
 // A number into a buffer, decimal.
+#![tactic(auto)]
+
 ghost use Rattle.std.specs.Prelude.{suc};
 ghost use Rattle.notation.specs.Printing.{decimal_of};
 ghost use Rattle.text_output.specs.PrintParts.{Prints};

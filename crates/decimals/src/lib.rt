@@ -1,4 +1,6 @@
 // Decimal digits: where they end, what they make, and which may come first.
+#![tactic(auto)]
+
 pub mod eight;
 
 ghost use Rattle.std.specs.Prelude.{◌≡◌, ◌<◌, ◌≤◌, true, length};

@@ -1,4 +1,6 @@
 // What was made in a buffer of our own, handed over in a lent one.
+#![tactic(auto)]
+
 ghost use Rattle.delivery.specs.Deliveries.{Delivered};
 
 use outcome::{Answer, fits, refuse};

@@ -1,4 +1,6 @@
 // The notation and its bytes: check, look up, scan, read, print, correct. Each function is handed on from the crate that has its code.
+#![tactic(auto)]
+
 pub use checked::{Checked, ItemAt, Scanned};
 pub use checking::{check, scan};
 pub use correcting::correct;

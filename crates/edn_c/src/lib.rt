@@ -1,5 +1,7 @@
 // The operations on numbers and slices alone, for programs in C, Rust and other languages (include/edn.h). Each returns 0, or the number
 // of its refusal; what goes with that is written into `value`, as far as it reaches.
+#![tactic(auto)]
+
 ghost use Rattle.std.specs.Prelude.{◌≡◌, eqb};
 ghost use Rattle.operations.specs.Operations.{read, print, correct, look_up, items_of};
 ghost use Rattle.c_reply.specs.Replies.{code, succeeds, length_in};

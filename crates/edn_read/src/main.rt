@@ -1,5 +1,7 @@
 // A text in diagnostic notation on standard input; `accepted N` and its bytes in hexadecimal, or `refused C at P`, on standard output.
 // A read or a write that fails is told on standard error, and nothing else is written then.
+#![tactic(auto)]
+
 mod report;
 
 use libc::{STDIN_FILENO, STDOUT_FILENO};

@@ -15,7 +15,7 @@ use Rattle.cbor.specs.Encode.{encode_string, encode, encode_chunks, enclosed, op
 use Rattle.cbor.specs.TypedArrays.{chunks_length}
 use Rattle.memory.specs.Buffer.{over_if_fits}
 use Rattle.head.specs.HeadAnswers.{head_bytes}
-use Rattle.head.proofs.HeadCode.{head_bytes}
+use Rattle.head.proofs.HeadCode.{head_bytes_lem}
 use Rattle.notation.specs.Quoted.{character, unquote}
 use Rattle.notation.specs.Literals.{Content, hex_content, base64_content}
 use Rattle.notation.specs.Form.{literal_item}
@@ -155,7 +155,7 @@ unfolding initial_by initial size_number
 string-head {t = t} {k = k} {w = w} {c = c} l =
     let n : length c ≤ limit w = l.fit w refl in
     let e : initial_by t ≡ initial (strings k) (information w (length c)) = rw (l.code, l.size, l.number, kind-major k, info-width w (length c) n) in
-    rw (e, l.number) (sym (head_bytes (strings k) w (length c) n))
+    rw (e, l.number) (sym (head_bytes_lem (strings k) w (length c) n))
 
 module _ (s : List ℕ) (t : Cut) {b b' : List ℕ} {pos : ℕ} {a : ReadAnswer} where
   literal-open-by : {binary : Bool} {first : ℕ} → first ≡ initial_by t → t.indicator ≡ 1 → binary ≡ is_bytes_by t.kind → Ended b b' pos first t.next 0 binary 0 a

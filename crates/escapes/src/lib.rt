@@ -1,4 +1,6 @@
 // What stands behind a backslash in a quoted string.
+#![tactic(auto)]
+
 ghost use Rattle.std.specs.Prelude.{◌≡◌, true, false};
 ghost use Rattle.notation.specs.Quoted.{no_surrogate, unicode, paired};
 ghost use Rattle.escapes.specs.EscapeAnswers.{Surrogate, Escaped, DigitAt, UnitAt, Escapes, EscapesUnquoted};

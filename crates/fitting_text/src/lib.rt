@@ -1,4 +1,6 @@
 // The text of bytes that were checked, in a lent buffer in which it has room.
+#![tactic(auto)]
+
 ghost use Rattle.fitting_text.specs.FittingAnswers.{TextSize, Lays};
 
 use outcome::{Answer, fits, refuse};

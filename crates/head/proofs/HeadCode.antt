@@ -710,6 +710,6 @@ size-at m w2 n h = let e : (major_number m * 32 + 25) % 32 ≡ 25 = omega arith 
 size-at m w4 n h = let e : (major_number m * 32 + 26) % 32 ≡ 26 = omega arith in rw e
 size-at m w8 n h = let e : (major_number m * 32 + 27) % 32 ≡ 27 = omega arith in rw e
 
-pub head_bytes : (m : Major) (w : Width) (n : ℕ) → n ≤ limit w → head m w n ≡ head_bytes (initial m (information w n)) n
+pub head_bytes_lem : (m : Major) (w : Width) (n : ℕ) → n ≤ limit w → head m w n ≡ head_bytes (initial m (information w n)) n
 unfolding head head_bytes
-head_bytes m w n h = ap (λ (k : ℕ). initial m (information w n) ∷ big_endian k n) (sym (size-at m w n h))
+head_bytes_lem m w n h = ap (λ (k : ℕ). initial m (information w n) ∷ big_endian k n) (sym (size-at m w n h))

@@ -1,4 +1,6 @@
 // Heads (RFC 8949, section 3): an initial byte and the bytes of the argument behind it.
+#![tactic(auto)]
+
 pub mod initial;
 
 ghost use Rattle.std.specs.Prelude.{◌≡◌, ◌/◌, ◌%◌, ◌<◌, length, take, drop};

@@ -1,4 +1,6 @@
 // Hexadecimal text: what stands between the quotes of h'..'.
+#![tactic(auto)]
+
 ghost use Rattle.std.specs.Prelude.{◌≡◌, true, false, ◌+◌, ◌-◌, ◌<◌, take, drop};
 ghost use Rattle.notation.specs.Literals.{hex_content};
 ghost use Rattle.literal_body.specs.LiteralAnswers.{Decodes};

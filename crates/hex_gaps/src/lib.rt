@@ -1,4 +1,6 @@
 // Blanks and comments in hexadecimal text.
+#![tactic(auto)]
+
 ghost use Rattle.std.specs.Prelude.{◌≤◌, length};
 ghost use Rattle.literal_body.specs.LiteralReading.{Before, Within};
 ghost use Rattle.hex_gaps.specs.GapAnswers.{Closing, Commented, Gap, Blank, Gaps};

@@ -1,4 +1,6 @@
 // Bytes into a buffer, in hexadecimal: byte by byte, or many where there is room.
+#![tactic(auto)]
+
 ghost use Rattle.std.specs.Prelude.{◌≡◌, false, ◌+◌, ◌*◌, ◌/◌, ◌%◌, ◌≤◌, ◌<◌, length};
 ghost use Rattle.notation.specs.Printing.{hex_digit_of, hex_byte_of};
 ghost use Rattle.text_output.specs.PrintParts.{Prints, content_of};

@@ -56,9 +56,9 @@ module _ (b : ℕ) where
   at-digit : (f : ℕ → Bool) → T (every (λ k x. elim (is_digit 16 k) [ true ↦ f k | false ↦ true ]) 0 (replicate 256 0)) → is_digit 16 b ≡ true → T (f b)
   at-digit f t e = rw e at (byte (λ k. elim (is_digit 16 k) [ true ↦ f k | false ↦ true ]) t b (digit-byte e))
 
-  pub digit_value : is_digit 16 b ≡ true → b % 16 + b / 64 * 9 ≡ digit_value b
+  pub digit_value_lem : is_digit 16 b ≡ true → b % 16 + b / 64 * 9 ≡ digit_value b
   unfolding is_digit digit_value is_in
-  digit_value e = eqb→eq (b % 16 + b / 64 * 9) (digit_value b) (at-digit (λ k. eqb (k % 16 + k / 64 * 9) (digit_value k)) tt e)
+  digit_value_lem e = eqb→eq (b % 16 + b / 64 * 9) (digit_value b) (at-digit (λ k. eqb (k % 16 + k / 64 * 9) (digit_value k)) tt e)
 
   -- it is no blank and begins no comment
   no_gap : is_digit 16 b ≡ true → is blank b || (is slash b || is hash b) ≡ false

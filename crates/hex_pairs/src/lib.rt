@@ -1,5 +1,7 @@
 // Runs of hexadecimal digits, and the bytes that they make two by two. The compiler makes wide steps of the loops over literal
 // bounds, as they have no way out and their numbers are bytes.
+#![tactic(auto)]
+
 ghost use Rattle.std.specs.Prelude.{◌≡◌, true, false, ◌+◌, ◌*◌, ◌≤◌, min, length};
 ghost use Rattle.cbor.specs.Utf8.{◌to◌, is_in};
 ghost use Rattle.notation.specs.Numbers.{is_digit, digit_value};

@@ -1,4 +1,6 @@
 // The byte that two hexadecimal digits side by side make, by a table of what each adds to it.
+#![tactic(auto)]
+
 ghost use Rattle.std.specs.Prelude.{◌+◌, ◌≤◌, length};
 ghost use Rattle.hex_weight.specs.Weights.{Weighs, PairThere};
 

@@ -1,8 +1,10 @@
 // What the readers of leaves answer.
+#![tactic(auto)]
+
 ghost use Rattle.std.specs.Prelude.{◌≡◌, false};
 
 // What was found at a place: a leaf, the opening of a tag, what may be a leaf that is seldom written so, or nothing of these.
-#[derive(Drop)]
+#[derive(Clone, Copy)]
 pub enum Found {
     Leaf,
     Tag,

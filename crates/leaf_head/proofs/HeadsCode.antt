@@ -18,7 +18,7 @@ use Rattle.notation_theorems.proofs.SoundToken.{choose-fits}
 use Rattle.memory.specs.Buffer.{over_if_fits}
 use Rattle.memory.proofs.Buffer.{take-written}
 use Rattle.head.specs.HeadAnswers.{argument_size, head_bytes}
-use Rattle.head.proofs.HeadCode.{head_bytes}
+use Rattle.head.proofs.HeadCode.{head_bytes_lem}
 use Rattle.encoding.specs.ReadAnswers.{HeadSize, Wrote}
 use Rattle.encoding.proofs.ReadSmall.{info-0, head-short, head-some}
 use Rattle.encoding.proofs.Wrote.{wrote-written, wrote-more}
@@ -62,7 +62,7 @@ head_first n h e = record { fits = omega (arith, (info-0 {k = 0} {n = n} refl e)
 -- the head of the definitions
 pub head-is : (m : Major) (n : ℕ) → n ≤ limit w8 → short_head (major_number m) n ≡ head m (shortest n) n
 unfolding short_head initial choose
-head-is m n h = sym (head_bytes m (shortest n) n (choose-fits absent n h))
+head-is m n h = sym (head_bytes_lem m (shortest n) n (choose-fits absent n h))
 
 pub some-head : (major n : ℕ) → 0 < length (short_head major n)
 unfolding short_head

@@ -1,5 +1,7 @@
 // The shortest head of a major type and an argument. Arguments come in any size, and a branch on it would be foretold badly: so there is
 // none, and eight bytes are written for the argument, of which what follows writes over those that are not its.
+#![tactic(auto)]
+
 ghost use Rattle.std.specs.Prelude.{◌≡◌, ◌+◌, ◌≤◌};
 ghost use Rattle.cbor.specs.Widths.{shortest, information, big_endian};
 ghost use Rattle.memory.specs.Buffer.{over_if_fits};

@@ -1,4 +1,6 @@
 // The text of integers of up to 32 bits, whose heads are the shortest.
+#![tactic(auto)]
+
 mod digits;
 
 ghost use Rattle.std.specs.Prelude.{◌+◌, ◌^◌, ◌≤◌, ◌<◌, length, get_or};

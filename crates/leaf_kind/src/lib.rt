@@ -1,4 +1,6 @@
 // What an item is, by its initial byte.
+#![tactic(auto)]
+
 ghost use Rattle.leaf_kind.specs.LeafKinds.{KindOf};
 
 // Leaves that are written at a glance: an argument below 24, in one byte, in two, in four; a string of at most 23 bytes; a word. All other items are others.

@@ -1,4 +1,6 @@
 // What is printed of a head: numbers, indicators, quotes, simple values. `info` is the head's additional information.
+#![tactic(auto)]
+
 ghost use Rattle.std.specs.Prelude.{◌≡◌, [], eqb};
 ghost use Rattle.cbor.specs.Widths.{argument_bytes, shortest};
 ghost use Rattle.notation.specs.Printing.{width_name, indicator_of, size_of, print_simple, print_int, print_string, print_chunked};

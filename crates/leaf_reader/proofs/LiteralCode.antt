@@ -32,7 +32,7 @@ use Rattle.scanning.specs.ScanAnswers.{Peeked}
 use Rattle.scanning.proofs.Marked.{length_marked, at_byte}
 use Rattle.scanning.proofs.ScanCode.{peeked-yes}
 use Rattle.head.specs.HeadAnswers.{head_bytes}
-use Rattle.head.proofs.HeadCode.{head_bytes}
+use Rattle.head.proofs.HeadCode.{head_bytes_lem}
 use Rattle.literal_body.specs.LiteralAnswers.{Scans, Raw, Decodes, Quotes}
 use Rattle.literal_body.specs.LiteralReading.{DecodesInto}
 use Rattle.literal_body.specs.declared.LiteralScan.{LiteralScan}
@@ -119,7 +119,7 @@ pub ruleset before-ways = (put-short, put-long)
 
 wide-head : (m : Major) (w : Width) (n : ℕ) → n ≤ limit w → head_bytes (major_number m * 32 + info_by (width_number w) n) n ≡ head m w n
 unfolding initial
-wide-head m w n h = rw (info-width w n h) (sym (head_bytes m w n h))
+wide-head m w n h = rw (info-width w n h) (sym (head_bytes_lem m w n h))
 
 -- the width that was chosen
 record Fitted (s : List ℕ) (next n width : ℕ) (m : Mark) : Type 0 where

@@ -29,7 +29,7 @@ use Rattle.scanning.specs.ScanAnswers.{Peeked}
 use Rattle.scanning.proofs.Marked.{at_byte}
 use Rattle.scanning.proofs.ScanCode.{peeked-yes}
 use Rattle.head.specs.HeadAnswers.{head_bytes}
-use Rattle.head.proofs.HeadCode.{head_bytes}
+use Rattle.head.proofs.HeadCode.{head_bytes_lem}
 use Rattle.token.specs.TokenAnswers.{width_number, item_code, open_code, kind_code, begin_code, shape_code, code_of, item_mark, begin_mark, mark_of, item_number, begin_number, number_of, Seen, Shown, Says}
 use Rattle.token.specs.declared.Token.{Token as Cut}
 use Rattle.numbers.specs.NumberAnswers.{DigitAt}
@@ -51,11 +51,11 @@ use Rattle.plain_leaf.proofs.WordCode.{spelled}
 
 int-head : (m : Major) (w : Width) (n : ℕ) → n ≤ limit w → head_bytes (major_number m * 32 + info_by (width_number w) n) n ≡ head m w n
 unfolding initial
-int-head m w n h = rw (info-width w n h) (sym (head_bytes m w n h))
+int-head m w n h = rw (info-width w n h) (sym (head_bytes_lem m w n h))
 
 simple-head : (n : ℕ) → n ≤ limit (shortest n) → head_bytes (7 * 32 + info_by 0 n) n ≡ head simples (shortest n) n
 unfolding info_by initial major_number
-simple-head n h = sym (head_bytes simples (shortest n) n h)
+simple-head n h = sym (head_bytes_lem simples (shortest n) n h)
 
 record FineLeaf (x : Item) : Type 0 where
   code : item_code x ≤ 3

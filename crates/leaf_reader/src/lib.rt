@@ -1,4 +1,6 @@
 // Leaves, read and written at once: first as they are mostly written, then as they seldom are. What is neither is left to the token cutter.
+#![tactic(auto)]
+
 mod by_token;
 mod literal;
 

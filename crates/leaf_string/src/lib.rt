@@ -1,4 +1,6 @@
 // Strings of at most 23 bytes, by blocks: 32 bytes are taken at once, however many of them are the string's.
+#![tactic(auto)]
+
 ghost use Rattle.std.specs.Prelude.{◌≡◌, ◌+◌, ◌*◌, ◌≤◌, min, length, take, drop, get_or};
 ghost use Rattle.notation.specs.Printing.{hex_of};
 ghost use Rattle.leaf_kind.specs.LeafKinds.{KindOf};

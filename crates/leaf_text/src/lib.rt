@@ -1,4 +1,6 @@
 // The text of leaves, written at a glance: integers of up to 32 bits, short strings and words, whose heads are the shortest. Room for the longest was seen to before.
+#![tactic(auto)]
+
 mod word;
 
 ghost use Rattle.leaf_written.specs.LeafTexts.{Room, LeafTold};

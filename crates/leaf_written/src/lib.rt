@@ -1,4 +1,6 @@
 // What is told of a leaf whose text was written at a glance, and the room that there has to be for both. What is written too much, the next text is written over.
+#![tactic(auto)]
+
 ghost use Rattle.std.specs.Prelude.{◌≡◌, [], ◌∷◌, ◌<◌, length};
 ghost use Rattle.leaf_written.specs.Laying.{Laid};
 ghost use Rattle.leaf_written.specs.LeafTexts.{HasBlock, HasSpace};

@@ -346,7 +346,7 @@ bytes-stand {s} {at} {i} (suc n) inv f l =
     let t = f i (omega arith) (omega arith) in
     let z : i + 1 + n ≡ i + suc n = omega arith in
     let x = body-plain (get_or s i 0) t.first t.second t.high t.low in
-    rw z at (bytes-stand n (byte-stands inv (omega arith) x refl) (λ j a b. f j (omega arith) (omega arith)) (omega arith))
+    rw z at (bytes-stand {i = i + 1} n (byte-stands inv (omega arith) x refl) (λ j a b. f j (omega arith) (omega arith)) (omega arith))
 
 pub body_end : {s : List ℕ} {at i : ℕ} {r : LiteralScan} → Body s at i → length s ≤ i → r ≡ record { good = false; next = at; size = 0 } → Raw s at r (body (drop at (marked s)))
 unfolding body is_body is class_number class_of class_in class_rows is_in bind

@@ -1,4 +1,6 @@
 // String literals: what their scans share, and the raw text of h'..' and b64'..'.
+#![tactic(auto)]
+
 ghost use Rattle.std.specs.Prelude.{◌≡◌, ◌∷◌, [], true, false, min, drop};
 ghost use Rattle.notation.specs.Classes.{blank, is};
 ghost use Rattle.notation.specs.Literals.{body};

@@ -1,4 +1,6 @@
 // The part of bytes at a path, looked up.
+#![tactic(auto)]
+
 mod guided;
 
 ghost use Rattle.std.specs.Prelude.{◌≡◌};

@@ -1,1 +1,2 @@
 // CBOR diagnostic notation: definitions and examples, no code.
+#![tactic(auto)]

@@ -1,1 +1,2 @@
 // What holds of the notation: theorems on its definitions, no code.
+#![tactic(auto)]

@@ -18,7 +18,7 @@ use Rattle.cbor.specs.Heads.{Major, integers, tags, simples, major_number, initi
 use Rattle.cbor.specs.Encode.{encode}
 use Rattle.cbor.specs.Utf8.{is_in}
 use Rattle.head.specs.HeadAnswers.{head_bytes}
-use Rattle.head.proofs.HeadCode.{head_bytes}
+use Rattle.head.proofs.HeadCode.{head_bytes_lem}
 use Rattle.notation.specs.Classes.{class_of, class_in, class_rows}
 use Rattle.notation.specs.Indicators.{Indicator, absent, indefinitely, unknown, wide, indicator}
 use Rattle.notation.specs.Tokens.{Opener as Opens, bracket, brace, tagging, embedding, leaf, literal, chunking, opens, Token, begins, closes, a_comma, a_colon}
@@ -51,11 +51,11 @@ use Rattle.opening.specs.declared.Opening.{Opening}
 -- A LEAF: its head
 int-head : (m : Major) (w : Width) (n : ℕ) → n ≤ limit w → head_bytes (major_number m * 32 + info_by (width_number w) n) n ≡ head m w n
 unfolding initial
-int-head m w n h = rw (info-width w n h) (sym (head_bytes m w n h))
+int-head m w n h = rw (info-width w n h) (sym (head_bytes_lem m w n h))
 
 simple-head : (n : ℕ) → n ≤ limit (shortest n) → head_bytes (7 * 32 + info_by 0 n) n ≡ head simples (shortest n) n
 unfolding info_by initial major_number
-simple-head n h = sym (head_bytes simples (shortest n) n h)
+simple-head n h = sym (head_bytes_lem simples (shortest n) n h)
 
 pub leaf-bytes : (x : Item) → LeafFine x → (item_code x ≤ 3) × (head_bytes (major_by (item_code x) * 32 + info_by (item_mark x) (item_number x)) (item_number x) ≡ encode x) × (held_of x ≡ no_bytes)
 unfolding item_code item_mark item_number major_by major_number encode held_of

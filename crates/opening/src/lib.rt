@@ -1,4 +1,6 @@
 // What opens a level: `[`, `{`, a tag, `<<`.
+#![tactic(auto)]
+
 ghost use Rattle.std.specs.Prelude.{◌≡◌, ◌≤◌, ◌+◌, length};
 ghost use Rattle.notation.specs.Reading.{marked};
 ghost use Rattle.scanning.specs.ScanAnswers.{Skips};

@@ -1,1 +1,2 @@
 // The operations and the demands: definitions and theorems, no code.
+#![tactic(auto)]

@@ -1,4 +1,6 @@
 // What an operation answers that writes into a lent buffer.
+#![tactic(auto)]
+
 ghost use Rattle.std.specs.Prelude.{◌≡◌, ◌≤◌, min, leb};
 ghost use Rattle.cbor.specs.Decode.{most_bytes};
 ghost use Rattle.outcome.specs.Outcomes.{Refuses};

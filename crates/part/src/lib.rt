@@ -1,4 +1,6 @@
 // Where a part of bytes is, or why there is none; and the bytes of it.
+#![tactic(auto)]
+
 ghost use Rattle.std.specs.Prelude.{◌≡◌};
 ghost use Rattle.part.specs.PartAnswers.{Ordered, taken};
 

@@ -1,4 +1,6 @@
 // Of printing in one pass: what stands around items and between them; and items that are not written at a glance.
+#![tactic(auto)]
+
 ghost use Rattle.std.specs.Prelude.{◌≡◌, ◌∷◌, ◌+◌, ◌≤◌, length};
 ghost use Rattle.notation.specs.Printing.{size_of};
 ghost use Rattle.text_output.specs.PrintParts.{size_by};

@@ -1,4 +1,6 @@
 // A path, followed step by step.
+#![tactic(auto)]
+
 ghost use Rattle.std.specs.Prelude.{◌≡◌, ◌-◌, drop};
 ghost use Rattle.walk_answer.specs.WalkAnswers.{until_by, Within};
 ghost use Rattle.path.specs.Following.{nth_from, child_in};

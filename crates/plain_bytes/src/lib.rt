@@ -1,4 +1,6 @@
 // Bytes that stand for themselves between quotes, by blocks, and how many bytes more the others take.
+#![tactic(auto)]
+
 ghost use Rattle.std.specs.Prelude.{◌≡◌, ◌≤◌, max, length};
 ghost use Rattle.plain_bytes.specs.Runs.{more_below, more_at, More, Plain, PlainRun};
 

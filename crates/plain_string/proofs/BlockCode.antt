@@ -23,7 +23,7 @@ use Rattle.scanning.proofs.Marked.{tail-is}
 use Rattle.literal_body.specs.LiteralReading.{Yields}
 use Rattle.literal_body.proofs.ReadingCode.{span-over, yields_none, yields_more}
 use Rattle.hex_pairs.specs.PairAnswers.{HexDigits}
-use Rattle.hex_pairs.proofs.DigitCode.{digit-small, digit_value, pair-yields}
+use Rattle.hex_pairs.proofs.DigitCode.{digit-small, digit_value_lem, pair-yields}
 use Rattle.hex_pairs.proofs.PairsCode.{run-within}
 use Rattle.encoding.specs.ReadAnswers.{Wrote}
 use Rattle.encoding.proofs.Wrote.{wrote-written, wrote-more}
@@ -93,7 +93,7 @@ small b = omega arith
 
 nibble-digit : (b : ℕ) → is_digit 16 b ≡ true → nibble_of b ≡ digit_value b
 unfolding nibble_of
-nibble-digit b e = let v = digit_value b e in let l = digit-small b e in rw v (omega arith)
+nibble-digit b e = let v = digit_value_lem b e in let l = digit-small b e in rw v (omega arith)
 
 pub record Nibbling (s : List ℕ) (from i : ℕ) (t : List ℕ) : Type 0 where
   pub is : (j : ℕ) → j < i → get_or t j 0 ≡ nibble_of (get_or s (from + j) 0)

@@ -1,3 +1,5 @@
 // String literals as they are mostly written.
+#![tactic(auto)]
+
 mod block;
 pub mod string;

@@ -1,4 +1,6 @@
 // What is planned of a correction, before anything is written.
+#![tactic(auto)]
+
 ghost use Rattle.std.specs.Prelude.{◌≡◌};
 ghost use Rattle.operations.specs.Operations.{level};
 ghost use Rattle.planning.specs.PlanAnswers.{Bounded, PlanFor};

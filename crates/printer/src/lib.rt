@@ -1,5 +1,7 @@
 // From the bytes of items to their text. The bytes were checked before: of others something is printed, and nothing is said of it.
 // Each function answers where in the bytes what it printed ends, and the place in the buffer behind its text.
+#![tactic(auto)]
+
 ghost use Rattle.std.specs.Prelude.{◌≡◌, ◌+◌, ◌-◌, true, drop, eqb};
 ghost use Rattle.cbor.specs.Heads.{taking};
 ghost use Rattle.cbor.specs.Decode.{chunk_at, entry_at, item};

@@ -1,4 +1,6 @@
 // Bytes as a text in diagnostic notation, in a lent buffer.
+#![tactic(auto)]
+
 mod one_pass;
 
 ghost use Rattle.std.specs.Prelude.{◌≡◌};

@@ -1,4 +1,6 @@
 // Heads that the quick walk knows at a glance: an initial byte that is all of the head of an array, a map or a tag; a string whose length is in two bytes.
+#![tactic(auto)]
+
 ghost use Rattle.head.specs.HeadAnswers.{Widened};
 ghost use Rattle.quick_head.specs.QuickHeads.{Inner, TwoBytes};
 

@@ -1,4 +1,6 @@
 // Leaves that a walk passes over by a table and a block of the bytes behind the initial byte, with no branch that depends on their kind. Most items are such.
+#![tactic(auto)]
+
 ghost use Rattle.std.specs.Prelude.{◌≡◌, ◌+◌, ◌≤◌, min, max, ltb, eqb, length};
 ghost use Rattle.quick_leaf.specs.WalkLeaves.{all_bits, LeafSize, LeafContent, LeafAt, Bounded, Topped, Blocked, Right};
 

@@ -1,5 +1,7 @@
 // The quick walk over items: where they end and how many bytes of strings they have, in one number, so that nothing goes through memory from level
 // to level. It tells no refusal: of what it does not pass over, nothing is known.
+#![tactic(auto)]
+
 ghost use Rattle.std.specs.Prelude.{◌≡◌, suc, ◌+◌, ◌*◌, ◌/◌, ◌%◌, length};
 ghost use Rattle.walk_answer.specs.WalkAnswers.{told_of, one_of, all_of, until_by};
 ghost use Rattle.quick_walk.specs.QuickAnswers.{Quick, Halves, Deeper, Shifts, Shifted, Opens};

@@ -1,4 +1,6 @@
 // Quoted strings: the content between the quotes, with its escapes.
+#![tactic(auto)]
+
 ghost use Rattle.std.specs.Prelude.{◌≡◌, true, false, ◌-◌, ◌≤◌, ◌<◌, length, take, drop};
 ghost use Rattle.notation.specs.Quoted.{character, unquote};
 ghost use Rattle.notation.specs.Reading.{marked};

@@ -19,7 +19,7 @@ use Rattle.cbor.proofs.Results.{bind-same, bind_assoc}
 use Rattle.typed_array.specs.TypedArrayAnswers.{may_tag_by}
 use Rattle.head.specs.HeadAnswers.{head_bytes}
 use Rattle.refusal.specs.declared.Refusal.{Refusal}
-use Rattle.head.proofs.HeadCode.{head_bytes}
+use Rattle.head.proofs.HeadCode.{head_bytes_lem}
 use Rattle.notation.specs.Indicators.{Indicator, absent, indefinitely, unknown, wide, Chosen, chosen, misfit, choose}
 use Rattle.notation.specs.Tokens.{Opener as Opens, bracket, brace, tagging, embedding, opens, square, curly, round, angle, whole, Token, begins, closes, a_comma, a_colon}
 use Rattle.notation.specs.Cutting.{next, place}
@@ -89,7 +89,7 @@ module _ {A : Type 0} (rd : List ℕ → Result A) (v : A → View) (i : A → I
     kept_by x r (chosen w) ce e mv en few we ne fin =
         let nz : choose_by mark n ≡ 0 → ⊥ = λ z. omega (arith, we, width_some w) in
         let fit : n ≤ limit w = rw ce at (fits-of (i x) n (num x) en few) in
-        let hn : head_bytes (major_number major * 32 + info_by (choose_by mark n) n) n ≡ head major w n = rw (we, info-width w n fit) (sym (head_bytes major w n fit)) in
+        let hn : head_bytes (major_number major * 32 + info_by (choose_by mark n) n) n ≡ head major w n = rw (we, info-width w n fit) (sym (head_bytes_lem major w n fit)) in
         let hs : head_bytes (major_number major * 32 + info_by (choose_by mark n) n) n ≡ head major w (num x) = hn ∙ ap (head major w) en in
         let q : encode (make x w) ≡ head_bytes (major_number major * 32 + info_by (choose_by mark n) n) n ++ (v x).bytes = law x w ∙ ap (λ (u : List ℕ). u ++ (v x).bytes) (sym hs) in
         let l : length (encode (make x w)) ≡ length (head_bytes (major_number major * 32 + info_by (choose_by mark n) n) n) + m.size = ap length q ∙ length-append (head_bytes (major_number major * 32 + info_by (choose_by mark n) n) n) (v x).bytes ∙ omega (arith, mv.sized) in
@@ -400,7 +400,7 @@ within-tag d w n p s =
 tag_view : (first : ℕ) (w : Width) (n : ℕ) (x : Item) → first ≡ initial tags (information w n) → n ≤ limit w → of_tagged first n x ≡ of_item (tag w n x)
 unfolding of_tagged of_item encode held_of
 tag_view first w n x e h =
-    let q : head_bytes first n ++ encode x ≡ head tags w n ++ encode x = ap (λ (u : List ℕ). u ++ encode x) (ap (λ (k : ℕ). head_bytes k n) e ∙ sym (head_bytes tags w n h)) in
+    let q : head_bytes first n ++ encode x ≡ head tags w n ++ encode x = ap (λ (u : List ℕ). u ++ encode x) (ap (λ (k : ℕ). head_bytes k n) e ∙ sym (head_bytes_lem tags w n h)) in
     λ j. record { bytes = q j; count = 1; indicator = 0; held = no_bytes }
 
 open_told : {s b b' : List ℕ} {pos from : ℕ} {a : ReadAnswer} {o : Opening} (d : ℕ) (op : Opens) → OpensAs s from o op → (d ≡ 0 → ⊥)

@@ -1,5 +1,7 @@
 // From text to the bytes of the items that it spells, in one pass. Where bytes no longer fit into the buffer it goes on without
 // writing, so that sizes stay exact.
+#![tactic(auto)]
+
 ghost use Rattle.std.specs.Prelude.{◌≡◌, ◌+◌, ◌-◌, ◌≤◌, length, drop};
 ghost use Rattle.cbor.specs.Decode.{most_bytes};
 ghost use Rattle.notation.specs.Tokens.{bracket, brace, embedding};

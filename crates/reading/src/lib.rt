@@ -1,4 +1,6 @@
 // A text in diagnostic notation as the bytes of its items, in a lent buffer.
+#![tactic(auto)]
+
 ghost use Rattle.std.specs.Prelude.{◌≡◌, ◌≤◌, length};
 ghost use Rattle.cbor.specs.Decode.{most_bytes};
 ghost use Rattle.operations.specs.Operations.{read};

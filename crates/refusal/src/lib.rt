@@ -1,4 +1,6 @@
 // Why bytes, a text, a path or a buffer are refused, and where.
+#![tactic(auto)]
+
 pub mod limit;
 
 ghost use Rattle.std.specs.Prelude.{◌≡◌};

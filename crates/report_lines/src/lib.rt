@@ -1,4 +1,6 @@
 // The lines that the programs write.
+#![tactic(auto)]
+
 ghost use Rattle.std.specs.Prelude.{◌≡◌, ◌≤◌, length, take};
 ghost use Rattle.cbor.specs.Decode.{most_bytes};
 ghost use Rattle.refusal.specs.RefusalKinds.{kind_number};

@@ -3,7 +3,7 @@ use rows::cut::{FAILED, find, part, pieces};
 use rows::turn::{COMMENT, GROUP, RIGHT};
 
 // How many rows were right and wrong, in the group and in all; and the place of the line that begins the group.
-#[derive(Drop)]
+#[derive(Clone, Copy)]
 pub struct Tally {
     right: u64,
     wrong: u64,

@@ -7,7 +7,7 @@ use rows::cut::{part, same};
 
 // 0 and what came of it, or the number of a refusal and its place, which is `at`. Where bytes were written `at` is how many. A part starts
 // at `at` and ends before `end`; and so does the content of an item, whose head has the other three numbers.
-#[derive(Drop)]
+#[derive(Clone, Copy)]
 pub struct Reply {
     pub number: u64,
     pub at: u64,

@@ -1,4 +1,6 @@
 // A sum that stops at the largest number.
+#![tactic(auto)]
+
 ghost use Rattle.std.specs.Prelude.{◌≡◌};
 ghost use Rattle.memory.specs.Sums.{capped};
 

@@ -168,7 +168,7 @@ run_in {s} {from} {end} {at} zero inv f l = rw add-zero inv
 run_in {s} {from} {end} {at} (suc n) inv f l =
     let t = f at (omega arith) (omega arith) in
     let z : at + 1 + n ≡ at + suc n = omega arith in
-    rw z at (run_in n (next-in inv (omega arith) t.high t.first (sym (comment-high t.low t.high).is)) (λ j a b. f j (omega arith) (omega arith)) (omega arith))
+    rw z at (run_in {at = at + 1} n (next-in inv (omega arith) t.high t.first (sym (comment-high t.low t.high).is)) (λ j a b. f j (omega arith) (omega arith)) (omega arith))
 
 module _ {s : List ℕ} {from end at : ℕ} (inv : Commenting s from end at) where
   -- at the end mark

@@ -1,4 +1,6 @@
 // Tokens of brackets and dots: `[` and `{` with their indicators, `(_`, `<<`, `>>`, and `...`, which is refused.
+#![tactic(auto)]
+
 ghost use Rattle.std.specs.Prelude.{◌+◌, ◌<◌, length, drop};
 ghost use Rattle.notation.specs.Classes.{greater, dot};
 ghost use Rattle.notation.specs.Cutting.{cut_by};

@@ -1,4 +1,6 @@
 // A planned correction carried out in its buffer.
+#![tactic(auto)]
+
 ghost use Rattle.std.specs.Prelude.{◌≡◌, take};
 ghost use Rattle.memory.specs.Buffer.{over};
 ghost use Rattle.operations.specs.Operations.{zeroed};

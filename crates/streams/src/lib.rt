@@ -1,5 +1,7 @@
 // Reads a stream to its end, and writes all of a slice, where a call that fails is told from the end of the input, and one that a signal
 // interrupted is made again.
+#![tactic(auto)]
+
 ghost use Rattle.std.specs.Prelude.{◌≤◌, length};
 ghost use Rattle.io.specs.Counts.{IsPrefixLen};
 

@@ -1,4 +1,6 @@
 // The bytes of a string into a buffer, as they stand between its quotes: a text string's escaped, a byte string's in hexadecimal.
+#![tactic(auto)]
+
 ghost use Rattle.std.specs.Prelude.{[], ◌∷◌, true, false, ◌+◌, ◌≤◌, length};
 ghost use Rattle.notation.specs.Printing.{escape_of};
 ghost use Rattle.text_output.specs.PrintParts.{Prints, content_of};

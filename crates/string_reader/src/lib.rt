@@ -1,4 +1,6 @@
 // String literals, and strings in chunks.
+#![tactic(auto)]
+
 ghost use Rattle.std.specs.Prelude.{◌≡◌, ◌+◌, ◌-◌, length, drop};
 ghost use Rattle.notation.specs.Form.{only, chunks, reads};
 ghost use Rattle.notation.specs.Reading.{marked};

@@ -1,4 +1,6 @@
 // What is asked of all of a text before its tokens: 1, then 2.
+#![tactic(auto)]
+
 ghost use Rattle.std.specs.Prelude.{◌≡◌};
 ghost use Rattle.text_check.specs.TextAnswers.{text_told, passing};
 

@@ -1,5 +1,7 @@
 // Text into a buffer. Each function answers the place behind what it writes, also where that does not fit; a place stops at
 // the largest number.
+#![tactic(auto)]
+
 ghost use Rattle.std.specs.Prelude.{[], ◌∷◌};
 ghost use Rattle.text_output.specs.PrintParts.{Prints};
 

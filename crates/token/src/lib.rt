@@ -1,4 +1,6 @@
 // A token, as the code hands it on.
+#![tactic(auto)]
+
 pub mod form;
 pub mod indicator;
 pub mod kind;
@@ -14,7 +16,7 @@ use crate::reason::NO_REFUSAL;
 // A token: its kind (kind.rt); where there is none, why not (reason.rt). The indicator of a container, or the width that it gives an argument
 // (indicator.rt). The argument of its head: of a literal, how many bytes it stands for. The form of a literal (form.rt); what it holds starts
 // at `start`, and stops at `stop` in h'..' and b64'..'. The token's place, and what is next behind it.
-#[derive(Drop)]
+#[derive(Clone, Copy)]
 pub struct Token {
     pub kind: u8,
     pub refusal: u8,

@@ -1,4 +1,6 @@
 // What the answer of a call of read or write means: some bytes, the end, a signal, or a failure.
+#![tactic(auto)]
+
 ghost use Rattle.std.specs.Prelude.{◌≡◌};
 ghost use Rattle.transfer.specs.Transfers.{transfer_of};
 

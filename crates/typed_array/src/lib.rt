@@ -1,4 +1,6 @@
 // Typed arrays (RFC 8746): the items that a tag may stand before.
+#![tactic(auto)]
+
 ghost use Rattle.std.specs.Prelude.{◌≡◌};
 ghost use Rattle.typed_array.specs.TypedArrayAnswers.{may_tag_by, ElementSize};
 

@@ -1,4 +1,6 @@
 // UTF-8 (RFC 3629): the place of the first bad sequence.
+#![tactic(auto)]
+
 ghost use Rattle.std.specs.Prelude.{◌≡◌, ◌∷◌, [], ◌+◌, ◌<◌, ◌≤◌, max, length, drop};
 ghost use Rattle.cbor.specs.Utf8.{◌to◌, follow, are_in, first_bad};
 ghost use Rattle.cbor.specs.Sequences.{behind_first, Sequence};

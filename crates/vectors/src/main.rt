@@ -1,6 +1,8 @@
 // Runs the examples on standard input through the public functions, and compares each with what it should be. The file `stdin`
 // beside this folder says how a row is written. A line is written for each group and for each row that is wrong, and a last one with
 // the counts.
+#![tactic(auto)]
+
 mod run;
 
 ghost use Rattle.std.specs.Prelude.{◌≡◌, length};

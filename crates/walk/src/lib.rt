@@ -1,4 +1,6 @@
 // A walk over items (RFC 8949), one behind the other and one inside the other: where each ends, or why it is refused.
+#![tactic(auto)]
+
 ghost use Rattle.std.specs.Prelude.{◌≡◌, suc, length};
 ghost use Rattle.cbor.specs.Decode.{item, decode};
 ghost use Rattle.walk_answer.specs.WalkAnswers.{pass_told, walk_told, told_of, walk_of, walk_all_of, all_of, until_by};

@@ -1,4 +1,6 @@
 // What a walk over items answers: of one item, of several or of a part of one. And how several go on.
+#![tactic(auto)]
+
 ghost use Rattle.std.specs.Prelude.{◌≡◌, ◌-◌};
 ghost use Rattle.memory.specs.Sums.{capped};
 ghost use Rattle.refusal.specs.RefusalKinds.{kind_number};

@@ -1,4 +1,6 @@
 // What a walk passes over outside its cycle, at the front of a slice: the content of a string, a chunk, a head that is refused.
+#![tactic(auto)]
+
 ghost use Rattle.std.specs.Prelude.{◌≡◌, ◌/◌, length, drop, get_or};
 ghost use Rattle.cbor.specs.Heads.{major_number, major_of, strings};
 ghost use Rattle.cbor.specs.Decode.{content_at, chunk_at};

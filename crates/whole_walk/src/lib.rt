@@ -1,5 +1,7 @@
 // The whole walk over items: where each ends, or why it is refused. An item walker gets a slice that starts at its item, and hands the part that starts at
 // the next item on.
+#![tactic(auto)]
+
 ghost use Rattle.std.specs.Prelude.{◌≡◌, suc, ◌<◌, length, drop};
 ghost use Rattle.cbor.specs.Decode.{item};
 ghost use Rattle.walk_answer.specs.WalkAnswers.{pass_told, told_of, pass_of, one_of, all_of, tag_of, until_by, Headed, Within};

@@ -1,4 +1,6 @@
 // Words and simple values.
+#![tactic(auto)]
+
 ghost use Rattle.std.specs.Prelude.{◌≡◌, ◌+◌, ◌≤◌, length, drop};
 ghost use Rattle.notation.specs.Words.{same, is_plain_decimal, simple_token, worded};
 ghost use Rattle.notation.specs.Cutting.{starts_with, after_minus};

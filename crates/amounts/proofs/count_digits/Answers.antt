@@ -1,0 +1,20 @@
+-- `amounts::count_digits` meets its contract.
+-- Assumes nothing.
+use Rattle.amounts.proofs.AmountCode.{tally-start, tally-base, tally-step, tally-stop, tally-end}
+use Prim.Native.Nat.{◌-◌}
+use Rattle.amounts.proofs.count_digits.Goals as goal
+
+pub loop-at-init : goal.loop-at-init
+loop-at-init c = search tally-start
+
+pub returns-then-radix-d : goal.returns-then-radix-d
+returns-then-radix-d c = search tally-stop
+
+pub with_digit-amount-requires : goal.with_digit-amount-requires
+with_digit-amount-requires c = search tally-base
+
+pub loop-at-preserved : goal.loop-at-preserved
+loop-at-preserved c = search tally-step
+
+pub returns : goal.returns
+returns c = search tally-end

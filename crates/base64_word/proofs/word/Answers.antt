@@ -1,0 +1,20 @@
+-- `base64_word::word` meets its contract.
+-- Assumes nothing.
+use Prim.Native.Nat.{◌-◌}
+use Rattle.base64_word.proofs.WordCode.{weighed-start, weighed-high, weighed-sum, weighed-on, weighed-end}
+use Rattle.base64_word.proofs.word.Goals as goal
+
+pub loop-k-init : goal.loop-k-init
+loop-k-init c = search weighed-start
+
+pub overflow_mul-w : goal.overflow_mul-w
+overflow_mul-w c = search weighed-high
+
+pub overflow_add-w : goal.overflow_add-w
+overflow_add-w c = search weighed-sum
+
+pub loop-k-preserved : goal.loop-k-preserved
+loop-k-preserved c = search weighed-on
+
+pub returns : goal.returns
+returns c = search weighed-end

@@ -1,0 +1,10 @@
+-- `decimals::digit` meets its contract.
+-- Assumes nothing.
+use Rattle.decimals.proofs.DigitCode.{worth-sub, worth-is}
+use Rattle.decimals.proofs.digit.Goals as goal
+
+pub overflow_sub-result : goal.overflow_sub-result
+overflow_sub-result c = search worth-sub
+
+pub returns : goal.returns
+returns c = search worth-is

@@ -1,0 +1,10 @@
+-- `decimals::ends` meets its contract.
+-- Assumes nothing.
+use Rattle.decimals.proofs.DigitCode.{ends-ways}
+use Rattle.decimals.proofs.ends.Goals as goal
+
+pub returns-then-text-at : goal.returns-then-text-at
+returns-then-text-at c = search ends-ways
+
+pub returns : goal.returns
+returns c = search ends-ways

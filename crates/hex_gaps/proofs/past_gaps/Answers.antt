@@ -1,0 +1,17 @@
+-- `hex_gaps::past_gaps` meets its contract.
+-- Assumes nothing.
+use Prim.Native.Nat.{◌-◌}
+use Rattle.hex_gaps.proofs.BlankCode.{gaps-start, gaps-on, gaps-stop, gaps-end}
+use Rattle.hex_gaps.proofs.past_gaps.Goals as goal
+
+pub loop-at-init : goal.loop-at-init
+loop-at-init c = search gaps-start
+
+pub returns-then-next-at : goal.returns-then-next-at
+returns-then-next-at c = search gaps-stop
+
+pub loop-at-preserved : goal.loop-at-preserved
+loop-at-preserved c = search gaps-on
+
+pub returns : goal.returns
+returns c = search gaps-end

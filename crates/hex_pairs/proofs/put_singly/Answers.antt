@@ -1,0 +1,18 @@
+-- `hex_pairs::put_singly` meets its contract.
+-- Assumes nothing.
+use Prim.Native.Nat.{◌-◌}
+use Rattle.hex_pairs.proofs.PairsCode.{singly-start, pairs-on, singly-end, pair-digits}
+use borrow.Author.Rules.{rules}
+use Rattle.hex_pairs.proofs.put_singly.Goals as goal
+
+pub loop-i-init : goal.loop-i-init
+loop-i-init c = (search rules, search singly-start)
+
+pub put_pair-p-requires : goal.put_pair-p-requires
+put_pair-p-requires c = search pair-digits
+
+pub loop-i-preserved : goal.loop-i-preserved
+loop-i-preserved c = (search rules, search pairs-on)
+
+pub returns : goal.returns
+returns c = search singly-end

@@ -1,0 +1,10 @@
+-- `printer::separator` meets its contract.
+-- Assumes nothing.
+use Rattle.printer.proofs.PrintSeveral.{separator-ways}
+use Rattle.printer.proofs.separator.Goals as goal
+
+pub returns-then-first : goal.returns-then-first
+returns-then-first c = search separator-ways
+
+pub returns : goal.returns
+returns c = search separator-ways

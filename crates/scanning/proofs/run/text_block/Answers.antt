@@ -1,0 +1,14 @@
+-- `scanning::run::text_block` meets its contract.
+-- Assumes nothing.
+use Prim.Native.Nat.{◌-◌}
+use Rattle.scanning.proofs.RunCode.{firsts-start, firsts-on, firsts-end}
+use Rattle.scanning.proofs.run.text_block.Goals as goal
+
+pub loop-i-init : goal.loop-i-init
+loop-i-init c = search firsts-start
+
+pub loop-i-preserved : goal.loop-i-preserved
+loop-i-preserved c = search firsts-on
+
+pub returns : goal.returns
+returns c = search firsts-end

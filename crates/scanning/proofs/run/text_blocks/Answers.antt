@@ -1,0 +1,14 @@
+-- `scanning::run::text_blocks` meets its contract.
+-- Assumes nothing.
+use Prim.Native.Nat.{◌-◌}
+use Rattle.scanning.proofs.RunCode.{run-start, run-block, run-part}
+use Rattle.scanning.proofs.run.text_blocks.Goals as goal
+
+pub loop-at-init : goal.loop-at-init
+loop-at-init c = search run-start
+
+pub returns-then-n-lt32 : goal.returns-then-n-lt32
+returns-then-n-lt32 c = search run-part
+
+pub loop-at-preserved : goal.loop-at-preserved
+loop-at-preserved c = search run-block

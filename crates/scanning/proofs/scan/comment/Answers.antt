@@ -1,0 +1,23 @@
+-- `scanning::scan::comment` meets its contract.
+-- Assumes nothing.
+use Prim.Native.Nat.{◌-◌}
+use Rattle.scanning.proofs.ScanCode.{comment-start, comment-on, comment-ways}
+use Rattle.scanning.proofs.scan.comment.Goals as goal
+
+pub loop-at-init : goal.loop-at-init
+loop-at-init c = search comment-start
+
+pub returns-then-text-stop : goal.returns-then-text-stop
+returns-then-text-stop c = search comment-ways
+
+pub returns-then-b-end : goal.returns-then-b-end
+returns-then-b-end c = search comment-ways
+
+pub returns-then-not-in_comment : goal.returns-then-not-in_comment
+returns-then-not-in_comment c = search comment-ways
+
+pub loop-at-preserved : goal.loop-at-preserved
+loop-at-preserved c = search comment-on
+
+pub returns : goal.returns
+returns c = search comment-ways

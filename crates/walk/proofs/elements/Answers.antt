@@ -1,0 +1,7 @@
+-- `walk::elements` meets its contract.
+-- Assumes nothing.
+use Rattle.quick_walk.proofs.QuickWays.{quick-told}
+use Rattle.walk.proofs.elements.Goals as goal
+
+pub returns : goal.returns
+returns c = search quick-told
