@@ -154,7 +154,7 @@ def imports(lines, body):
             name = it.split(" as ")[-1].strip()
             if "◌" in name:
                 ops = [p for p in name.split("◌") if p]
-                if all(o in body for o in ops):
+                if all(re.search(r"(^|[\s(])" + re.escape(o) + r"($|[\s)])", body, re.M) for o in ops):
                     keep.append(it)
             elif name in words or (not TOKEN.fullmatch(name) and name in body):
                 keep.append(it)

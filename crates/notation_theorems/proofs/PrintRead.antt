@@ -17,7 +17,7 @@ use Rattle.cbor.proofs.Results.{refuse-not-ok}
 use Rattle.notation.specs.Classes.{blank, class_number, class_rows, class_in, class_of, is}
 use Rattle.notation.specs.Scanning.{skip, skip_from, skipped}
 use Rattle.notation.specs.Indicators.{Indicator, absent}
-use Rattle.notation.specs.Tokens.{bracket, brace, leaf, literal, Shape, square, curly, round, Token, begins, closes}
+use Rattle.notation.specs.Tokens.{leaf, literal, Shape, square, curly, round, Token, begins, closes}
 use Rattle.notation.specs.Cutting.{cut_by, cut, place, placed, next}
 use Rattle.notation.specs.Form.{Position, at_start, behind_comma, Wanted, either, only, Name, one, items, pairs, chunks, Closed, Value, give, then, shape_number, closing_rule, tag_rule, after_tag, inside, literal_item, beginning, one_rule, add_item, after_item, items_rule, after_value, after_key, pairs_rule, add_chunk, after_chunk, is_wanted, chunk_rule, chunks_rule, rules, obey, reads}
 use Rattle.notation.specs.Printing.{decimal_of, indicator_of, print_string, print_chunks, print_chunked, size_of, print_item, print_all, print_rest, print_all₂, print_rest₂}

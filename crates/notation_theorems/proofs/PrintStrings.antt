@@ -1,5 +1,5 @@
 -- Printed strings are cut as themselves, before every text that cannot go on in a token.
-use Prim.Native.Nat.{ℕ, ◌+◌, ◌-◌, ◌*◌, ◌/◌, ◌%◌, ◌≤◌, ◌<◌}
+use Prim.Native.Nat.{ℕ, ◌+◌, ◌*◌, ◌/◌, ◌%◌, ◌≤◌, ◌<◌}
 use native.Mathlib.Omega.{arith}
 use mathlib.Core.Path.{◌≡◌, refl, ◌∙◌}
 use mathlib.Core.Bool.{Bool, true, false, ◌||◌, not, false≢true}
@@ -11,7 +11,7 @@ use Rattle.cbor.specs.Ascii.{ascii}
 use Rattle.cbor.specs.Refusals.{ok, bind}
 use Rattle.cbor.specs.Widths.{Width}
 use Rattle.cbor.specs.Items.{Kind, byte_string, text_string, definite, indefinite}
-use Rattle.cbor.specs.Utf8.{◌to◌, is_in}
+use Rattle.cbor.specs.Utf8.{is_in}
 use Rattle.cbor.specs.Valid.{Bytes, ValidString}
 use Rattle.cbor.proofs.Table.{every, between}
 use Rattle.notation.specs.Classes.{blank, slash, hash, class_number, class_rows, class_in, class_of, is, is_word}

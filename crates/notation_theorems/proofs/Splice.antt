@@ -1,7 +1,7 @@
 -- Another text in the place of an item's text: for any reader that is made of others, one behind another.
 use Prim.Native.Nat.{ℕ}
 use mathlib.Core.Path.{◌≡◌, refl, ◌∙◌}
-use mathlib.Core.List.{List, [], ◌++◌, append_assoc}
+use mathlib.Core.List.{List, ◌++◌, append_assoc}
 use Rattle.cbor.specs.Refusals.{Result, ok, refuse, bind}
 use Rattle.cbor.specs.Items.{Item}
 use Rattle.cbor.proofs.Results.{refuse-not-ok}

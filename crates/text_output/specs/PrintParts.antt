@@ -1,5 +1,5 @@
 -- Of the code: what is written, and what the code has for the parts of a head.
-use Rattle.std.specs.Prelude.{ℕ, ◌+◌, ◌^◌, ◌<◌, ◌≡◌, Bool, true, false, List, [], ◌∷◌, ◌++◌, eqb, length}
+use Rattle.std.specs.Prelude.{ℕ, ◌^◌, ◌<◌, ◌≡◌, Bool, true, false, List, [], ◌∷◌, ◌++◌, eqb, length}
 use Rattle.cbor.specs.Ascii.{ascii}
 use Rattle.memory.specs.Buffer.{clipped}
 use Rattle.cbor.specs.Widths.{Width, w0, w1, w2, w4, w8}

@@ -1,7 +1,6 @@
 -- `amounts::count_digits` meets its contract.
 -- Assumes nothing.
 use Rattle.amounts.proofs.AmountCode.{tally-start, tally-base, tally-step, tally-stop, tally-end}
-use Prim.Native.Nat.{◌-◌}
 use Rattle.amounts.proofs.count_digits.Goals as goal
 
 pub loop-at-init : goal.loop-at-init

@@ -1,6 +1,5 @@
 -- `base64_word::put_fours` meets its contract.
 -- Assumes nothing.
-use Prim.Native.Nat.{◌-◌}
 use Rattle.base64_word.proofs.WordCode.{fours-start, four-fits, late-same, fours-on, fours-end}
 use borrow.Author.Rules.{rules}
 use Rattle.base64_word.proofs.put_fours.Goals as goal

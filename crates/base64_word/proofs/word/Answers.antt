@@ -1,6 +1,5 @@
 -- `base64_word::word` meets its contract.
 -- Assumes nothing.
-use Prim.Native.Nat.{◌-◌}
 use Rattle.base64_word.proofs.WordCode.{weighed-start, weighed-high, weighed-sum, weighed-on, weighed-end}
 use Rattle.base64_word.proofs.word.Goals as goal
 

@@ -1,7 +1,6 @@
 -- `buffer::copy_at` meets its contract.
 -- Assumes nothing.
 use Rattle.buffer.proofs.EmitCode.{copy_start, copy_step, copy-long, copy-not, copy-end}
-use Prim.Native.Nat.{◌-◌}
 use Rattle.buffer.proofs.copy_at.Goals as goal
 
 pub returns-then-not-fits : goal.returns-then-not-fits

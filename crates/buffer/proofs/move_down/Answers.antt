@@ -1,7 +1,6 @@
 -- `buffer::move_down` meets its contract.
 -- Assumes nothing.
 use Rattle.buffer.proofs.EmitCode.{lower-start, lower-step, lower-ways}
-use Prim.Native.Nat.{◌-◌}
 use Rattle.buffer.proofs.move_down.Goals as goal
 
 pub returns-then-not-fits : goal.returns-then-not-fits

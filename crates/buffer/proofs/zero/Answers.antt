@@ -1,7 +1,6 @@
 -- `buffer::zero` meets its contract.
 -- Assumes nothing.
 use Rattle.buffer.proofs.EmitCode.{zero-start, zero-step, zero-ways}
-use Prim.Native.Nat.{◌-◌}
 use Rattle.buffer.proofs.zero.Goals as goal
 
 pub returns-then-not-fits : goal.returns-then-not-fits

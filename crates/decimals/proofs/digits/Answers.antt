@@ -1,6 +1,5 @@
 -- `decimals::digits` meets its contract.
 -- Assumes nothing.
-use Rattle.std.proofs.Common.{◌-◌}
 use Rattle.decimals.proofs.DigitCode.{tally-start, tally-digit, tally-on}
 use Rattle.decimals.proofs.digits.Goals as goal
 

@@ -1,7 +1,6 @@
 -- `head::read_number` meets its contract.
 -- Assumes nothing.
 use Rattle.head.proofs.HeadCode.{number-start, number-mul, number-add, number_step, number-end}
-use Prim.Native.Nat.{◌-◌}
 use Rattle.head.proofs.read_number.Goals as goal
 
 pub loop-i-init : goal.loop-i-init

@@ -1,6 +1,5 @@
 -- `hex_body::put_close` meets its contract.
 -- Assumes nothing.
-use Prim.Native.Nat.{◌-◌}
 use Rattle.literal_body.proofs.ReadingCode.{progress_start}
 use Rattle.hex_body.proofs.HexCode.{close-on, close-gap, close-less}
 use borrow.Author.Rules.{rules}

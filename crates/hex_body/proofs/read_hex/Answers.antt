@@ -1,6 +1,5 @@
 -- `hex_body::read_hex` meets its contract.
 -- Assumes nothing.
-use Prim.Native.Nat.{◌-◌}
 use Rattle.literal_body.proofs.ReadingCode.{progress_start}
 use Rattle.hex_body.proofs.HexCode.{read-end, read-size, read-sum, read_out, read-less, read-on}
 use Rattle.hex_body.proofs.read_hex.Goals as goal

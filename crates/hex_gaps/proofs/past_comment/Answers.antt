@@ -1,6 +1,5 @@
 -- `hex_gaps::past_comment` meets its contract.
 -- Assumes nothing.
-use Prim.Native.Nat.{◌-◌}
 use native.Mathlib.Omega.{arith}
 use Rattle.hex_gaps.proofs.BlankCode.{comment-start, comment-ends, comment-goes, comment-none}
 use Rattle.hex_gaps.proofs.past_comment.Goals as goal

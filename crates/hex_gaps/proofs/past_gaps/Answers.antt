@@ -1,6 +1,5 @@
 -- `hex_gaps::past_gaps` meets its contract.
 -- Assumes nothing.
-use Prim.Native.Nat.{◌-◌}
 use Rattle.hex_gaps.proofs.BlankCode.{gaps-start, gaps-on, gaps-stop, gaps-end}
 use Rattle.hex_gaps.proofs.past_gaps.Goals as goal
 

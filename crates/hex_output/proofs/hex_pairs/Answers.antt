@@ -1,7 +1,6 @@
 -- `hex_output::hex_pairs` meets its contract.
 -- Assumes nothing.
 use Rattle.hex_output.proofs.HexCode.{pairs_start, pairs-second, pairs-on, pairs-same, pairs_end}
-use Prim.Native.Nat.{◌-◌}
 use Rattle.hex_output.proofs.hex_pairs.Goals as goal
 
 pub loop-i-init : goal.loop-i-init

@@ -1,6 +1,5 @@
 -- `hex_pairs::digit_block` meets its contract.
 -- Assumes nothing.
-use Prim.Native.Nat.{◌-◌}
 use Rattle.hex_pairs.proofs.PairsCode.{firsts-start, firsts-on, firsts-end}
 use Rattle.hex_pairs.proofs.digit_block.Goals as goal
 

@@ -1,6 +1,5 @@
 -- `hex_pairs::digit_blocks` meets its contract.
 -- Assumes nothing.
-use Prim.Native.Nat.{◌-◌}
 use Rattle.hex_pairs.proofs.PairsCode.{run-start, run-block, run-part}
 use Rattle.hex_pairs.proofs.digit_blocks.Goals as goal
 

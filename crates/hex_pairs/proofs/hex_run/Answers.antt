@@ -1,6 +1,5 @@
 -- `hex_pairs::hex_run` meets its contract.
 -- Assumes nothing.
-use Prim.Native.Nat.{◌-◌}
 use Rattle.hex_pairs.proofs.PairsCode.{run_on}
 use Rattle.hex_pairs.proofs.hex_run.Goals as goal
 

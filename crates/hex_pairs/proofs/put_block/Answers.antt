@@ -1,6 +1,5 @@
 -- `hex_pairs::put_block` meets its contract.
 -- Assumes nothing.
-use Prim.Native.Nat.{◌-◌}
 use Rattle.hex_pairs.proofs.PairsCode.{block_start, block-high, block-byte, block_on, block-ways}
 use Rattle.hex_pairs.proofs.put_block.Goals as goal
 

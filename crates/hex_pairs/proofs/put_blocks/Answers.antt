@@ -1,6 +1,5 @@
 -- `hex_pairs::put_blocks` meets its contract.
 -- Assumes nothing.
-use Prim.Native.Nat.{◌-◌}
 use Rattle.hex_pairs.proofs.PairsCode.{blocks_start, blocks-on, blocks_end, block-digits}
 use borrow.Author.Rules.{rules}
 use Rattle.hex_pairs.proofs.put_blocks.Goals as goal

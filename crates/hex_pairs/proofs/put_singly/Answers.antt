@@ -1,6 +1,5 @@
 -- `hex_pairs::put_singly` meets its contract.
 -- Assumes nothing.
-use Prim.Native.Nat.{◌-◌}
 use Rattle.hex_pairs.proofs.PairsCode.{singly-start, pairs-on, singly-end, pair-digits}
 use borrow.Author.Rules.{rules}
 use Rattle.hex_pairs.proofs.put_singly.Goals as goal

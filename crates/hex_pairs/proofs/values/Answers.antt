@@ -1,6 +1,5 @@
 -- `hex_pairs::values` meets its contract.
 -- Assumes nothing.
-use Prim.Native.Nat.{◌-◌}
 use Rattle.hex_pairs.proofs.PairsCode.{values-start, values-digit, values-on, values-end}
 use Rattle.hex_pairs.proofs.values.Goals as goal
 

@@ -1,6 +1,5 @@
 -- `hex_weight::pair` meets its contract.
 -- Assumes nothing.
-use Prim.Native.Nat.{◌-◌}
 use Rattle.hex_weight.proofs.WeightCode.{weighed-start, weighed-high, weighed-sum, weighed-on, weighed-end}
 use Rattle.hex_weight.proofs.pair.Goals as goal
 

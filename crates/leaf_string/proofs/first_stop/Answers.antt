@@ -1,4 +1,3 @@
-use Prim.Native.Nat.{◌-◌}
 use Rattle.leaf_string.proofs.StringCode.{stops-start, stops-on, stops_end}
 use Rattle.leaf_string.proofs.first_stop.Goals as goal
 

@@ -1,6 +1,5 @@
 -- `literal_body::scan_body` meets its contract.
 -- Assumes nothing.
-use Prim.Native.Nat.{◌-◌}
 use Rattle.literal_body.proofs.LiteralCode.{body-start, body-on, raw-ways}
 use Rattle.literal_body.proofs.scan_body.Goals as goal
 

@@ -1,7 +1,6 @@
 -- `plain_bytes::is_plain` meets its contract.
 -- Assumes nothing.
 use Rattle.plain_bytes.proofs.PlainRuns.{most-start, most-on, most-end}
-use Prim.Native.Nat.{◌-◌}
 use Rattle.plain_bytes.proofs.is_plain.Goals as goal
 
 pub loop-i-init : goal.loop-i-init

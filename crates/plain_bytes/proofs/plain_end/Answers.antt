@@ -1,7 +1,6 @@
 -- `plain_bytes::plain_end` meets its contract.
 -- Assumes nothing.
 use Rattle.plain_bytes.proofs.PlainRuns.{run-start, run_on}
-use Prim.Native.Nat.{◌-◌}
 use Rattle.plain_bytes.proofs.plain_end.Goals as goal
 
 pub loop-end-init : goal.loop-end-init

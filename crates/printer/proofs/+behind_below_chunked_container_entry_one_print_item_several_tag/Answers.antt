@@ -1,6 +1,5 @@
 -- The printers meet their contracts: each way to a return is a lemma of `PrintWays` or, for the loop, of `PrintSeveral`.
 -- Assumes nothing.
-use Prim.Native.Nat.{◌-◌}
 use native.Mathlib.Omega.{arith}
 use Rattle.printer.proofs.PrintSeveral.{turn-start, turn-less, turn-stuck, turn_on, turn_end}
 use Rattle.printer.proofs.PrintCycle.{headed}

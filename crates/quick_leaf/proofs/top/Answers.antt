@@ -1,7 +1,6 @@
 -- `quick_leaf::top` meets its contract.
 -- Assumes nothing.
 use Rattle.quick_leaf.proofs.LeafCode.{top_start, top-on, top-end}
-use Prim.Native.Nat.{◌-◌}
 use Rattle.quick_leaf.proofs.top.Goals as goal
 
 pub loop-i-init : goal.loop-i-init

@@ -8,7 +8,6 @@ use Rattle.walk_answer.proofs.WalkCycle.{run-start}
 use Rattle.quick_walk.proofs.LeafRun.{leaf-inside, leaf-less, leaf-on}
 use Rattle.quick_walk.proofs.QuickWays.{quick-not, quick-end, open-inside, level-some, deeper-small, small-part, small-deeper, shifts-deeper, shifts-open, deeper, list-ways, part-ways, tag-ways, step-add, step-size, step_less, step-on, over-halves, step-ways}
 use native.Mathlib.Omega.{arith}
-use Prim.Native.Nat.{◌-◌}
 use Rattle.quick_walk.proofs.+list_part_run_tag.Goals as goal
 
 pub list-returns-then-end-eq0 : goal.list-returns-then-end-eq0

@@ -2,7 +2,6 @@
 -- Assumes nothing.
 use borrow.Author.Tests.{not-false}
 use native.Mathlib.Omega.{arith}
-use Prim.Native.Nat.{◌-◌}
 use Rattle.quoted.proofs.QuotedPieces.{read-start, read-on, read-ways}
 use Rattle.quoted.proofs.read_quoted.Goals as goal
 

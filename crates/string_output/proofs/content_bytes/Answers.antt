@@ -1,7 +1,6 @@
 -- `string_output::content_bytes` meets its contract.
 -- Assumes nothing.
 use Rattle.string_output.proofs.ContentCode.{fill_start, fill_step, fill_end, fill-same}
-use Prim.Native.Nat.{◌-◌}
 use Rattle.string_output.proofs.content_bytes.Goals as goal
 
 pub loop-i-init : goal.loop-i-init

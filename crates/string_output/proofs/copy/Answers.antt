@@ -1,7 +1,6 @@
 -- `string_output::copy` meets its contract.
 -- Assumes nothing.
 use Rattle.string_output.proofs.ContentCode.{to_start, to-on, to_same, to_end}
-use Prim.Native.Nat.{◌-◌}
 use Rattle.string_output.proofs.copy.Goals as goal
 
 pub loop-i-init : goal.loop-i-init

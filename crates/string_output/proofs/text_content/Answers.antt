@@ -3,7 +3,6 @@
 use Rattle.plain_bytes.proofs.PlainRuns.{run-plain}
 use Rattle.string_output.proofs.ContentCode.{fill_on, fill-less}
 use Rattle.string_output.proofs.ContentCode.{fill_start, fill-same, fill_end}
-use Prim.Native.Nat.{◌-◌}
 use Rattle.string_output.proofs.text_content.Goals as goal
 
 pub loop-i-init : goal.loop-i-init

@@ -1,6 +1,5 @@
 -- `text_output::put_all` meets its contract.
 -- Assumes nothing.
-use Prim.Native.Nat.{◌-◌}
 use Rattle.text_output.proofs.PrintLeaves.{copy_start, copy_step, copy-end, copy-same}
 use Rattle.text_output.proofs.put_all.Goals as goal
 

@@ -5,7 +5,6 @@ use Rattle.walk_parts.proofs.StringCode.{head-room, head-inside}
 use Rattle.walk_answer.proofs.WalkCycle.{other-ways, run-start, run-ways, run-less, run_on}
 use Rattle.walk_parts.proofs.WalkItems.{tag-turns, behind-ways, map-ways, no-head, one-room, one_inside, one-headed, one-ways}
 use native.Mathlib.Omega.{arith}
-use Prim.Native.Nat.{◌-◌}
 use Rattle.whole_walk.proofs.+behind_map_one_other_several_slowly_tag.Goals as goal
 
 pub behind-slice_bounds-several-count : goal.behind-slice_bounds-several-count

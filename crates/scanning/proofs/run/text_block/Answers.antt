@@ -1,6 +1,5 @@
 -- `scanning::run::text_block` meets its contract.
 -- Assumes nothing.
-use Prim.Native.Nat.{◌-◌}
 use Rattle.scanning.proofs.RunCode.{firsts-start, firsts-on, firsts-end}
 use Rattle.scanning.proofs.run.text_block.Goals as goal
 

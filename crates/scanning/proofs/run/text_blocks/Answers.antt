@@ -1,6 +1,5 @@
 -- `scanning::run::text_blocks` meets its contract.
 -- Assumes nothing.
-use Prim.Native.Nat.{◌-◌}
 use Rattle.scanning.proofs.RunCode.{run-start, run-block, run-part}
 use Rattle.scanning.proofs.run.text_blocks.Goals as goal
 

@@ -1,6 +1,5 @@
 -- `scanning::run::text_run` meets its contract.
 -- Assumes nothing.
-use Prim.Native.Nat.{◌-◌}
 use Rattle.scanning.proofs.RunCode.{run_on}
 use Rattle.scanning.proofs.run.text_run.Goals as goal
 

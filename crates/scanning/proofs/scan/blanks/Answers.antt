@@ -1,6 +1,5 @@
 -- `scanning::scan::blanks` meets its contract.
 -- Assumes nothing.
-use Prim.Native.Nat.{◌-◌}
 use Rattle.scanning.proofs.ScanCode.{blanks-start, blanks-on, blanks-stop, blanks-end}
 use Rattle.scanning.proofs.scan.blanks.Goals as goal
 

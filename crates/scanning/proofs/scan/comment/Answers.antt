@@ -1,6 +1,5 @@
 -- `scanning::scan::comment` meets its contract.
 -- Assumes nothing.
-use Prim.Native.Nat.{◌-◌}
 use Rattle.scanning.proofs.ScanCode.{comment-start, comment-on, comment-ways}
 use Rattle.scanning.proofs.scan.comment.Goals as goal
 

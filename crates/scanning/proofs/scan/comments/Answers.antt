@@ -1,6 +1,5 @@
 -- `scanning::scan::comments` meets its contract.
 -- Assumes nothing.
-use Prim.Native.Nat.{◌-◌}
 use Rattle.scanning.proofs.ScanCode.{skim-start, skim-begins, skim-on, skim-stop, skim-end}
 use Rattle.scanning.proofs.scan.comments.Goals as goal
 

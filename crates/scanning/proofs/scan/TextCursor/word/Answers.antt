@@ -1,7 +1,6 @@
 -- `scanning::scan::TextCursor::word` meets its contract.
 -- Assumes nothing.
 use Rattle.scanning.proofs.ScanCode.{word-start, word-step, word-stop, word_end}
-use Prim.Native.Nat.{◌-◌}
 use Rattle.scanning.proofs.scan.TextCursor.word.Goals as goal
 
 pub loop-at-init : goal.loop-at-init
