@@ -21,7 +21,7 @@ use Rattle.amounts.specs.AmountAnswers.{heavy, Counts, Base, bound64, Grown, flo
 use Rattle.amounts.specs.declared.Amount.{Amount}
 use Rattle.literal_body.proofs.MatchCode.{arm}
 use Rattle.literal_body.proofs.LiteralCode.{digit-yes, digit-no, digit-number}
-use Rattle.scanning.proofs.Marked.{length_marked, at_byte, byte_at, at-end, past_end, span_none, span_more, Running, run-start, run_step, run-stop, run_end}
+use Rattle.scanning.proofs.Marked.{length_marked, at_byte, byte_at, at-end, past_end, span_none, span_more, Running, run-start, run_step, run_stop, run_end}
 
 -- THE LIMIT
 same_test : (a b c d : ℕ) → (a ≤ b → c ≤ d) → (c ≤ d → a ≤ b) → leb a b ≡ leb c d
@@ -44,12 +44,12 @@ unfoldable pub served : ℕ → ℕ
 served k = min (k - 1) (17 - k)
 
 module _ {radix r : ℕ} where
-  pub bound-row : {k : ℕ} → radix ≡ k → T (eqb r (bound64 k)) → r ≡ bound64 radix
-  bound-row e t = arm bound64 e t
+  pub bound_row : {k : ℕ} → radix ≡ k → T (eqb r (bound64 k)) → r ≡ bound64 radix
+  bound_row e t = arm bound64 e t
 
-  pub bound-none : 0 ≡ served radix → 2 ≤ radix → radix ≤ 16 → r ≡ bound64 radix
+  pub bound_none : 0 ≡ served radix → 2 ≤ radix → radix ≤ 16 → r ≡ bound64 radix
   unfolding served
-  bound-none e l m = absurd (omega arith)
+  bound_none e l m = absurd (omega arith)
 
 module _ {radix d : ℕ} (v : ℕ) (base : Base radix d) {b : ℕ} (e : b ≡ bound64 radix) where
   pub limit-over : b < v → false ≡ leb (v * radix + d) (limit w8)
@@ -59,34 +59,34 @@ module _ {radix d : ℕ} (v : ℕ) (base : Base radix d) {b : ℕ} (e : b ≡ bo
       sym (lt-leb (v * radix + d) 0xffff_ffff_ffff_ffff (omega arith))
 
   module _ (h : v ≤ b) where
-    pub limit-sub : v * radix ≤ 0xffff_ffff_ffff_ffff
+    pub limit_sub : v * radix ≤ 0xffff_ffff_ffff_ffff
     unfolding bound64 limit
-    limit-sub = (le-div_iff_mul-le {k = radix} {x = v} {y = 0xffff_ffff_ffff_ffff} (omega (arith, base.least))).0 (rw (sym e) h)
+    limit_sub = (le-div_iff_mul-le {k = radix} {x = v} {y = 0xffff_ffff_ffff_ffff} (omega (arith, base.least))).0 (rw (sym e) h)
 
-    pub limit-mul : Fits bits64 (v * radix)
-    limit-mul = record { fits = omega (arith, limit-sub) }
+    pub limit_mul : Fits bits64 (v * radix)
+    limit_mul = record { fits = omega (arith, limit_sub) }
 
     pub limit_is : leb d (0xffff_ffff_ffff_ffff - v * radix) ≡ leb (v * radix + d) (limit w8)
     unfolding limit
-    limit_is = same_test d (0xffff_ffff_ffff_ffff - v * radix) (v * radix + d) 0xffff_ffff_ffff_ffff (λ l. omega (arith, limit-sub)) (λ l. omega (arith, limit-sub))
+    limit_is = same_test d (0xffff_ffff_ffff_ffff - v * radix) (v * radix + d) 0xffff_ffff_ffff_ffff (λ l. omega (arith, limit_sub)) (λ l. omega (arith, limit_sub))
 
 module _ {radix d : ℕ} (v : ℕ) (base : Base radix d) where
-  pub base-less : Base radix (d - 1)
-  base-less = record { least = base.least; most = base.most; digit = omega (arith, base.digit) }
+  pub base_less : Base radix (d - 1)
+  base_less = record { least = base.least; most = base.most; digit = omega (arith, base.digit) }
 
-  pub base-last : Base radix (radix - 1)
-  base-last = record { least = base.least; most = base.most; digit = omega (arith, base.least) }
+  pub base_last : Base radix (radix - 1)
+  base_last = record { least = base.least; most = base.most; digit = omega (arith, base.least) }
 
-  pub nearly-digit : (t : Bool) → 0 < d → t ≡ leb (v * radix + (d - 1)) (limit w8) → t ≡ leb (v * radix + d) 0x1_0000_0000_0000_0000
+  pub nearly_digit : (t : Bool) → 0 < d → t ≡ leb (v * radix + (d - 1)) (limit w8) → t ≡ leb (v * radix + d) 0x1_0000_0000_0000_0000
   unfolding limit
-  nearly-digit t h e = e ∙ same_test (v * radix + (d - 1)) 0xffff_ffff_ffff_ffff (v * radix + d) 0x1_0000_0000_0000_0000 (λ l. omega arith) (λ l. omega arith)
+  nearly_digit t h e = e ∙ same_test (v * radix + (d - 1)) 0xffff_ffff_ffff_ffff (v * radix + d) 0x1_0000_0000_0000_0000 (λ l. omega arith) (λ l. omega arith)
 
-  pub nearly-none : d ≤ 0 → v ≡ 0 → true ≡ leb (v * radix + d) 0x1_0000_0000_0000_0000
-  nearly-none h e = sym (le-leb (v * radix + d) 0x1_0000_0000_0000_0000 (rw e (omega arith)))
+  pub nearly_none : d ≤ 0 → v ≡ 0 → true ≡ leb (v * radix + d) 0x1_0000_0000_0000_0000
+  nearly_none h e = sym (le-leb (v * radix + d) 0x1_0000_0000_0000_0000 (rw e (omega arith)))
 
-  pub nearly-zero : (t : Bool) → d ≤ 0 → (v ≡ 0 → ⊥) → t ≡ leb ((v - 1) * radix + (radix - 1)) (limit w8) → t ≡ leb (v * radix + d) 0x1_0000_0000_0000_0000
+  pub nearly_zero : (t : Bool) → d ≤ 0 → (v ≡ 0 → ⊥) → t ≡ leb ((v - 1) * radix + (radix - 1)) (limit w8) → t ≡ leb (v * radix + d) 0x1_0000_0000_0000_0000
   unfolding limit
-  nearly-zero t h n e =
+  nearly_zero t h n e =
       let q : v ≡ (v - 1) + 1 = omega (arith, n) in
       let p : v * radix ≡ (v - 1) * radix + radix = ap (λ (k : ℕ). k * radix) q ∙ (add-mul (v - 1) 1 radix ∙ ap (λ (k : ℕ). (v - 1) * radix + k) (one-mul radix)) in
       e ∙ same_test ((v - 1) * radix + (radix - 1)) 0xffff_ffff_ffff_ffff (v * radix + d) 0x1_0000_0000_0000_0000
@@ -98,9 +98,9 @@ module _ (a : Amount) {radix d : ℕ} (base : Base radix d) where
   unfolding heavy
   counted c e = let i = rw e at c.is in omega (arith, c.small)
 
-  pub grow-over : a.over ≡ true → Grown a radix d (record { value = 1; over = true })
+  pub grow_over : a.over ≡ true → Grown a radix d (record { value = 1; over = true })
   unfolding heavy
-  grow-over e =
+  grow_over e =
       record { is = λ n c. let i = rw e at c.is in record { is = omega (arith, mul-le-mul_left n base.least); small = omega arith } }
 
   module _ (e : a.over ≡ false) (t : Bool) (h : t ≡ leb (a.value * radix + d) (limit w8)) where
@@ -115,44 +115,44 @@ module _ (a : Amount) {radix d : ℕ} (base : Base radix d) where
     unfolding limit
     beyond f = leb-false (a.value * radix + d) 0xffff_ffff_ffff_ffff (sym h ∙ f)
 
-    pub grow-mul : t ≡ true → Fits bits64 (a.value * radix)
-    grow-mul f = record { fits = omega (arith, within f) }
+    pub grow_mul : t ≡ true → Fits bits64 (a.value * radix)
+    grow_mul f = record { fits = omega (arith, within f) }
 
-    pub grow-add : t ≡ true → Fits bits64 (a.value * radix + d)
-    grow-add f = record { fits = omega (arith, within f) }
+    pub grow_add : t ≡ true → Fits bits64 (a.value * radix + d)
+    grow_add f = record { fits = omega (arith, within f) }
 
-    pub grow-fits : t ≡ true → Grown a radix d (record { value = a.value * radix + d; over = false })
+    pub grow_fits : t ≡ true → Grown a radix d (record { value = a.value * radix + d; over = false })
     unfolding heavy
-    grow-fits f = record { is = λ n c. record { is = omega (arith, value-is c, within f); small = within f } }
+    grow_fits f = record { is = λ n c. record { is = omega (arith, value-is c, within f); small = within f } }
 
-    pub grow-nearly : (u : Bool) → t ≡ false → u ≡ leb (a.value * radix + d) 0x1_0000_0000_0000_0000 → u ≡ true → Grown a radix d (record { value = 0; over = true })
+    pub grow_nearly : (u : Bool) → t ≡ false → u ≡ leb (a.value * radix + d) 0x1_0000_0000_0000_0000 → u ≡ true → Grown a radix d (record { value = 0; over = true })
     unfolding heavy
-    grow-nearly u f g k =
+    grow_nearly u f g k =
         let l = leb-true (a.value * radix + d) 0x1_0000_0000_0000_0000 (sym g ∙ k) in
         record { is = λ n c. record { is = omega (arith, value-is c, beyond f); small = omega arith } }
 
-    pub grow-above : (u : Bool) → t ≡ false → u ≡ leb (a.value * radix + d) 0x1_0000_0000_0000_0000 → u ≡ false → Grown a radix d (record { value = 1; over = true })
+    pub grow_above : (u : Bool) → t ≡ false → u ≡ leb (a.value * radix + d) 0x1_0000_0000_0000_0000 → u ≡ false → Grown a radix d (record { value = 1; over = true })
     unfolding heavy
-    grow-above u f g k =
+    grow_above u f g k =
         let l = leb-false (a.value * radix + d) 0x1_0000_0000_0000_0000 (sym g ∙ k) in
         record { is = λ n c. record { is = omega (arith, value-is c); small = omega arith } }
 
   -- a number that is small
   module _ (h : a.value ≤ 0x0fff_ffff_ffff_ffff) where
-    sure-within : a.value * radix + d ≤ 0xffff_ffff_ffff_ffff
-    sure-within = omega (arith, mul-le-mul_left a.value base.most, base.digit, base.most)
+    sure_within : a.value * radix + d ≤ 0xffff_ffff_ffff_ffff
+    sure_within = omega (arith, mul-le-mul_left a.value base.most, base.digit, base.most)
 
-    pub sure-mul : Fits bits64 (a.value * radix)
-    sure-mul = record { fits = omega (arith, sure-within) }
+    pub sure_mul : Fits bits64 (a.value * radix)
+    sure_mul = record { fits = omega (arith, sure_within) }
 
-    pub sure-add : Fits bits64 (a.value * radix + d)
-    sure-add = record { fits = omega (arith, sure-within) }
+    pub sure_add : Fits bits64 (a.value * radix + d)
+    sure_add = record { fits = omega (arith, sure_within) }
 
-    pub sure-grown : a.over ≡ false → Grown a radix d (record { value = a.value * radix + d; over = false })
+    pub sure_grown : a.over ≡ false → Grown a radix d (record { value = a.value * radix + d; over = false })
     unfolding limit
-    sure-grown e = grow-fits e true (sym (le-leb (a.value * radix + d) 0xffff_ffff_ffff_ffff sure-within)) refl
+    sure_grown e = grow_fits e true (sym (le-leb (a.value * radix + d) 0xffff_ffff_ffff_ffff sure_within)) refl
 
-pub ruleset grow-ways = (grow-over, grow-fits, grow-nearly, grow-above)
+pub ruleset grow_ways = (grow_over, grow_fits, grow_nearly, grow_above)
 
 -- DIGITS: the state of the loop
 pub record Tallying (s : List ℕ) (i radix first at : ℕ) (a : Amount) : Type 0 where
@@ -162,15 +162,15 @@ pub record Tallying (s : List ℕ) (i radix first at : ℕ) (a : Amount) : Type 
   pub least : 2 ≤ radix
   pub most : radix ≤ 16
 
-number-snoc : (radix v : ℕ) (l : List ℕ) (b : ℕ) → number_from radix v (l ++ (b ∷ [])) ≡ number_from radix v l * radix + digit_value b
+number_snoc : (radix v : ℕ) (l : List ℕ) (b : ℕ) → number_from radix v (l ++ (b ∷ [])) ≡ number_from radix v l * radix + digit_value b
 unfolding number_from
-number-snoc radix v [] b = refl
-number-snoc radix v (c ∷ l) b = number-snoc radix (v * radix + digit_value c) l b
+number_snoc radix v [] b = refl
+number_snoc radix v (c ∷ l) b = number_snoc radix (v * radix + digit_value c) l b
 
 module _ {s : List ℕ} {i radix first : ℕ} where
-  pub tally-start : ScansDigits s i radix first → Tallying s i radix first i (record { value = first; over = false })
+  pub tally_start : ScansDigits s i radix first → Tallying s i radix first i (record { value = first; over = false })
   unfolding heavy number_from
-  tally-start h =
+  tally_start h =
       record {
         running = run-start s (is_digit radix) i h.inside;
         counts = rw (span_none i (marked s)) (record { is = omega (arith, h.start); small = omega (arith, h.start) });
@@ -180,19 +180,19 @@ module _ {s : List ℕ} {i radix first : ℕ} where
       }
 
   module _ {at : ℕ} {a : Amount} (m : Tallying s i radix first at a) where
-    pub tally-base : {d : ℕ} → d < radix → Base radix d
-    tally-base h = record { least = m.least; most = m.most; digit = h }
+    pub tally_base : {d : ℕ} → d < radix → Base radix d
+    tally_base h = record { least = m.least; most = m.most; digit = h }
 
     module _ {d : ℕ} (h : at < length s) (e : d ≡ digit_number (get_or s at 0)) where
-      pub tally-step : {a' : Amount} → d < radix → Grown a radix d a' → Tallying s i radix first (at + 1) a'
+      pub tally_step : {a' : Amount} → d < radix → Grown a radix d a' → Tallying s i radix first (at + 1) a'
       unfolding is_floating
-      tally-step {a'} l g =
+      tally_step {a'} l g =
           let l' : digit_number (get_or s at 0) < radix = rw (sym e) l in
           let t = digit-yes radix (get_or s at 0) l' (omega (arith, m.most)) in
           let n = number_from radix first (span i at (marked s)) in
           let c : number_from radix first (span i (at + 1) (marked s)) ≡ n * radix + d =
           ap (number_from radix first) (span_more i at (marked s) m.running.ahead (omega (arith, length_marked s)))
-          ∙ (number-snoc radix first (span i at (marked s)) (get_or (marked s) at 0)
+          ∙ (number_snoc radix first (span i at (marked s)) (get_or (marked s) at 0)
           ∙ ap (λ (k : ℕ). n * radix + k) (ap digit_value (byte_at s at h) ∙ sym (e ∙ digit-number radix (get_or s at 0) t))) in
           record {
             running = run_step s (is_digit radix) i m.running h t;
@@ -202,52 +202,52 @@ module _ {s : List ℕ} {i radix first : ℕ} where
             most = m.most;
           }
 
-      pub tally-stop : radix ≤ d → Counted s i radix first (record { amount = a; next = at })
+      pub tally_stop : radix ≤ d → Counted s i radix first (record { amount = a; next = at })
       unfolding is_floating float_at
-      tally-stop l =
+      tally_stop l =
           let l' : radix ≤ digit_number (get_or s at 0) = rw (sym e) l in
           let t = digit-no radix (get_or s at 0) l' in
-          record { ran = run-stop s (is_digit radix) i m.running h t; counts = m.counts; floats = m.floats ∙ (rw (at_byte s at h) (rw (t, is_floating))) }
+          record { ran = run_stop s (is_digit radix) i m.running h t; counts = m.counts; floats = m.floats ∙ (rw (at_byte s at h) (rw (t, is_floating))) }
 
-    pub tally-end : length s ≤ at → Counted s i radix first (record { amount = a; next = at })
+    pub tally_end : length s ≤ at → Counted s i radix first (record { amount = a; next = at })
     unfolding is_digit is_floating float_at is_in
-    tally-end l =
+    tally_end l =
         let e : at ≡ length s = omega (arith, m.running.inside) in
         record { ran = run_end s (is_digit radix) i m.running l refl; counts = m.counts; floats = m.floats ∙ (rw (at-end s at e)) }
 
 -- FLOATS
 module _ (radix b : ℕ) where
-  pub float-ten-dot : radix ≡ 10 → b ≡ 0x2e → true ≡ makes_float radix b
+  pub float_ten_dot : radix ≡ 10 → b ≡ 0x2e → true ≡ makes_float radix b
   unfolding makes_float
-  float-ten-dot e f = rw (e, f)
+  float_ten_dot e f = rw (e, f)
 
-  pub float-ten-small : radix ≡ 10 → b ≡ 0x65 → true ≡ makes_float radix b
+  pub float_ten_small : radix ≡ 10 → b ≡ 0x65 → true ≡ makes_float radix b
   unfolding makes_float
-  float-ten-small e f = rw (e, f)
+  float_ten_small e f = rw (e, f)
 
-  pub float-ten-capital : radix ≡ 10 → b ≡ 0x45 → true ≡ makes_float radix b
+  pub float_ten_capital : radix ≡ 10 → b ≡ 0x45 → true ≡ makes_float radix b
   unfolding makes_float
-  float-ten-capital e f = rw (e, f)
+  float_ten_capital e f = rw (e, f)
 
-  pub float-sixteen-dot : radix ≡ 16 → b ≡ 0x2e → true ≡ makes_float radix b
+  pub float_sixteen_dot : radix ≡ 16 → b ≡ 0x2e → true ≡ makes_float radix b
   unfolding makes_float
-  float-sixteen-dot e f = rw (e, f)
+  float_sixteen_dot e f = rw (e, f)
 
-  pub float-sixteen-small : radix ≡ 16 → b ≡ 0x70 → true ≡ makes_float radix b
+  pub float_sixteen_small : radix ≡ 16 → b ≡ 0x70 → true ≡ makes_float radix b
   unfolding makes_float
-  float-sixteen-small e f = rw (e, f)
+  float_sixteen_small e f = rw (e, f)
 
-  pub float-sixteen-capital : radix ≡ 16 → b ≡ 0x50 → true ≡ makes_float radix b
+  pub float_sixteen_capital : radix ≡ 16 → b ≡ 0x50 → true ≡ makes_float radix b
   unfolding makes_float
-  float-sixteen-capital e f = rw (e, f)
+  float_sixteen_capital e f = rw (e, f)
 
-  pub float-ten-none : radix ≡ 10 → (b ≡ 0x2e → ⊥) → (b ≡ 0x65 → ⊥) → (b ≡ 0x45 → ⊥) → false ≡ makes_float radix b
+  pub float_ten_none : radix ≡ 10 → (b ≡ 0x2e → ⊥) → (b ≡ 0x65 → ⊥) → (b ≡ 0x45 → ⊥) → false ≡ makes_float radix b
   unfolding makes_float
-  float-ten-none e n₁ n₂ n₃ = rw e (rw (ne_eqb b 0x2e n₁, ne_eqb b 0x65 n₂, ne_eqb b 0x45 n₃))
+  float_ten_none e n₁ n₂ n₃ = rw e (rw (ne_eqb b 0x2e n₁, ne_eqb b 0x65 n₂, ne_eqb b 0x45 n₃))
 
-  pub float-sixteen-none : radix ≡ 16 → (b ≡ 0x2e → ⊥) → (b ≡ 0x70 → ⊥) → (b ≡ 0x50 → ⊥) → false ≡ makes_float radix b
+  pub float_sixteen_none : radix ≡ 16 → (b ≡ 0x2e → ⊥) → (b ≡ 0x70 → ⊥) → (b ≡ 0x50 → ⊥) → false ≡ makes_float radix b
   unfolding makes_float
-  float-sixteen-none e n₁ n₂ n₃ = rw e (rw (ne_eqb b 0x2e n₁, ne_eqb b 0x70 n₂, ne_eqb b 0x50 n₃))
+  float_sixteen_none e n₁ n₂ n₃ = rw e (rw (ne_eqb b 0x2e n₁, ne_eqb b 0x70 n₂, ne_eqb b 0x50 n₃))
 
   pub float-other : (radix ≡ 10 → ⊥) → (radix ≡ 16 → ⊥) → false ≡ makes_float radix b
   unfolding makes_float
@@ -257,7 +257,7 @@ module _ (radix b : ℕ) where
       go true = refl
       go false = refl
 
-pub ruleset float-ways = (float-ten-dot, float-ten-small, float-ten-capital, float-sixteen-dot, float-sixteen-small, float-sixteen-capital, float-ten-none, float-sixteen-none, float-other)
+pub ruleset float_ways = (float_ten_dot, float_ten_small, float_ten_capital, float_sixteen_dot, float_sixteen_small, float_sixteen_capital, float_ten_none, float_sixteen_none, float-other)
 
 pub float-end : (s : List ℕ) (at radix : ℕ) → length s ≤ at → false ≡ float_at radix (drop at (marked s))
 unfolding float_at makes_float

@@ -24,11 +24,11 @@ sextet-back non_alphabet f = refl
 
 -- BYTES OF A GROUP, WRITTEN
 
-take-three : (n x y z : ℕ) → 3 ≤ n → take n (x ∷ y ∷ z ∷ []) ≡ x ∷ y ∷ z ∷ []
-take-three zero x y z h = absurd (omega arith)
-take-three (suc zero) x y z h = absurd (omega arith)
-take-three (suc (suc zero)) x y z h = absurd (omega arith)
-take-three (suc (suc (suc n))) x y z h = ap (λ (u : List ℕ). x ∷ y ∷ z ∷ u) (take_none n)
+take_three : (n x y z : ℕ) → 3 ≤ n → take n (x ∷ y ∷ z ∷ []) ≡ x ∷ y ∷ z ∷ []
+take_three zero x y z h = absurd (omega arith)
+take_three (suc zero) x y z h = absurd (omega arith)
+take_three (suc (suc zero)) x y z h = absurd (omega arith)
+take_three (suc (suc (suc n))) x y z h = ap (λ (u : List ℕ). x ∷ y ∷ z ∷ u) (take_none n)
 
 pub length_some : (n : ℕ) (g : Group) → n ≤ 3 → length (take n (base64_bytes g)) ≡ n
 unfolding base64_bytes
@@ -48,22 +48,22 @@ module _ {b b₁ : List ℕ} {p p₁ v₁ : ℕ} (n : ℕ) (g : Group) (e₁ : v
   bytes_one e = rw (e, ← e₁) x₁
 
   module _ {b₂ : List ℕ} {p₂ v₂ : ℕ} (e₂ : v₂ ≡ second_of g) (x₂ : Put b₁ b₂ p₁ p₂ (v₂ ∷ [])) where
-    pub bytes-two : n ≡ 2 → Put b b₂ p p₂ (take n (base64_bytes g))
+    pub bytes_two : n ≡ 2 → Put b b₂ p p₂ (take n (base64_bytes g))
     unfolding base64_bytes
-    bytes-two e = rw (e, ← e₁, ← e₂) (put-more x₁ x₂)
+    bytes_two e = rw (e, ← e₁, ← e₂) (put-more x₁ x₂)
 
-    pub bytes-three : {b₃ : List ℕ} {p₃ v₃ : ℕ} → (n ≡ 0 → ⊥) → (n ≡ 1 → ⊥) → (n ≡ 2 → ⊥) → v₃ ≡ third_of g → Put b₂ b₃ p₂ p₃ (v₃ ∷ []) → Put b b₃ p p₃ (take n (base64_bytes g))
+    pub bytes_three : {b₃ : List ℕ} {p₃ v₃ : ℕ} → (n ≡ 0 → ⊥) → (n ≡ 1 → ⊥) → (n ≡ 2 → ⊥) → v₃ ≡ third_of g → Put b₂ b₃ p₂ p₃ (v₃ ∷ []) → Put b b₃ p p₃ (take n (base64_bytes g))
     unfolding base64_bytes
-    bytes-three n₀ n₁ n₂ e₃ x₃ =
+    bytes_three n₀ n₁ n₂ e₃ x₃ =
         let l : 3 ≤ n = omega arith in
-        rw (take-three n (first_byte g) (second_of g) (third_of g) l, ← e₁, ← e₂, ← e₃) (put-more (put-more x₁ x₂) x₃)
+        rw (take_three n (first_byte g) (second_of g) (third_of g) l, ← e₁, ← e₂, ← e₃) (put-more (put-more x₁ x₂) x₃)
 
-pub ruleset bytes-ways = (bytes-none, bytes_one, bytes-two, bytes-three)
+pub ruleset bytes_ways = (bytes-none, bytes_one, bytes_two, bytes_three)
 
-pub flow-bad : (n : ℕ) (g : Group) (c : Content) → 3 < n → flowing n g c ≡ bad
+pub flow_bad : (n : ℕ) (g : Group) (c : Content) → 3 < n → flowing n g c ≡ bad
 unfolding flowing
-flow-bad n g c h = rw (lt-ltb 3 n h, flowing)
+flow_bad n g c h = rw (lt-ltb 3 n h, flowing)
 
-pub flow-on : (n : ℕ) (g : Group) (c : Content) → n ≤ 3 → flowing n g c ≡ after (take n (base64_bytes g)) c
+pub flow_on : (n : ℕ) (g : Group) (c : Content) → n ≤ 3 → flowing n g c ≡ after (take n (base64_bytes g)) c
 unfolding flowing
-flow-on n g c h = rw (le-ltb 3 n h, flowing)
+flow_on n g c h = rw (le-ltb 3 n h, flowing)

@@ -21,9 +21,9 @@ use Rattle.base64_quantum.specs.QuantumAnswers.{sextet_of, waits, all_sextets, I
 use Rattle.base64_quantum.specs.declared.Group.{Group}
 use Rattle.base64_body.specs.GroupAnswers.{Letters, Ending}
 use Rattle.notation_theorems.proofs.SoundContent.{Fits}
-use Rattle.literal_body.proofs.ReadingCode.{span-over, progress-more, progress-append, decodes-good, decodes-bad}
+use Rattle.literal_body.proofs.ReadingCode.{span-over, progress_more, progress_append, decodes-good, decodes-bad}
 use Rattle.base64_quantum.proofs.QuantumCode.{counted}
-use Rattle.base64_body.proofs.GroupCode.{length_some, flow-bad, flow-on}
+use Rattle.base64_body.proofs.GroupCode.{length_some, flow_bad, flow_on}
 use Rattle.base64_word.proofs.WordCode.{bytes_of, four-front}
 
 nothing_left : (s : List ℕ) (stop i : ℕ) → stop ≤ i → base64_content (span i stop s) ≡ stands_for []
@@ -34,9 +34,9 @@ sextet-is : (n : ℕ) → n ≤ 63 → sextet_of n ≡ sextet n
 unfolding sextet_of
 sextet-is n h = rw (le-leb n 63 h, sextet_of)
 
-bytes-are : (g : Group) → g.a ≤ 63 → g.b ≤ 63 → g.c ≤ 63 → g.d ≤ 63 → bytes_of g.a g.b g.c g.d ≡ base64_bytes g
+bytes_are : (g : Group) → g.a ≤ 63 → g.b ≤ 63 → g.c ≤ 63 → g.d ≤ 63 → bytes_of g.a g.b g.c g.d ≡ base64_bytes g
 unfolding base64_bytes first_byte second_of third_of
-bytes-are g ha hb hc hd =
+bytes_are g ha hb hc hd =
     let e₁ : g.a * 4 + g.b / 16 ≡ first_byte g = omega arith in
     let e₂ : g.b % 16 * 16 + g.c / 4 ≡ second_of g = omega arith in
     let e₃ : g.c % 4 * 64 + g.d ≡ third_of g = omega arith in
@@ -59,25 +59,25 @@ module _ {s : List ℕ} {stop from : ℕ} {g : Group} (x : Letters s stop from g
       ∙ (λ j. sextet-is g.a ha j ∷ sextet-is g.b hb j ∷ sextet-is g.c hc j ∷ sextet-is g.d hd j ∷ sextets (span g.next stop s)) in
       record {
         is = ap base64_from k ∙ four-front g.a g.b g.c g.d (sextets (span g.next stop s))
-            ∙ ap (λ (u : List ℕ). after u (base64_from (sextets (span g.next stop s)))) (bytes-are g ha hb hc hd);
+            ∙ ap (λ (u : List ℕ). after u (base64_from (sextets (span g.next stop s)))) (bytes_are g ha hb hc hd);
         ahead = omega (arith, x.ahead);
         inside = omega (arith, x.inside);
         short = omega (arith, x.ahead);
       }
 
   module _ (e : t ≡ true) {n : ℕ} (z : Ending s stop g n) where
-    ending-is : base64_content (span from stop s) ≡ flowing n g (stands_for [])
+    ending_is : base64_content (span from stop s) ≡ flowing n g (stands_for [])
     unfolding base64_content
-    ending-is = ap base64_from x.is ∙ z.is x.most x.few (y.last e)
+    ending_is = ap base64_from x.is ∙ z.is x.most x.few (y.last e)
 
-    ending-bad : 3 < n → base64_content (span from stop s) ≡ bad
-    ending-bad h = ending-is ∙ flow-bad n g (stands_for []) h
+    ending_bad : 3 < n → base64_content (span from stop s) ≡ bad
+    ending_bad h = ending_is ∙ flow_bad n g (stands_for []) h
 
-    ending-yields : n ≤ 3 → Yields base64_content s stop from stop (take n (base64_bytes g))
-    ending-yields h =
+    ending_yields : n ≤ 3 → Yields base64_content s stop from stop (take n (base64_bytes g))
+    ending_yields h =
         let k = length_some n g h in
         record {
-          is = ending-is ∙ flow-on n g (stands_for []) h ∙ ap (after (take n (base64_bytes g))) (sym (nothing_left s stop stop (omega arith)));
+          is = ending_is ∙ flow_on n g (stands_for []) h ∙ ap (after (take n (base64_bytes g))) (sym (nothing_left s stop stop (omega arith)));
           ahead = omega (arith, x.ahead, x.inside);
           inside = omega arith;
           short = omega (arith, x.ahead, x.inside, z.short h x.most);
@@ -97,21 +97,21 @@ module _ {s : List ℕ} {at stop : ℕ} {b b₀ : List ℕ} {pos i p size : ℕ}
     module _ {g : Group} (y : Letters s stop f.next g) {t : Bool} (z : IsLast g t) where
       module _ (q : t ≡ true) {n : ℕ} (w : Ending s stop g n) where
         pub read-wrong : {end : ℕ} → stop ≡ min end (length s) → 4 ≤ n → DecodesInto b b₁ pos (record { good = false; next = end; size = 0 }) (base64_content (take (end - at) (drop at s)))
-        read-wrong e h = decodes-bad e (progress-append inv x) (ending-bad y z q w h)
+        read-wrong e h = decodes-bad e (progress_append inv x) (ending_bad y z q w h)
 
         pub read-last-size : (end : ℕ) → stop ≡ min end (length s) → Bits.Fits bits64 end → n < 4 → Bits.Fits bits64 (size + f.size + n)
         read-last-size end e k h = let h' = k.fits in record { fits = omega (arith, run-sum, y.ahead, y.inside, w.short (omega arith) y.most) }
 
         pub read-last : {end : ℕ} {b₂ : List ℕ} {p' : ℕ} → stop ≡ min end (length s) → n < 4 → Put b₁ b₂ f.pos p' (take n (base64_bytes g))
             → DecodesInto b b₂ pos (record { good = true; next = end; size = size + f.size + n }) (base64_content (take (end - at) (drop at s)))
-        read-last e h k = let h' : n ≤ 3 = omega arith in decodes-good e (progress-more (progress-append inv x) (ending-yields y z q w h') k (sym (length_some n g h'))) (nothing_left s stop stop (omega arith))
+        read-last e h k = let h' : n ≤ 3 = omega arith in decodes-good e (progress_more (progress_append inv x) (ending_yields y z q w h') k (sym (length_some n g h'))) (nothing_left s stop stop (omega arith))
 
       module _ (q : t ≡ false) where
         pub read-sum : (end : ℕ) → stop ≡ min end (length s) → Bits.Fits bits64 end → Bits.Fits bits64 (size + f.size + 3)
         read-sum end e k = let h = k.fits in record { fits = omega (arith, run-sum, y.ahead, y.inside, (z.four q).0) }
 
-        pub read-less : i < stop → stop - g.next < stop - i
-        read-less l = omega (arith, x.ahead, y.ahead, (z.four q).0)
+        pub read_less : i < stop → stop - g.next < stop - i
+        read_less l = omega (arith, x.ahead, y.ahead, (z.four q).0)
 
         pub read-on : {b₂ : List ℕ} {p' : ℕ} → Put b₁ b₂ f.pos p' (take 3 (base64_bytes g)) → Progressed base64_content s stop at b b₂ pos (record { next = g.next; pos = p'; size = size + f.size + 3 })
-        read-on k = progress-more (progress-append inv x) (four-yields y z q) k (sym (length_some 3 g (omega arith)))
+        read-on k = progress_more (progress_append inv x) (four-yields y z q) k (sym (length_some 3 g (omega arith)))

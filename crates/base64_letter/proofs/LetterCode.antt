@@ -37,14 +37,14 @@ number_keys = 0x2b ∷ 0x2d ∷ 0x2f ∷ (count 10 0x30 ++ (0x3d ∷ (count 26 0
 unfoldable pub weighs : ℕ → ℕ → Bool
 weighs k x = eqb x (sextet_weight (k - 0x100))
 
-pub weight-key : {row r k : ℕ} → row ≡ k → T (weighs k r) → T (leb r 63) → Weighs (row - 0x100) r
+pub weight_key : {row r k : ℕ} → row ≡ k → T (weighs k r) → T (leb r 63) → Weighs (row - 0x100) r
 unfolding weighs
-weight-key {r = r} e t l = let m = leb→le r 63 l in record { is = λ h. arm (λ (k : ℕ). sextet_weight (k - 0x100)) e t; most = omega arith }
+weight_key {r = r} e t l = let m = leb→le r 63 l in record { is = λ h. arm (λ (k : ℕ). sextet_weight (k - 0x100)) e t; most = omega arith }
 
-pub weight-none : {b : ℕ} → Weighs b 0x200_0000
-weight-none = record { is = λ h. absurd (omega arith); most = omega arith }
+pub weight_none : {b : ℕ} → Weighs b 0x200_0000
+weight_none = record { is = λ h. absurd (omega arith); most = omega arith }
 
-pub weight-rest : {b : ℕ} → Weighs b 0x100_0000
-weight-rest = record { is = λ h. absurd (omega arith); most = omega arith }
+pub weight_rest : {b : ℕ} → Weighs b 0x100_0000
+weight_rest = record { is = λ h. absurd (omega arith); most = omega arith }
 
-pub ruleset weight-ways = (weight-key, weight-none, weight-rest)
+pub ruleset weight_ways = (weight_key, weight_none, weight_rest)

@@ -24,26 +24,26 @@ module _ (g : Group) where
   all-a h = sym (simp (all_sextets, lt-leb g.a 63 h))
 
   module _ (ha : g.a ≤ 63) where
-    pub all-b : 63 < g.b → false ≡ all_sextets g
+    pub all_b : 63 < g.b → false ≡ all_sextets g
     unfolding all_sextets
-    all-b h = sym (simp (all_sextets, le-leb g.a 63 ha, lt-leb g.b 63 h))
+    all_b h = sym (simp (all_sextets, le-leb g.a 63 ha, lt-leb g.b 63 h))
 
     module _ (hb : g.b ≤ 63) where
-      pub all-c : 63 < g.c → false ≡ all_sextets g
+      pub all_c : 63 < g.c → false ≡ all_sextets g
       unfolding all_sextets
-      all-c h = sym (simp (all_sextets, le-leb g.a 63 ha, le-leb g.b 63 hb, lt-leb g.c 63 h))
+      all_c h = sym (simp (all_sextets, le-leb g.a 63 ha, le-leb g.b 63 hb, lt-leb g.c 63 h))
 
-      pub all-d : g.c ≤ 63 → leb g.d 63 ≡ all_sextets g
+      pub all_d : g.c ≤ 63 → leb g.d 63 ≡ all_sextets g
       unfolding all_sextets
-      all-d h = sym (simp (all_sextets, le-leb g.a 63 ha, le-leb g.b 63 hb, le-leb g.c 63 h))
+      all_d h = sym (simp (all_sextets, le-leb g.a 63 ha, le-leb g.b 63 hb, le-leb g.c 63 h))
 
-  pub full-three : {t : Bool} → t ≡ all_sextets g → t ≡ true → 3 ≡ full_size g
+  pub full_three : {t : Bool} → t ≡ all_sextets g → t ≡ true → 3 ≡ full_size g
   unfolding full_size
-  full-three x e = sym (rw (sym x ∙ e, full_size))
+  full_three x e = sym (rw (sym x ∙ e, full_size))
 
-  pub full-four : {t : Bool} → t ≡ all_sextets g → t ≡ false → 4 ≡ full_size g
+  pub full_four_lem : {t : Bool} → t ≡ all_sextets g → t ≡ false → 4 ≡ full_size g
   unfolding full_size
-  full-four x e = sym (rw (sym x ∙ e, full_size))
+  full_four_lem x e = sym (rw (sym x ∙ e, full_size))
 
   pub first-is : g.a % 64 * 4 + g.b % 64 / 16 ≡ first_byte g
   unfolding first_byte
@@ -57,9 +57,9 @@ module _ (g : Group) where
   unfolding third_of
   third-is = refl
 
-pub ruleset all_ways = (all-a, all-b, all-c, all-d)
+pub ruleset all_ways = (all-a, all_b, all_c, all_d)
 
-pub ruleset full-ways = (full-three, full-four)
+pub ruleset full_ways = (full_three, full_four_lem)
 
 -- SIZES AT THE END
 
@@ -68,60 +68,60 @@ module _ (a b : ℕ) where
   unfolding last_two_size
   two_a h = sym (simp (last_two_size, lt-leb a 63 h))
 
-  pub three-a : (c : ℕ) → 63 < a → 4 ≡ last_three_size a b c
+  pub three_a : (c : ℕ) → 63 < a → 4 ≡ last_three_size a b c
   unfolding last_three_size
-  three-a c h = sym (simp (last_three_size, lt-leb a 63 h))
+  three_a c h = sym (simp (last_three_size, lt-leb a 63 h))
 
   module _ (ha : a ≤ 63) where
-    pub two-b : 63 < b → 4 ≡ last_two_size a b
+    pub two_b : 63 < b → 4 ≡ last_two_size a b
     unfolding last_two_size
-    two-b h = sym (simp (last_two_size, le-leb a 63 ha, lt-leb b 63 h))
+    two_b h = sym (simp (last_two_size, le-leb a 63 ha, lt-leb b 63 h))
 
-    pub three-b : (c : ℕ) → 63 < b → 4 ≡ last_three_size a b c
+    pub three_b : (c : ℕ) → 63 < b → 4 ≡ last_three_size a b c
     unfolding last_three_size
-    three-b c h = sym (simp (last_three_size, le-leb a 63 ha, lt-leb b 63 h))
+    three_b c h = sym (simp (last_three_size, le-leb a 63 ha, lt-leb b 63 h))
 
     module _ (hb : b ≤ 63) where
       pub two_good : b % 16 ≡ 0 → 1 ≡ last_two_size a b
       unfolding last_two_size
       two_good e = sym (simp (last_two_size, le-leb a 63 ha, le-leb b 63 hb, eq-eqb (b % 16) 0 e))
 
-      pub two-bits : (b % 16 ≡ 0 → ⊥) → 4 ≡ last_two_size a b
+      pub two_bits : (b % 16 ≡ 0 → ⊥) → 4 ≡ last_two_size a b
       unfolding last_two_size
-      two-bits n = sym (simp (last_two_size, le-leb a 63 ha, le-leb b 63 hb, ne_eqb (b % 16) 0 n))
+      two_bits n = sym (simp (last_two_size, le-leb a 63 ha, le-leb b 63 hb, ne_eqb (b % 16) 0 n))
 
       module _ (c : ℕ) where
-        pub three-c : 63 < c → 4 ≡ last_three_size a b c
+        pub three_c : 63 < c → 4 ≡ last_three_size a b c
         unfolding last_three_size
-        three-c h = sym (simp (last_three_size, le-leb a 63 ha, le-leb b 63 hb, lt-leb c 63 h))
+        three_c h = sym (simp (last_three_size, le-leb a 63 ha, le-leb b 63 hb, lt-leb c 63 h))
 
-        pub three-good : c ≤ 63 → c % 4 ≡ 0 → 2 ≡ last_three_size a b c
+        pub three_good : c ≤ 63 → c % 4 ≡ 0 → 2 ≡ last_three_size a b c
         unfolding last_three_size
-        three-good h e = sym (simp (last_three_size, le-leb a 63 ha, le-leb b 63 hb, le-leb c 63 h, eq-eqb (c % 4) 0 e))
+        three_good h e = sym (simp (last_three_size, le-leb a 63 ha, le-leb b 63 hb, le-leb c 63 h, eq-eqb (c % 4) 0 e))
 
-        pub three-bits : c ≤ 63 → (c % 4 ≡ 0 → ⊥) → 4 ≡ last_three_size a b c
+        pub three_bits : c ≤ 63 → (c % 4 ≡ 0 → ⊥) → 4 ≡ last_three_size a b c
         unfolding last_three_size
-        three-bits h n = sym (simp (last_three_size, le-leb a 63 ha, le-leb b 63 hb, le-leb c 63 h, ne_eqb (c % 4) 0 n))
+        three_bits h n = sym (simp (last_three_size, le-leb a 63 ha, le-leb b 63 hb, le-leb c 63 h, ne_eqb (c % 4) 0 n))
 
-pub ruleset two_ways = (two_a, two-b, two_good, two-bits)
+pub ruleset two_ways = (two_a, two_b, two_good, two_bits)
 
-pub ruleset three_ways = (three-a, three-b, three-c, three-good, three-bits)
+pub ruleset three_ways = (three_a, three_b, three_c, three_good, three_bits)
 
 module _ (g : Group) where
   module _ (e : g.d ≡ 64) where
-    pub four-two : {r : ℕ} → g.c ≡ 64 → r ≡ last_two_size g.a g.b → r ≡ last_four_size g
+    pub four_two : {r : ℕ} → g.c ≡ 64 → r ≡ last_two_size g.a g.b → r ≡ last_four_size g
     unfolding last_four_size
-    four-two q p = p ∙ sym (simp (last_four_size, eq-eqb g.d 64 e, eq-eqb g.c 64 q))
+    four_two q p = p ∙ sym (simp (last_four_size, eq-eqb g.d 64 e, eq-eqb g.c 64 q))
 
-    pub four-three : {r : ℕ} → (g.c ≡ 64 → ⊥) → r ≡ last_three_size g.a g.b g.c → r ≡ last_four_size g
+    pub four_three : {r : ℕ} → (g.c ≡ 64 → ⊥) → r ≡ last_three_size g.a g.b g.c → r ≡ last_four_size g
     unfolding last_four_size
-    four-three n p = p ∙ sym (simp (last_four_size, eq-eqb g.d 64 e, ne_eqb g.c 64 n))
+    four_three n p = p ∙ sym (simp (last_four_size, eq-eqb g.d 64 e, ne_eqb g.c 64 n))
 
-  pub four-full : {r : ℕ} → (g.d ≡ 64 → ⊥) → r ≡ full_size g → r ≡ last_four_size g
+  pub four_full : {r : ℕ} → (g.d ≡ 64 → ⊥) → r ≡ full_size g → r ≡ last_four_size g
   unfolding last_four_size
-  four-full n p = p ∙ sym (rw (ne_eqb g.d 64 n, last_four_size))
+  four_full n p = p ∙ sym (rw (ne_eqb g.d 64 n, last_four_size))
 
-pub ruleset four-ways = (four-two, four-three, four-full)
+pub ruleset four_ways = (four_two, four_three, four_full)
 
 -- WHAT A GROUP STANDS FOR
 
@@ -136,8 +136,8 @@ module _ (n : ℕ) (k : ℕ → Content) where
       go false true = refl
       go false false = refl
 
-  valued-and : (t : Bool) (r : Content) → k n ≡ elim t [ true ↦ r | false ↦ bad ] → valued (sextet_of n) k ≡ elim (leb n 63 && t) [ true ↦ r | false ↦ bad ]
-  valued-and t r e = valued-is ∙ go (leb n 63)
+  valued_and : (t : Bool) (r : Content) → k n ≡ elim t [ true ↦ r | false ↦ bad ] → valued (sextet_of n) k ≡ elim (leb n 63 && t) [ true ↦ r | false ↦ bad ]
+  valued_and t r e = valued-is ∙ go (leb n 63)
     where
       go : (u : Bool) → ◌≡◌ {A = Content} (elim u [ true ↦ k n | false ↦ bad ]) (elim (u && t) [ true ↦ r | false ↦ bad ])
       go true = e
@@ -156,7 +156,7 @@ padding-is n = go (leb n 63) refl (eqb n 64) refl
 pub full_is : (g : Group) (k : Content) → full_four (sextet_of g.a) (sextet_of g.b) (sextet_of g.c) (sextet_of g.d) k ≡ flowing (full_size g) g k
 unfolding full_four full_size all_sextets flowing base64_bytes first_byte second_of third_of
 full_is g k =
-    valued-and g.a _ _ _ (valued-and g.b _ _ _ (valued-and g.c _ _ _ (valued-is g.d _)))
+    valued_and g.a _ _ _ (valued_and g.b _ _ _ (valued_and g.c _ _ _ (valued-is g.d _)))
     ∙ go (leb g.a 63 && (leb g.b 63 && (leb g.c 63 && leb g.d 63))) refl
   where
     go : (t : Bool) → leb g.a 63 && (leb g.b 63 && (leb g.c 63 && leb g.d 63)) ≡ t
@@ -178,7 +178,7 @@ full_is g k =
 
 two_is : (g : Group) → last_two (sextet_of g.a) (sextet_of g.b) ≡ flowing (last_two_size g.a g.b) g (stands_for [])
 unfolding last_two last_two_size flowing base64_bytes first_byte after
-two_is g = valued-and g.a _ _ _ (valued-and g.b _ _ _ refl) ∙ go (leb g.a 63 && (leb g.b 63 && eqb (g.b % 16) 0)) refl
+two_is g = valued_and g.a _ _ _ (valued_and g.b _ _ _ refl) ∙ go (leb g.a 63 && (leb g.b 63 && eqb (g.b % 16) 0)) refl
   where
     go : (t : Bool) → leb g.a 63 && (leb g.b 63 && eqb (g.b % 16) 0) ≡ t
         → ◌≡◌ {A = Content} (elim t [ true ↦ stands_for ((g.a * 4 + g.b / 16) ∷ []) | false ↦ bad ]) (flowing (elim t [ true ↦ 1 | false ↦ 4 ]) g (stands_for []))
@@ -191,9 +191,9 @@ two_is g = valued-and g.a _ _ _ (valued-and g.b _ _ _ refl) ∙ go (leb g.a 63 &
         let e₁ : g.a * 4 + g.b / 16 ≡ first_byte g = omega arith in
         λ j. stands_for (e₁ j ∷ [])
 
-three-is : (g : Group) → last_three (sextet_of g.a) (sextet_of g.b) (sextet_of g.c) ≡ flowing (last_three_size g.a g.b g.c) g (stands_for [])
+three_is : (g : Group) → last_three (sextet_of g.a) (sextet_of g.b) (sextet_of g.c) ≡ flowing (last_three_size g.a g.b g.c) g (stands_for [])
 unfolding last_three last_three_size flowing base64_bytes first_byte second_of after
-three-is g = valued-and g.a _ _ _ (valued-and g.b _ _ _ (valued-and g.c _ _ _ refl)) ∙ go (leb g.a 63 && (leb g.b 63 && (leb g.c 63 && eqb (g.c % 4) 0))) refl
+three_is g = valued_and g.a _ _ _ (valued_and g.b _ _ _ (valued_and g.c _ _ _ refl)) ∙ go (leb g.a 63 && (leb g.b 63 && (leb g.c 63 && eqb (g.c % 4) 0))) refl
   where
     go : (t : Bool) → leb g.a 63 && (leb g.b 63 && (leb g.c 63 && eqb (g.c % 4) 0)) ≡ t
         → ◌≡◌ {A = Content} (elim t [ true ↦ stands_for ((g.a * 4 + g.b / 16) ∷ (g.b % 16 * 16 + g.c / 4) ∷ []) | false ↦ bad ])
@@ -223,34 +223,34 @@ four_is g = (λ j. ends (padding-is g.d j) (padding-is g.c j)) ∙ go (eqb g.d 6
 
     go : (t u : Bool) → ends t u ≡ flowing (elim t [ true ↦ elim u [ true ↦ last_two_size g.a g.b | false ↦ last_three_size g.a g.b g.c ] | false ↦ full_size g ]) g (stands_for [])
     go true true = two_is g
-    go true false = three-is g
+    go true false = three_is g
     go false u = full_is g (stands_for [])
 
 picked : (P : ℕ → Type 0) (t : Bool) (x y : ℕ) → P x → P y → P (elim t [ true ↦ x | false ↦ y ])
 picked P true x y p q = p
 picked P false x y p q = q
 
-full-most : (g : Group) → full_size g ≤ 4
+full_most : (g : Group) → full_size g ≤ 4
 unfolding full_size
-full-most g = picked (λ (k : ℕ). k ≤ 4) (all_sextets g) 3 4 (omega arith) (omega arith)
+full_most g = picked (λ (k : ℕ). k ≤ 4) (all_sextets g) 3 4 (omega arith) (omega arith)
 
-two-most : (a b : ℕ) → last_two_size a b ≤ 4
+two_most : (a b : ℕ) → last_two_size a b ≤ 4
 unfolding last_two_size
-two-most a b = picked (λ (k : ℕ). k ≤ 4) (leb a 63 && (leb b 63 && eqb (b % 16) 0)) 1 4 (omega arith) (omega arith)
+two_most a b = picked (λ (k : ℕ). k ≤ 4) (leb a 63 && (leb b 63 && eqb (b % 16) 0)) 1 4 (omega arith) (omega arith)
 
-three-most : (a b c : ℕ) → last_three_size a b c ≤ 4
+three_most : (a b c : ℕ) → last_three_size a b c ≤ 4
 unfolding last_three_size
-three-most a b c = picked (λ (k : ℕ). k ≤ 4) (leb a 63 && (leb b 63 && (leb c 63 && eqb (c % 4) 0))) 2 4 (omega arith) (omega arith)
+three_most a b c = picked (λ (k : ℕ). k ≤ 4) (leb a 63 && (leb b 63 && (leb c 63 && eqb (c % 4) 0))) 2 4 (omega arith) (omega arith)
 
-two-short : (a b : ℕ) → last_two_size a b ≤ 3 → last_two_size a b ≤ 2
+two_short : (a b : ℕ) → last_two_size a b ≤ 3 → last_two_size a b ≤ 2
 unfolding last_two_size
-two-short a b = picked (λ (k : ℕ). k ≤ 3 → k ≤ 2) (leb a 63 && (leb b 63 && eqb (b % 16) 0)) 1 4 (λ h. omega arith) (λ h. absurd (omega arith))
+two_short a b = picked (λ (k : ℕ). k ≤ 3 → k ≤ 2) (leb a 63 && (leb b 63 && eqb (b % 16) 0)) 1 4 (λ h. omega arith) (λ h. absurd (omega arith))
 
 four-most : (g : Group) → last_four_size g ≤ 4
 unfolding last_four_size
 four-most g =
     picked (λ (k : ℕ). k ≤ 4) (eqb g.d 64) _ _
-    (picked (λ (k : ℕ). k ≤ 4) (eqb g.c 64) _ _ (two-most g.a g.b) (three-most g.a g.b g.c)) (full-most g)
+    (picked (λ (k : ℕ). k ≤ 4) (eqb g.c 64) _ _ (two_most g.a g.b) (three_most g.a g.b g.c)) (full_most g)
 
 module _ (g : Group) where
   last-by : (n : ℕ) → g.count ≡ n → base64_from (waiting_of g) ≡ base64_from (waits n (sextet_of g.a) (sextet_of g.b) (sextet_of g.c) (sextet_of g.d))
@@ -267,12 +267,12 @@ module _ (g : Group) where
   pub last-pair : {r : ℕ} → g.count ≡ 2 → r ≡ last_two_size g.a g.b → Last g r
   unfolding waits base64_from
   last-pair {r} e p =
-      record { is = λ h. last-by 2 e ∙ two_is g ∙ ap (λ (k : ℕ). flowing k g (stands_for [])) (sym p); most = omega (arith, two-most g.a g.b); short = λ k h. omega (arith, two-short g.a g.b (omega arith)) }
+      record { is = λ h. last-by 2 e ∙ two_is g ∙ ap (λ (k : ℕ). flowing k g (stands_for [])) (sym p); most = omega (arith, two_most g.a g.b); short = λ k h. omega (arith, two_short g.a g.b (omega arith)) }
 
-  pub last-triple : {r : ℕ} → g.count ≡ 3 → r ≡ last_three_size g.a g.b g.c → Last g r
+  pub last_triple : {r : ℕ} → g.count ≡ 3 → r ≡ last_three_size g.a g.b g.c → Last g r
   unfolding waits base64_from
-  last-triple {r} e p =
-      record { is = λ h. last-by 3 e ∙ three-is g ∙ ap (λ (k : ℕ). flowing k g (stands_for [])) (sym p); most = omega (arith, three-most g.a g.b g.c); short = λ k h. omega arith }
+  last_triple {r} e p =
+      record { is = λ h. last-by 3 e ∙ three_is g ∙ ap (λ (k : ℕ). flowing k g (stands_for [])) (sym p); most = omega (arith, three_most g.a g.b g.c); short = λ k h. omega arith }
 
   pub last-whole : {r : ℕ} → (g.count ≡ 0 → ⊥) → (g.count ≡ 1 → ⊥) → (g.count ≡ 2 → ⊥) → (g.count ≡ 3 → ⊥) → r ≡ last_four_size g → Last g r
   unfolding waits
@@ -283,7 +283,7 @@ module _ (g : Group) where
         short = λ k h. omega arith;
       }
 
-pub ruleset last-ways = (last_none, last_one, last-pair, last-triple, last-whole)
+pub ruleset last_ways = (last_none, last_one, last-pair, last_triple, last-whole)
 
 -- WHETHER IT IS THE LAST
 
@@ -291,10 +291,10 @@ module _ (g : Group) where
   pub last-few : g.count < 4 → IsLast g true
   last-few h = record { four = λ z. absurd (true≢false z); last = λ z k. absurd (omega arith) }
 
-  pub last-not : {t : Bool} → 4 ≤ g.count → t ≡ all_sextets g → t ≡ true → IsLast g false
-  last-not h x e = record { four = λ z. (h, sym x ∙ e); last = λ z. absurd (true≢false (sym z)) }
+  pub last_not : {t : Bool} → 4 ≤ g.count → t ≡ all_sextets g → t ≡ true → IsLast g false
+  last_not h x e = record { four = λ z. (h, sym x ∙ e); last = λ z. absurd (true≢false (sym z)) }
 
   pub last-wrong : {t : Bool} → t ≡ all_sextets g → t ≡ false → IsLast g true
   last-wrong x e = record { four = λ z. absurd (true≢false z); last = λ z k. sym x ∙ e }
 
-pub ruleset is-last-ways = (last-few, last-not, last-wrong)
+pub ruleset is-last_ways = (last-few, last_not, last-wrong)

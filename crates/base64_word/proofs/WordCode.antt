@@ -23,8 +23,8 @@ use Rattle.base64_letter.specs.LetterAnswers.{sextet_number, sextet_weight, Weig
 use Rattle.base64_word.specs.WordAnswers.{word_at, WordThere, TooLate}
 use Rattle.notation_theorems.proofs.SoundContent.{Fits, sextet-fits}
 use Rattle.literal_body.proofs.LiteralCode.{put_one, put-more}
-use Rattle.literal_body.proofs.MatchCode.{range-above}
-use Rattle.literal_body.proofs.ReadingCode.{span-step, progress_start, progress-more}
+use Rattle.literal_body.proofs.MatchCode.{range_above}
+use Rattle.literal_body.proofs.ReadingCode.{span-step, progress_start, progress_more}
 
 -- LETTERS WITH A VALUE
 
@@ -32,9 +32,9 @@ use Rattle.literal_body.proofs.ReadingCode.{span-step, progress_start, progress-
 none_above : (b : ℕ) → 0x7a < b → sextet_at b ≡ non_alphabet
 unfolding sextet_at
 none_above b h =
-    let e₁ = range-above 0x41 0x5a b (omega arith) in
-    let e₂ = range-above 0x61 0x7a b h in
-    let e₃ = range-above 0x30 0x39 b (omega arith) in
+    let e₁ = range_above 0x41 0x5a b (omega arith) in
+    let e₂ = range_above 0x61 0x7a b h in
+    let e₃ = range_above 0x30 0x39 b (omega arith) in
     let n₁ = ne_eqb b 0x2b (λ z. omega arith) in
     let n₂ = ne_eqb b 0x2d (λ z. omega arith) in
     let n₃ = ne_eqb b 0x2f (λ z. omega arith) in
@@ -68,9 +68,9 @@ blank-no b v q e f = go (leb b 0x7a) refl
         omega arith
     go false p = let z : ◌≡◌ {A = ℕ} 0 1 = cc (none_above b (leb-false b 0x7a p)) in absurd (omega arith)
 
-weight-letter : (b : ℕ) (s : List ℕ) → sextet_weight b < 0x100_0000 → (sextet_weight b ≤ 63) × (sextets (b ∷ s) ≡ sextet (sextet_weight b) ∷ sextets s)
+weight_letter : (b : ℕ) (s : List ℕ) → sextet_weight b < 0x100_0000 → (sextet_weight b ≤ 63) × (sextets (b ∷ s) ≡ sextet (sextet_weight b) ∷ sextets s)
 unfolding sextet_weight sextets
-weight-letter b s h = go (sextet_at b) refl (sextet-fits b) h (is blank b) refl
+weight_letter b s h = go (sextet_at b) refl (sextet-fits b) h (is blank b) refl
   where
     go : (x : Sextet) → sextet_at b ≡ x → Fits x → elim x [ sextet v ↦ v | padding ↦ 0x100_0000 | non_alphabet ↦ 0x100_0000 ] < 0x100_0000 → (t : Bool) → is blank b ≡ t
         → (elim x [ sextet v ↦ v | padding ↦ 0x100_0000 | non_alphabet ↦ 0x100_0000 ] ≤ 63)
@@ -86,37 +86,37 @@ pub bound : ℕ → ℕ
 bound zero = 0
 bound (suc k) = bound k * 64 + 0x200_0000
 
-bound-most : (k : ℕ) → k < 4 → bound k ≤ 0x20_8200_0000
+bound_most : (k : ℕ) → k < 4 → bound k ≤ 0x20_8200_0000
 unfolding bound
-bound-most zero h = omega arith
-bound-most (suc zero) h = omega arith
-bound-most (suc (suc zero)) h = omega arith
-bound-most (suc (suc (suc zero))) h = omega arith
-bound-most (suc (suc (suc (suc k)))) h = absurd (omega arith)
+bound_most zero h = omega arith
+bound_most (suc zero) h = omega arith
+bound_most (suc (suc zero)) h = omega arith
+bound_most (suc (suc (suc zero))) h = omega arith
+bound_most (suc (suc (suc (suc k)))) h = absurd (omega arith)
 
 pub record Weighed (s : List ℕ) (at k w : ℕ) : Type 0 where
   pub is : w < 0x100_0000 → w ≡ word_at s at k
   pub most : k ≤ 4
   pub small : w ≤ bound k
 
-pub weighed-start : (s : List ℕ) (at : ℕ) → Weighed s at 0 0
+pub weighed_start : (s : List ℕ) (at : ℕ) → Weighed s at 0 0
 unfolding word_at bound
-weighed-start s at = record { is = λ h. refl; most = omega arith; small = omega arith }
+weighed_start s at = record { is = λ h. refl; most = omega arith; small = omega arith }
 
 module _ {s : List ℕ} {at k w : ℕ} (inv : Weighed s at k w) where
   module _ (h : k < 4) where
-    weighed-most : w ≤ 0x20_8200_0000
-    weighed-most = omega (arith, inv.small, bound-most k h)
+    weighed_most : w ≤ 0x20_8200_0000
+    weighed_most = omega (arith, inv.small, bound_most k h)
 
-    pub weighed-high : Bits.Fits bits64 (w * 64)
-    weighed-high = record { fits = omega (arith, weighed-most) }
+    pub weighed_high : Bits.Fits bits64 (w * 64)
+    weighed_high = record { fits = omega (arith, weighed_most) }
 
     module _ {row v : ℕ} (e : row ≡ get_or s (at + k) 0 + 0x100) (y : Weighs (row - 0x100) v) where
       x : Weighs (get_or s (at + k) 0) v
       x = let f : row - 0x100 ≡ get_or s (at + k) 0 = omega arith in rw f at y
 
-      pub weighed-sum : Bits.Fits bits64 (w * 64 + v)
-      weighed-sum = record { fits = omega (arith, weighed-most, x.most) }
+      pub weighed_sum : Bits.Fits bits64 (w * 64 + v)
+      weighed_sum = record { fits = omega (arith, weighed_most, x.most) }
 
       next_is : w * 64 + v < 0x100_0000 → w * 64 + v ≡ word_at s at (suc k)
       unfolding word_at
@@ -126,11 +126,11 @@ module _ {s : List ℕ} {at k w : ℕ} (inv : Weighed s at k w) where
       unfolding bound
       next_small = omega (arith, inv.small, x.most)
 
-      pub weighed-on : Weighed s at (k + 1) (w * 64 + v)
-      weighed-on = record { is = rw (add-one k) next_is; most = omega arith; small = rw (add-one k) next_small }
+      pub weighed_on : Weighed s at (k + 1) (w * 64 + v)
+      weighed_on = record { is = rw (add-one k) next_is; most = omega arith; small = rw (add-one k) next_small }
 
-  pub weighed-end : 4 ≤ k → WordThere s at w
-  weighed-end l = let e : k ≡ 4 = omega (arith, inv.most) in record { is = λ h. inv.is h ∙ ap (word_at s at) e }
+  pub weighed_end : 4 ≤ k → WordThere s at w
+  weighed_end l = let e : k ≡ 4 = omega (arith, inv.most) in record { is = λ h. inv.is h ∙ ap (word_at s at) e }
 
 -- four letters with values make three bytes, whatever follows
 abbrev pub bytes_of : ℕ → ℕ → ℕ → ℕ → List ℕ
@@ -146,8 +146,8 @@ module _ (a b c d : ℕ) (ha : a ≤ 63) (hb : b ≤ 63) (hc : c ≤ 63) (hd : d
   low_byte : c % 4 * 64 + d ≡ (((a * 64 + b) * 64 + c) * 64 + d) % 0x100
   low_byte = omega arith
 
-  middle-byte : b % 16 * 16 + c / 4 ≡ (((a * 64 + b) * 64 + c) * 64 + d) / 0x100 % 0x100
-  middle-byte = omega arith
+  middle_byte : b % 16 * 16 + c / 4 ≡ (((a * 64 + b) * 64 + c) * 64 + d) / 0x100 % 0x100
+  middle_byte = omega arith
 
   high_byte : a * 4 + b / 16 ≡ (((a * 64 + b) * 64 + c) * 64 + d) / 0x1_0000
   high_byte = omega arith
@@ -155,7 +155,7 @@ module _ (a b c d : ℕ) (ha : a ≤ 63) (hb : b ≤ 63) (hc : c ≤ 63) (hd : d
 letter-step : (s : List ℕ) (i j stop : ℕ) → i + 1 ≡ j → i < stop → stop ≤ length s → sextet_weight (get_or s i 0) < 0x100_0000
     → (sextet_weight (get_or s i 0) ≤ 63) × (sextets (span i stop s) ≡ sextet (sextet_weight (get_or s i 0)) ∷ sextets (span j stop s))
 letter-step s i j stop e h l w =
-    let x = weight-letter (get_or s i 0) (span (i + 1) stop s) w in
+    let x = weight_letter (get_or s i 0) (span (i + 1) stop s) w in
     (x.0, ap sextets (span-step s i stop h l) ∙ x.1 ∙ ap (λ (k : ℕ). sextet (sextet_weight (get_or s i 0)) ∷ sextets (span k stop s)) e)
 
 word-yields : (s : List ℕ) (at stop w : ℕ) → at + 4 ≤ stop → stop ≤ length s → w ≡ word_at s at 4 → w < 0x100_0000
@@ -176,7 +176,7 @@ word-yields s at stop w h l e g =
     let k : sextets (span at stop s) ≡ sextet a ∷ sextet b ∷ sextet c ∷ sextet d ∷ sextets (span (at + 4) stop s) =
     x₀.1 ∙ ap (λ (u : List Sextet). sextet a ∷ u) (x₁.1 ∙ ap (λ (u : List Sextet). sextet b ∷ u) (x₂.1 ∙ ap (λ (u : List Sextet). sextet c ∷ u) x₃.1)) in
     let p₁ : a * 4 + b / 16 ≡ w / 0x1_0000 = high_byte a b c d x₀.0 x₁.0 x₂.0 x₃.0 ∙ ap (λ (k : ℕ). k / 0x1_0000) (sym f) in
-    let p₂ : b % 16 * 16 + c / 4 ≡ w / 0x100 % 0x100 = middle-byte a b c d x₀.0 x₁.0 x₂.0 x₃.0 ∙ ap (λ (k : ℕ). k / 0x100 % 0x100) (sym f) in
+    let p₂ : b % 16 * 16 + c / 4 ≡ w / 0x100 % 0x100 = middle_byte a b c d x₀.0 x₁.0 x₂.0 x₃.0 ∙ ap (λ (k : ℕ). k / 0x100 % 0x100) (sym f) in
     let p₃ : c % 4 * 64 + d ≡ w % 0x100 = low_byte a b c d x₀.0 x₁.0 x₂.0 x₃.0 ∙ ap (λ (k : ℕ). k % 0x100) (sym f) in
     record {
       is = ap base64_from k ∙ four-front a b c d (sextets (span (at + 4) stop s)) ∙ (λ j. after (p₁ j ∷ p₂ j ∷ p₃ j ∷ []) (base64_from (sextets (span (at + 4) stop s))));
@@ -191,10 +191,10 @@ module _ {from stop n : ℕ} where
   pub late-from : stop - from < n → TooLate from stop n from
   late-from h = record { early = λ k l g. absurd (omega arith); late = λ k l. omega arith }
 
-  pub late-stop : 0 < n → n ≤ stop - from → TooLate from stop n (stop - (n - 1))
-  late-stop g h = record { early = λ k l q. omega arith; late = λ k l. omega arith }
+  pub late_stop : 0 < n → n ≤ stop - from → TooLate from stop n (stop - (n - 1))
+  late_stop g h = record { early = λ k l q. omega arith; late = λ k l. omega arith }
 
-pub ruleset late-ways = (late-from, late-stop)
+pub ruleset late_ways = (late-from, late_stop)
 
 pub late-same : {content : List ℕ → Content} {s : List ℕ} {stop from : ℕ} {b b' : List ℕ} {pos n late : ℕ} {r : Progress} → Progressed content s stop from b b' pos r → TooLate 0 (length b) n late → TooLate 0 (length b') n late
 late-same {n = n} {late = late} x h = rw x.same h
@@ -228,15 +228,15 @@ module _ {n p late : ℕ} (h : TooLate 0 n 3 late) (g : p < late) where
   third-fits = omega (arith, h.early p (omega arith) g)
 
   module _ (k : n < 2 ^ 64) where
-    pub third-adds : Bits.Fits bits64 (p + 2)
-    third-adds = record { fits = omega (arith, h.early p (omega arith) g) }
+    pub third_adds : Bits.Fits bits64 (p + 2)
+    third_adds = record { fits = omega (arith, h.early p (omega arith) g) }
 
-    pub word-adds : Bits.Fits bits64 (p + 3)
-    word-adds = record { fits = omega (arith, h.early p (omega arith) g) }
+    pub word_adds : Bits.Fits bits64 (p + 3)
+    word_adds = record { fits = omega (arith, h.early p (omega arith) g) }
 
-pub ruleset word_fits = (first_fits, second_fits, third-fits, third-adds, word-adds)
+pub ruleset word_fits = (first_fits, second_fits, third-fits, third_adds, word_adds)
 
-pub ruleset word-ways = (word-past, word-put)
+pub ruleset word_ways = (word-past, word-put)
 
 -- THE LOOP
 
@@ -247,18 +247,18 @@ abbrev pub FoursRead : List ℕ → ℕ → ℕ → List ℕ → List ℕ → �
 FoursRead s stop from b b₁ pos at p = Progressed base64_content s stop from b b₁ pos (record { next = at; pos = p; size = (at - from) / 4 * 3 })
 
 module _ {s : List ℕ} {stop from : ℕ} {b : List ℕ} {pos : ℕ} where
-  pub fours-start : FoursRead s stop from b b pos from pos
-  fours-start =
+  pub fours_start : FoursRead s stop from b b pos from pos
+  fours_start =
       let e : 0 ≡ (from - from) / 4 * 3 = omega arith in
       let x : Progressed base64_content s stop from b b pos (record { next = from; pos = pos; size = 0 }) = progress_start in
       rw e at x
 
-  pub fours-on : {b₁ b₂ : List ℕ} {at p w p' last : ℕ} → Within s from stop → FoursRead s stop from b b₁ pos at p → TooLate from stop 4 last → at < last → WordThere s at w → w < 0x100_0000
+  pub fours_on : {b₁ b₂ : List ℕ} {at p w p' last : ℕ} → Within s from stop → FoursRead s stop from b b₁ pos at p → TooLate from stop 4 last → at < last → WordThere s at w → w < 0x100_0000
       → Put b₁ b₂ p p' (w / 0x1_0000 ∷ w / 0x100 % 0x100 ∷ w % 0x100 ∷ []) → FoursRead s stop from b b₂ pos (at + 4) p'
-  fours-on {at = at} {w = w} i inv h g e k x =
+  fours_on {at = at} {w = w} i inv h g e k x =
       let l = inv.ahead in
       let z : (at - from) / 4 * 3 + 3 ≡ (at + 4 - from) / 4 * 3 = omega arith in
-      rw z at (progress-more inv (word-yields s at stop w (h.early at l g) i.inside (e.is k) k) x refl)
+      rw z at (progress_more inv (word-yields s at stop w (h.early at l g) i.inside (e.is k) k) x refl)
 
-  pub fours-end : {b₁ : List ℕ} {at p : ℕ} {r : Progress} → FoursRead s stop from b b₁ pos at p → r ≡ record { next = at; pos = p; size = (at - from) / 4 * 3 } → Progressed base64_content s stop from b b₁ pos r
-  fours-end inv e = rw e inv
+  pub fours_end : {b₁ : List ℕ} {at p : ℕ} {r : Progress} → FoursRead s stop from b b₁ pos at p → r ≡ record { next = at; pos = p; size = (at - from) / 4 * 3 } → Progressed base64_content s stop from b b₁ pos r
+  fours_end inv e = rw e inv

@@ -65,13 +65,13 @@ module _ {l : Located} where
   lost-success {x} (accepted z) h e s = let i : locate_told (PartRefused x) ≡ locate_of (accepted z) = rw e at h in let z : ◌≡◌ {A = ℕ} 0 1 = cc in absurd (omega arith)
   lost-success {x} (refused n q) h e s = fails x.kind s
 
-  pub part-replied : {p : Part} (v : List ℕ) {v' v'' : List ℕ} → l ≡ PartV p → v' ≡ set v 0 p.start → v'' ≡ set v' 1 p.end → PartReplied l v v'' 0
-  part-replied v e s t = record { number = λ w h. part-number w h e; success = λ w h. part-success w h e; value = λ w h. part-value w v h e s t }
+  pub part_replied : {p : Part} (v : List ℕ) {v' v'' : List ℕ} → l ≡ PartV p → v' ≡ set v 0 p.start → v'' ≡ set v' 1 p.end → PartReplied l v v'' 0
+  part_replied v e s t = record { number = λ w h. part-number w h e; success = λ w h. part-success w h e; value = λ w h. part-value w v h e s t }
 
-  pub lost-replied : {x : Refusal} {r : ℕ} (v : List ℕ) {v' : List ℕ} → l ≡ PartRefused x → r ≡ kind_number x.kind → v' ≡ set v 0 x.place → PartReplied l v v' r
-  lost-replied v e s t = record { number = λ w h. lost-number w h e s; success = λ w h. lost-success w h e s; value = λ w h. lost-value w v h e t }
+  pub lost_replied : {x : Refusal} {r : ℕ} (v : List ℕ) {v' : List ℕ} → l ≡ PartRefused x → r ≡ kind_number x.kind → v' ≡ set v 0 x.place → PartReplied l v v' r
+  lost_replied v e s t = record { number = λ w h. lost-number w h e s; success = λ w h. lost-success w h e s; value = λ w h. lost-value w v h e t }
 
-pub ruleset part-ways = (part-replied, lost-replied)
+pub ruleset part_ways = (part_replied, lost_replied)
 
 -- CHECKING
 module _ {c : Checked} where
@@ -111,10 +111,10 @@ module _ {c : Checked} where
   bad-success {x} (accepted xs) h e s = let i : check_told (CheckRefused x) ≡ check_of (accepted xs) = rw e at h in let z : ◌≡◌ {A = ℕ} 0 1 = cc in absurd (omega arith)
   bad-success {x} (refused n q) h e s = fails x.kind s
 
-  pub fine-replied : (v : List ℕ) {v' : List ℕ} → c ≡ Accepted → v' ≡ set v 0 0 → CheckReplied c v v' 0
-  fine-replied v e s = record { number = λ w h. fine-number w h e; success = λ w h. fine-success w h e; value = λ w h. fine-value w v h e s }
+  pub fine_replied : (v : List ℕ) {v' : List ℕ} → c ≡ Accepted → v' ≡ set v 0 0 → CheckReplied c v v' 0
+  fine_replied v e s = record { number = λ w h. fine-number w h e; success = λ w h. fine-success w h e; value = λ w h. fine-value w v h e s }
 
-  pub bad-replied : {x : Refusal} {r : ℕ} (v : List ℕ) {v' : List ℕ} → c ≡ CheckRefused x → r ≡ kind_number x.kind → v' ≡ set v 0 x.place → CheckReplied c v v' r
-  bad-replied v e s t = record { number = λ w h. bad-number w h e s; success = λ w h. bad-success w h e s; value = λ w h. bad-value w v h e t }
+  pub bad_replied : {x : Refusal} {r : ℕ} (v : List ℕ) {v' : List ℕ} → c ≡ CheckRefused x → r ≡ kind_number x.kind → v' ≡ set v 0 x.place → CheckReplied c v v' r
+  bad_replied v e s t = record { number = λ w h. bad-number w h e s; success = λ w h. bad-success w h e s; value = λ w h. bad-value w v h e t }
 
-pub ruleset check-ways = (fine-replied, bad-replied)
+pub ruleset check_ways = (fine_replied, bad_replied)

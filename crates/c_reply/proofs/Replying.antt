@@ -23,29 +23,29 @@ set_past (y ∷ v) zero x h = absurd (omega arith)
 set_past (y ∷ v) (suc i) x h = ap (λ w. y ∷ w) (set_past v i x (omega arith))
 
 -- no refusal has the number 0
-not-zero : (k : RefusalKind) → eqb (kind_number k) 0 ≡ false
+not_zero : (k : RefusalKind) → eqb (kind_number k) 0 ≡ false
 unfolding kind_number
-not-zero TooLong = refl
-not-zero NotUtf8 = refl
-not-zero NoToken = refl
-not-zero UnknownWord = refl
-not-zero Dots = refl
-not-zero Float = refl
-not-zero OutOfRange = refl
-not-zero BadContent = refl
-not-zero BadIndicator = refl
-not-zero TooDeep = refl
-not-zero NotAllowed = refl
-not-zero MixedChunks = refl
-not-zero BadTypedArray = refl
-not-zero NoRoom = refl
-not-zero EndsInside = refl
-not-zero NotWellFormed = refl
-not-zero NoSuchPath = refl
+not_zero TooLong = refl
+not_zero NotUtf8 = refl
+not_zero NoToken = refl
+not_zero UnknownWord = refl
+not_zero Dots = refl
+not_zero Float = refl
+not_zero OutOfRange = refl
+not_zero BadContent = refl
+not_zero BadIndicator = refl
+not_zero TooDeep = refl
+not_zero NotAllowed = refl
+not_zero MixedChunks = refl
+not_zero BadTypedArray = refl
+not_zero NoRoom = refl
+not_zero EndsInside = refl
+not_zero NotWellFormed = refl
+not_zero NoSuchPath = refl
 
 -- a number that is a refusal's is not 0
 pub fails : {r : ℕ} (k : RefusalKind) → r ≡ kind_number k → eqb r 0 ≡ false
-fails k s = rw s (not-zero k)
+fails k s = rw s (not_zero k)
 
 -- AN ANSWER
 module _ {a : Answer} where
@@ -73,4 +73,4 @@ module _ {a : Answer} where
   unfolding succeeds answer_of outcome_of
   refused-success {x} e s = rw e (fails x.kind s)
 
-pub ruleset reply-ways = (done-number, done-value, done-success, refused-number, refused-value, refused-success)
+pub ruleset reply_ways = (done-number, done-value, done-success, refused-number, refused-value, refused-success)

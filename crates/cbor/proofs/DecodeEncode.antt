@@ -16,8 +16,8 @@ use Rattle.cbor.specs.TypedArrays.{may_tag}
 use Rattle.cbor.specs.Valid.{is_text, ValidString, ValidChunks, Fits, is_simple, Valid, ValidAll, ValidAll₂}
 use Rattle.cbor.specs.Decode.{broken, ended, several, content_at, chunk_by, chunk_at, entry_at, extent, tagged, elements, pair, entries, chunks_of, Enter, item_by, item_with, item, decode, most_bytes, most_levels}
 use Rattle.cbor.specs.Theorems.{ItemOfEncode, DecodeOfEncode}
-use Rattle.cbor.proofs.Heads.{major-most, information-most, head_read, opening-read, taking-all}
-use Rattle.cbor.proofs.Several.{tail_of, Meets, Begins, begins-more, Reads, reads-nil, reads-cons, reads_all}
+use Rattle.cbor.proofs.Heads.{major-most, information-most, head_read, opening_read, taking-all}
+use Rattle.cbor.proofs.Several.{tail_of, Meets, Begins, begins-more, Reads, reads_nil, reads_cons, reads_all}
 
 -- THE FIRST BYTE IS NO BREAK
 
@@ -31,36 +31,36 @@ pub record Plain (m : Major) : Type 0 where
   pub free : (w : Width) (n : ℕ) → is_allowed m w n ≡ true
   pub most : major_number m ≤ 6
 
-plain-integers : (g : Sign) → Plain (integers g)
+plain_integers : (g : Sign) → Plain (integers g)
 unfolding is_float is_allowed major_number
-plain-integers unsigned = record { whole = λ w. refl; free = λ w n. refl; most = omega arith }
-plain-integers negative = record { whole = λ w. refl; free = λ w n. refl; most = omega arith }
+plain_integers unsigned = record { whole = λ w. refl; free = λ w n. refl; most = omega arith }
+plain_integers negative = record { whole = λ w. refl; free = λ w n. refl; most = omega arith }
 
-plain-strings : (k : Kind) → Plain (strings k)
+plain_strings : (k : Kind) → Plain (strings k)
 unfolding is_float is_allowed major_number
-plain-strings byte_string = record { whole = λ w. refl; free = λ w n. refl; most = omega arith }
-plain-strings text_string = record { whole = λ w. refl; free = λ w n. refl; most = omega arith }
+plain_strings byte_string = record { whole = λ w. refl; free = λ w n. refl; most = omega arith }
+plain_strings text_string = record { whole = λ w. refl; free = λ w n. refl; most = omega arith }
 
-pub plain-arrays : Plain arrays
+pub plain_arrays : Plain arrays
 unfolding is_float is_allowed major_number
-plain-arrays = record { whole = λ w. refl; free = λ w n. refl; most = omega arith }
+plain_arrays = record { whole = λ w. refl; free = λ w n. refl; most = omega arith }
 
-pub plain-maps : Plain maps
+pub plain_maps : Plain maps
 unfolding is_float is_allowed major_number
-plain-maps = record { whole = λ w. refl; free = λ w n. refl; most = omega arith }
+plain_maps = record { whole = λ w. refl; free = λ w n. refl; most = omega arith }
 
-plain-tags : Plain tags
+plain_tags : Plain tags
 unfolding is_float is_allowed major_number
-plain-tags = record { whole = λ w. refl; free = λ w n. refl; most = omega arith }
+plain_tags = record { whole = λ w. refl; free = λ w n. refl; most = omega arith }
 
-begins-opening : (m : Major) (z : Size) (n : ℕ) → Plain m → Fits z n → Begins (opening_head m z n)
+begins_opening : (m : Major) (z : Size) (n : ℕ) → Plain m → Fits z n → Begins (opening_head m z n)
 unfolding opening_head Fits initial
-begins-opening m (definite w) n p h = begins-head m w n h
-begins-opening m indefinite n p h = record { first = _; rest = _; is = refl; low = omega (arith, p.most) }
+begins_opening m (definite w) n p h = begins-head m w n h
+begins_opening m indefinite n p h = record { first = _; rest = _; is = refl; low = omega (arith, p.most) }
 
 begins-enclosed : (m : Major) (z : Size) (n : ℕ) (b : List ℕ) → Plain m → Fits z n → Begins (enclosed m z n b)
 unfolding enclosed
-begins-enclosed m z n b p h = begins-more _ (begins-opening m z n p h)
+begins-enclosed m z n b p h = begins-more _ (begins_opening m z n p h)
 
 begins-string : (k : Kind) (w : Width) (b : List ℕ) → ValidString k w b → Begins (encode_string k w b)
 unfolding encode_string
@@ -94,9 +94,9 @@ pub begins : (x : Item) → Valid x → Begins (encode x)
 unfolding encode Valid Fits
 begins (int g w n) v = begins-head (integers g) w n v
 begins (string k w b) v = begins-string k w b v
-begins (chunked k cs) v = begins-enclosed (strings k) indefinite 0 _ (plain-strings k) tt
-begins (array z xs) v = begins-enclosed arrays z (count xs) _ plain-arrays v.0
-begins (map z ps) v = begins-enclosed maps z (count₂ ps) _ plain-maps v.0
+begins (chunked k cs) v = begins-enclosed (strings k) indefinite 0 _ (plain_strings k) tt
+begins (array z xs) v = begins-enclosed arrays z (count xs) _ plain_arrays v.0
+begins (map z ps) v = begins-enclosed maps z (count₂ ps) _ plain_maps v.0
 begins (tag w n x) v = begins-more _ (begins-head tags w n v.0)
 begins (simple n) v = begins-head simples (shortest n) n (shortest-simple n v).fit
 
@@ -116,29 +116,29 @@ abbrev pub shown : Size → ℕ → ℕ
 shown (definite w) n = n
 shown indefinite n = 0
 
-pub opening-shown : (m : Major) (z : Size) (n : ℕ) (r : List ℕ) → Plain m → is_indefinite m ≡ true → Fits z n
+pub opening_shown : (m : Major) (z : Size) (n : ℕ) (r : List ℕ) → Plain m → is_indefinite m ≡ true → Fits z n
     → next_head (opening_head m z n ++ r) ≡ ok (record { major = m; size = z; argument = shown z n }) r
 unfolding opening_head Fits
-opening-shown m (definite w) n r p i h = head_read m w n r h (p.whole w) (p.free w n)
-opening-shown m indefinite n r p i h = opening-read m r i
+opening_shown m (definite w) n r p i h = head_read m w n r h (p.whole w) (p.free w n)
+opening_shown m indefinite n r p i h = opening_read m r i
 
-pub closing-tail : (z : Size) (n : ℕ) (r : List ℕ) → closing_break z ++ r ≡ tail_of (extent z n) r
+pub closing_tail : (z : Size) (n : ℕ) (r : List ℕ) → closing_break z ++ r ≡ tail_of (extent z n) r
 unfolding closing_break extent
-closing-tail (definite w) n r = refl
-closing-tail indefinite n r = refl
+closing_tail (definite w) n r = refl
+closing_tail indefinite n r = refl
 
-pub shown-meets : (z : Size) (n : ℕ) (r : List ℕ) → Meets (extent z (shown z n)) n r
+pub shown_meets : (z : Size) (n : ℕ) (r : List ℕ) → Meets (extent z (shown z n)) n r
 unfolding extent
-shown-meets (definite w) n r = refl
-shown-meets indefinite n r = tt
+shown_meets (definite w) n r = refl
+shown_meets indefinite n r = tt
 
 -- an item that encloses others, up to them
 enclosed-read : (d : ℕ) (m : Major) (z : Size) (n : ℕ) (c r : List ℕ) → Plain m → is_indefinite m ≡ true → Fits z n
     → (left : ℕ) × (item d (enclosed m z n c ++ r) ≡ item_by (enter_at d) m z (shown z n) left (c ++ tail_of (extent z (shown z n)) r))
 unfolding enclosed
 enclosed-read d m z n c r p i h =
-    let split : (opening_head m z n ++ (c ++ closing_break z)) ++ r ≡ opening_head m z n ++ (c ++ tail_of (extent z (shown z n)) r) = simp append_assoc (rw (closing-tail z (shown z n) r)) in
-    (_, ap (item d) split ∙ by-head d _ _ _ (opening-shown m z n (c ++ tail_of (extent z (shown z n)) r) p i h))
+    let split : (opening_head m z n ++ (c ++ closing_break z)) ++ r ≡ opening_head m z n ++ (c ++ tail_of (extent z (shown z n)) r) = simp append_assoc (rw (closing_tail z (shown z n) r)) in
+    (_, ap (item d) split ∙ by-head d _ _ _ (opening_shown m z n (c ++ tail_of (extent z (shown z n)) r) p i h))
 
 content-read : (k : Kind) (b r : List ℕ) (left : ℕ) → is_text k b ≡ true → content_at k (length b) left (b ++ r) ≡ ok b r
 unfolding content_at bind
@@ -148,26 +148,26 @@ string-head : (k : Kind) (w : Width) (b r : List ℕ) → ValidString k w b
     → next_head (encode_string k w b ++ r) ≡ ok (record { major = strings k; size = definite w; argument = length b }) (b ++ r)
 unfolding encode_string
 string-head k w b r v =
-    rw (append_assoc (head (strings k) w (length b)) b r) (head_read (strings k) w (length b) (b ++ r) v.fit ((plain-strings k).whole w) ((plain-strings k).free w (length b)))
+    rw (append_assoc (head (strings k) w (length b)) b r) (head_read (strings k) w (length b) (b ++ r) v.fit ((plain_strings k).whole w) ((plain_strings k).free w (length b)))
 
 -- CHUNKS
 
-pub chunk-by : (k : Kind) (b : ℕ) (s : List ℕ) (h : Head) (r : List ℕ) → b / 32 ≡ major_number (strings k) → next_head (b ∷ s) ≡ ok h r
+pub chunk_by_lem : (k : Kind) (b : ℕ) (s : List ℕ) (h : Head) (r : List ℕ) → b / 32 ≡ major_number (strings k) → next_head (b ∷ s) ≡ ok h r
     → chunk_at k (b ∷ s) ≡ chunk_by k h.size h.argument (suc (length s)) r
 unfolding chunk_at bind
-chunk-by k b s h r e f = rw (eq-eqb (b / 32) (major_number (strings k)) e, chunk_at) (rw f)
+chunk_by_lem k b s h r e f = rw (eq-eqb (b / 32) (major_number (strings k)) e, chunk_at) (rw f)
 
 chunk_read_lem : (k : Kind) (c : Chunk) (r : List ℕ) → ValidString k c.width c.content → chunk_at k (encode_string k c.width c.content ++ r) ≡ ok c r
 unfolding chunk_by bind encode_string head initial
 chunk_read_lem k c r v =
     let m : (major_number (strings k) * 32 + information c.width (length c.content)) / 32 ≡ major_number (strings k) = omega (arith, information-most c.width (length c.content) v.fit) in
-    chunk-by k _ _ _ _ m (string-head k c.width c.content r v) ∙ rw (content-read k c.content r _ v.good)
+    chunk_by_lem k _ _ _ _ m (string-head k c.width c.content r v) ∙ rw (content-read k c.content r _ v.good)
 
 chunks-read : (k : Kind) (cs : List Chunk) → ValidChunks k cs → Reads [] ◌∷◌ (chunk_at k) cs (length cs) (encode_chunks k cs)
 unfolding ValidChunks encode_chunks
-chunks-read k [] v = reads-nil [] ◌∷◌ (chunk_at k)
+chunks-read k [] v = reads_nil [] ◌∷◌ (chunk_at k)
 chunks-read k (c ∷ cs) v =
-    reads-cons [] ◌∷◌ (chunk_at k) c cs (length cs) _ _ (begins-string k c.width c.content v.0) (λ s. chunk_read_lem k c s v.0) (chunks-read k cs v.1)
+    reads_cons [] ◌∷◌ (chunk_at k) c cs (length cs) _ _ (begins-string k c.width c.content v.0) (λ s. chunk_read_lem k c s v.0) (chunks-read k cs v.1)
 
 -- ITEMS
 
@@ -179,43 +179,43 @@ entry_read d a b k x e f s = rw (append_assoc a b s, e (b ++ s)) (rw (f s))
 tag_read : (d : ℕ) (w : Width) (n : ℕ) (x : Item) (b r : List ℕ) → n ≤ limit w → may_tag n x ≡ true → item d (b ++ r) ≡ ok x r → item (suc d) ((head tags w n ++ b) ++ r) ≡ ok (tag w n x) r
 unfolding item_by tagged bind
 tag_read d w n x b r h t e =
-    ap (item (suc d)) (append_assoc (head tags w n) b r) ∙ by-head (suc d) _ _ _ (head_read tags w n (b ++ r) h (plain-tags.whole w) (plain-tags.free w n)) ∙ rw e (rw (t, tagged))
+    ap (item (suc d)) (append_assoc (head tags w n) b r) ∙ by-head (suc d) _ _ _ (head_read tags w n (b ++ r) h (plain_tags.whole w) (plain_tags.free w n)) ∙ rw e (rw (t, tagged))
 
 mutual
   unfolding encode encode_all encode_all₂ Valid ValidAll ValidAll₂ levels levels_all levels_all₂ count count₂ Fits is_indefinite item_by elements entries chunks_of extent bind
 
   pub item-read : (x : Item) (d : ℕ) (r : List ℕ) → Valid x → levels x ≤ d → item d (encode x ++ r) ≡ ok x r
-  item-read (int g w n) d r v h = by-head d _ _ r (head_read (integers g) w n r v ((plain-integers g).whole w) ((plain-integers g).free w n))
+  item-read (int g w n) d r v h = by-head d _ _ r (head_read (integers g) w n r v ((plain_integers g).whole w) ((plain_integers g).free w n))
   item-read (string k w b) d r v h = by-head d _ _ (b ++ r) (string-head k w b r v) ∙ rw (content-read k b r _ v.good)
   item-read (chunked k cs) d r v h =
-      (enclosed-read d (strings k) indefinite 0 (encode_chunks k cs) r (plain-strings k) refl tt).1 ∙ rw (reads_all [] ◌∷◌ (chunk_at k) cs (length cs) _ (chunks-read k cs v) broken r tt)
+      (enclosed-read d (strings k) indefinite 0 (encode_chunks k cs) r (plain_strings k) refl tt).1 ∙ rw (reads_all [] ◌∷◌ (chunk_at k) cs (length cs) _ (chunks-read k cs v) broken r tt)
   item-read (array z xs) zero r v h = absurd (omega arith)
   item-read (array z xs) (suc d) r v h =
-      (enclosed-read (suc d) arrays z (count xs) (encode_all xs) r plain-arrays refl v.0).1
-      ∙ rw (reads_all none more (item d) xs (count xs) _ (items-read xs d v.1 (omega arith)) (extent z (shown z (count xs))) r (shown-meets z (count xs) r))
+      (enclosed-read (suc d) arrays z (count xs) (encode_all xs) r plain_arrays refl v.0).1
+      ∙ rw (reads_all none more (item d) xs (count xs) _ (items-read xs d v.1 (omega arith)) (extent z (shown z (count xs))) r (shown_meets z (count xs) r))
   item-read (map z ps) zero r v h = absurd (omega arith)
   item-read (map z ps) (suc d) r v h =
-      (enclosed-read (suc d) maps z (count₂ ps) (encode_all₂ ps) r plain-maps refl v.0).1
-      ∙ rw (reads_all none₂ pair (entry_at (item d)) ps (count₂ ps) _ (pairs-read ps d v.1 (omega arith)) (extent z (shown z (count₂ ps))) r (shown-meets z (count₂ ps) r))
+      (enclosed-read (suc d) maps z (count₂ ps) (encode_all₂ ps) r plain_maps refl v.0).1
+      ∙ rw (reads_all none₂ pair (entry_at (item d)) ps (count₂ ps) _ (pairs-read ps d v.1 (omega arith)) (extent z (shown z (count₂ ps))) r (shown_meets z (count₂ ps) r))
   item-read (tag w n x) zero r v h = absurd (omega arith)
   item-read (tag w n x) (suc d) r v h = tag_read d w n x (encode x) r v.0 v.1 (item-read x d r v.2 (omega arith))
   item-read (simple n) d r v h = let s = shortest-simple n v in by-head d _ _ r (head_read simples (shortest n) n r s.fit s.whole s.allowed)
 
   pub items-read : (xs : Items) (d : ℕ) → ValidAll xs → levels_all xs ≤ d → Reads none more (item d) xs (count xs) (encode_all xs)
-  items-read none d v h = reads-nil none more (item d)
+  items-read none d v h = reads_nil none more (item d)
   items-read (more x xs) d v h =
-      reads-cons none more (item d) x xs (count xs) (encode x) (encode_all xs) (begins x v.0) (λ s. item-read x d s v.0 (omega arith)) (items-read xs d v.1 (omega arith))
+      reads_cons none more (item d) x xs (count xs) (encode x) (encode_all xs) (begins x v.0) (λ s. item-read x d s v.0 (omega arith)) (items-read xs d v.1 (omega arith))
 
   pairs-read : (ps : Pairs) (d : ℕ) → ValidAll₂ ps → levels_all₂ ps ≤ d → Reads none₂ pair (entry_at (item d)) ps (count₂ ps) (encode_all₂ ps)
-  pairs-read none₂ d v h = reads-nil none₂ pair (entry_at (item d))
+  pairs-read none₂ d v h = reads_nil none₂ pair (entry_at (item d))
   pairs-read (more₂ k x ps) d v h =
-      reads-cons none₂ pair (entry_at (item d)) (record { key = k; value = x }) ps (count₂ ps) (encode k ++ encode x) (encode_all₂ ps) (begins-more _ (begins k v.0))
+      reads_cons none₂ pair (entry_at (item d)) (record { key = k; value = x }) ps (count₂ ps) (encode k ++ encode x) (encode_all₂ ps) (begins-more _ (begins k v.0))
       (entry_read d (encode k) (encode x) k x (λ s. item-read k d s v.0 (omega arith)) (λ s. item-read x d s v.1 (omega arith))) (pairs-read ps d v.2 (omega arith))
 
-pub item-of-encode : ItemOfEncode
-item-of-encode x d r v h = item-read x d r v h
+pub item_of_encode : ItemOfEncode
+item_of_encode x d r v h = item-read x d r v h
 
-pub decode-of-encode : DecodeOfEncode
+pub decode_of_encode : DecodeOfEncode
 unfolding decode elements
-decode-of-encode xs v h l =
+decode_of_encode xs v h l =
     rw (le-leb (length (encode_all xs)) most_bytes l, decode) (ap (several none more (item most_levels) ended) (sym (append-nil (encode_all xs))) ∙ reads_all none more (item most_levels) xs (count xs) (encode_all xs) (items-read xs most_levels v h) ended [] refl)

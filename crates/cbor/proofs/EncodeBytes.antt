@@ -18,28 +18,28 @@ bytes-append (x ∷ a) b u v = (u.0, bytes-append a b u.1 v)
 
 -- HEADS
 
-pub bytes-big : (k n : ℕ) → Bytes (big_endian k n)
+pub bytes_big : (k n : ℕ) → Bytes (big_endian k n)
 unfolding Bytes big_endian
-bytes-big zero n = tt
-bytes-big (suc k) n = bytes-append (big_endian k (n / 256)) ((n % 256) ∷ []) (bytes-big k (n / 256)) (omega arith, tt)
+bytes_big zero n = tt
+bytes_big (suc k) n = bytes-append (big_endian k (n / 256)) ((n % 256) ∷ []) (bytes_big k (n / 256)) (omega arith, tt)
 
 pub bytes-head : (m : Major) (w : Width) (n : ℕ) → n ≤ limit w → Bytes (head m w n)
 unfolding Bytes head initial
-bytes-head m w n h = (omega (arith, major-most m, information-most w n h), bytes-big (argument_bytes w) n)
+bytes-head m w n h = (omega (arith, major-most m, information-most w n h), bytes_big (argument_bytes w) n)
 
-bytes-opening : (m : Major) (z : Size) (n : ℕ) → Fits z n → Bytes (opening_head m z n)
+bytes_opening : (m : Major) (z : Size) (n : ℕ) → Fits z n → Bytes (opening_head m z n)
 unfolding Bytes opening_head initial Fits
-bytes-opening m (definite w) n h = bytes-head m w n h
-bytes-opening m indefinite n h = (omega (arith, major-most m), tt)
+bytes_opening m (definite w) n h = bytes-head m w n h
+bytes_opening m indefinite n h = (omega (arith, major-most m), tt)
 
-bytes-closing : (z : Size) → Bytes (closing_break z)
+bytes_closing : (z : Size) → Bytes (closing_break z)
 unfolding Bytes closing_break
-bytes-closing (definite w) = tt
-bytes-closing indefinite = (omega arith, tt)
+bytes_closing (definite w) = tt
+bytes_closing indefinite = (omega arith, tt)
 
 bytes-enclosed : (m : Major) (z : Size) (n : ℕ) (b : List ℕ) → Fits z n → Bytes b → Bytes (enclosed m z n b)
 unfolding enclosed
-bytes-enclosed m z n b h u = bytes-append (opening_head m z n) (b ++ closing_break z) (bytes-opening m z n h) (bytes-append b (closing_break z) u (bytes-closing z))
+bytes-enclosed m z n b h u = bytes-append (opening_head m z n) (b ++ closing_break z) (bytes_opening m z n h) (bytes-append b (closing_break z) u (bytes_closing z))
 
 -- STRINGS
 

@@ -14,7 +14,7 @@ use Rattle.cbor.specs.Items.{unsigned, negative, byte_string, text_string, Size,
 use Rattle.cbor.specs.Heads.{Major, integers, strings, arrays, maps, tags, simples, major_number, major_of, initial, head, Head, Information, argument, reserved, open_ended, information_of, is_float, is_allowed, is_indefinite, taking, started, argued, head_by, next_head}
 use Rattle.cbor.specs.Encode.{opening_head}
 use Rattle.cbor.specs.Valid.{Bytes, Fits}
-use Rattle.cbor.proofs.Arguments.{length-big, value-argument, big-value, value-below}
+use Rattle.cbor.proofs.Arguments.{length_big, value-argument, big_value, value-below}
 
 -- THE INITIAL BYTE
 
@@ -57,13 +57,13 @@ information-back w4 n h = refl
 information-back w8 n h = refl
 
 -- the initial byte taken apart
-major-of : (m : Major) (i : ℕ) → i < 32 → major_of (initial m i / 32) ≡ m
+major_of_lem : (m : Major) (i : ℕ) → i < 32 → major_of (initial m i / 32) ≡ m
 unfolding initial
-major-of m i h = let e : (major_number m * 32 + i) / 32 ≡ major_number m = omega arith in rw e (major-back m)
+major_of_lem m i h = let e : (major_number m * 32 + i) / 32 ≡ major_number m = omega arith in rw e (major-back m)
 
-information-of : (m : Major) (i : ℕ) → i < 32 → initial m i % 32 ≡ i
+information_of_lem : (m : Major) (i : ℕ) → i < 32 → initial m i % 32 ≡ i
 unfolding initial
-information-of m i h = omega arith
+information_of_lem m i h = omega arith
 
 -- READING WHAT WAS WRITTEN
 
@@ -89,13 +89,13 @@ pub head_read : (m : Major) (w : Width) (n : ℕ) (r : List ℕ) → n ≤ limit
 unfolding next_head head head_by argued bind
 head_read m w n r h f a =
     let i : information w n < 32 = omega (arith, information-most w n h) in
-    let t = taking-all (argument_bytes w) (suc (length (big_endian (argument_bytes w) n ++ r))) (big_endian (argument_bytes w) n) r (length-big (argument_bytes w) n) in
-    rw (major-of m (information w n) i, information-of m (information w n) i, information-back w n h)
+    let t = taking-all (argument_bytes w) (suc (length (big_endian (argument_bytes w) n ++ r))) (big_endian (argument_bytes w) n) r (length_big (argument_bytes w) n) in
+    rw (major_of_lem m (information w n) i, information_of_lem m (information w n) i, information-back w n h)
     (rw (f, head_by) (rw (t, started-value w n h) (rw (a, argued))))
 
-pub opening-read : (m : Major) (r : List ℕ) → is_indefinite m ≡ true → next_head (initial m 31 ∷ r) ≡ ok (record { major = m; size = indefinite; argument = 0 }) r
+pub opening_read : (m : Major) (r : List ℕ) → is_indefinite m ≡ true → next_head (initial m 31 ∷ r) ≡ ok (record { major = m; size = indefinite; argument = 0 }) r
 unfolding next_head information_of head_by
-opening-read m r e = rw (major-of m 31 (omega arith), information-of m 31 (omega arith)) (rw (e, head_by))
+opening_read m r e = rw (major_of_lem m 31 (omega arith), information_of_lem m 31 (omega arith)) (rw (e, head_by))
 
 -- WHAT WAS READ WAS WRITTEN SO
 
@@ -116,9 +116,9 @@ abbrev pub TakenWell : ℕ → List ℕ → Result (List ℕ) → Type 0
 TakenWell k s (ok b r) = Taken k s b r
 TakenWell k s (refuse n left) = Unit
 
-pub taking-well : (k left : ℕ) (s : List ℕ) → Bytes s → TakenWell k s (taking k left s)
+pub taking_well : (k left : ℕ) (s : List ℕ) → Bytes s → TakenWell k s (taking k left s)
 unfolding taking
-taking-well k left s u = go (leb k (length s)) refl
+taking_well k left s u = go (leb k (length s)) refl
   where
     go : (v : Bool) → leb k (length s) ≡ v → TakenWell k s (elim v [ true ↦ ok (take k s) (drop k s) | false ↦ refuse ends_inside left ])
     go true e =
@@ -188,16 +188,16 @@ pub record Argued (w : Width) (i : ℕ) (b : List ℕ) (n : ℕ) : Type 0 where
   pub back : big_endian (argument_bytes w) n ≡ b
 
 wide-argued : (b : List ℕ) (k : ℕ) → length b ≡ k → Bytes b → (big_endian k (value_from 0 b) ≡ b) × (value_from 0 b < 1 * 256 ^ k)
-wide-argued b k e u = rw (← e) (big-value b u, value-below 0 b u)
+wide-argued b k e u = rw (← e) (big_value b u, value-below 0 b u)
 
-argued-well : (w : Width) (i : ℕ) (b : List ℕ) → Says i (argument w) → length b ≡ argument_bytes w → Bytes b → Argued w i b (value_from (started w i) b)
+argued_well : (w : Width) (i : ℕ) (b : List ℕ) → Says i (argument w) → length b ≡ argument_bytes w → Bytes b → Argued w i b (value_from (started w i) b)
 unfolding limit information started argument_bytes value_from big_endian
-argued-well w0 i [] h e u = record { fit = h; same = refl; back = refl }
-argued-well w0 i (c ∷ b) h e u = absurd (omega arith)
-argued-well w1 i b h e u = let g = wide-argued b 1 e u in record { fit = omega arith; same = sym h; back = g.0 }
-argued-well w2 i b h e u = let g = wide-argued b 2 e u in record { fit = omega arith; same = sym h; back = g.0 }
-argued-well w4 i b h e u = let g = wide-argued b 4 e u in record { fit = omega arith; same = sym h; back = g.0 }
-argued-well w8 i b h e u = let g = wide-argued b 8 e u in record { fit = omega arith; same = sym h; back = g.0 }
+argued_well w0 i [] h e u = record { fit = h; same = refl; back = refl }
+argued_well w0 i (c ∷ b) h e u = absurd (omega arith)
+argued_well w1 i b h e u = let g = wide-argued b 1 e u in record { fit = omega arith; same = sym h; back = g.0 }
+argued_well w2 i b h e u = let g = wide-argued b 2 e u in record { fit = omega arith; same = sym h; back = g.0 }
+argued_well w4 i b h e u = let g = wide-argued b 4 e u in record { fit = omega arith; same = sym h; back = g.0 }
+argued_well w8 i b h e u = let g = wide-argued b 8 e u in record { fit = omega arith; same = sym h; back = g.0 }
 
 module _ (b left : ℕ) (s : List ℕ) (u : b < 256) (us : Bytes s) where
   m : Major
@@ -211,17 +211,17 @@ module _ (b left : ℕ) (s : List ℕ) (u : b < 256) (us : Bytes s) where
   unfolding head
   head-back w n bs a = rw (byte-back _ a.same, a.back)
 
-  argument-well : (w : Width) → Says (b % 32) (argument w) → is_float m w ≡ false → (t : Result (List ℕ)) → TakenWell (argument_bytes w) s t
+  argument_well : (w : Width) → Says (b % 32) (argument w) → is_float m w ≡ false → (t : Result (List ℕ)) → TakenWell (argument_bytes w) s t
       → HeadWell (b ∷ s) (bind t (λ bs r. argued m w (value_from (started w (b % 32)) bs) left r))
   unfolding bind argued opening_head Fits
-  argument-well w h f (refuse n p) g = tt
-  argument-well w h f (ok bs r) g = go (is_allowed m w (value_from (started w (b % 32)) bs)) refl
+  argument_well w h f (refuse n p) g = tt
+  argument_well w h f (ok bs r) g = go (is_allowed m w (value_from (started w (b % 32)) bs)) refl
     where
       n : ℕ
       n = value_from (started w (b % 32)) bs
 
       a : Argued w (b % 32) bs n
-      a = argued-well w (b % 32) bs h g.long g.bytes
+      a = argued_well w (b % 32) bs h g.long g.bytes
 
       go : (v : Bool) → is_allowed m w n ≡ v → HeadWell (b ∷ s) (elim v [ true ↦ ok (record { major = m; size = definite w; argument = n }) r | false ↦ refuse 16 left ])
       go true e =
@@ -233,21 +233,21 @@ module _ (b left : ℕ) (s : List ℕ) (u : b < 256) (us : Bytes s) where
           }
       go false e = tt
 
-  by-well : (t : Information) → Says (b % 32) t → HeadWell (b ∷ s) (head_by m t (b % 32) left s)
+  by_well : (t : Information) → Says (b % 32) t → HeadWell (b ∷ s) (head_by m t (b % 32) left s)
   unfolding head_by opening_head Fits
-  by-well (argument w) h = go (is_float m w) refl
+  by_well (argument w) h = go (is_float m w) refl
     where
       go : (v : Bool) → is_float m w ≡ v → HeadWell (b ∷ s) (elim v [ true ↦ refuse 6 left | false ↦ bind (taking (argument_bytes w) left s) (λ bs r. argued m w (value_from (started w (b % 32)) bs) left r) ])
       go true e = tt
-      go false e = argument-well w h e (taking (argument_bytes w) left s) (taking-well (argument_bytes w) left s us)
-  by-well reserved h = tt
-  by-well open_ended h = go (is_indefinite m) refl
+      go false e = argument_well w h e (taking (argument_bytes w) left s) (taking_well (argument_bytes w) left s us)
+  by_well reserved h = tt
+  by_well open_ended h = go (is_indefinite m) refl
     where
       go : (v : Bool) → is_indefinite m ≡ v → HeadWell (b ∷ s) (elim v [ true ↦ ok (record { major = m; size = indefinite; argument = 0 }) s | false ↦ refuse 16 left ])
       go true e = record { is = ap (λ (x : ℕ). x ∷ s) (sym (byte-back 31 (sym h))); fit = tt; legal = e; rest = us }
       go false e = tt
 
-pub head-well : (s : List ℕ) → Bytes s → HeadWell s (next_head s)
+pub head_well : (s : List ℕ) → Bytes s → HeadWell s (next_head s)
 unfolding next_head Bytes m
-head-well [] u = tt
-head-well (b ∷ s) u = by-well b (suc (length s)) s u.0 u.1 (information_of (b % 32)) (says (b % 32) (omega arith))
+head_well [] u = tt
+head_well (b ∷ s) u = by_well b (suc (length s)) s u.0 u.1 (information_of (b % 32)) (says (b % 32) (omega arith))

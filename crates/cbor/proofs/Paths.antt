@@ -52,17 +52,17 @@ nth₂-at i zero (more₂ y x ps) = record { was = append_assoc (encode y) (enco
 nth₂-at i (suc k) (more₂ y x ps) = at-behind (encode y ++ encode x) (encode_all₂ ps) (λ g. encode_all₂ (change_nth₂ k g ps)) (nth₂ i k ps) (nth₂-at i k ps)
 
 -- heads hold counts, and they stay
-pub count-change : (k : ℕ) (g : Item → Item) (xs : Items) → count (change_nth k g xs) ≡ count xs
+pub count_change : (k : ℕ) (g : Item → Item) (xs : Items) → count (change_nth k g xs) ≡ count xs
 unfolding count change_nth
-count-change k g none = refl
-count-change zero g (more x xs) = refl
-count-change (suc k) g (more x xs) = ap suc (count-change k g xs)
+count_change k g none = refl
+count_change zero g (more x xs) = refl
+count_change (suc k) g (more x xs) = ap suc (count_change k g xs)
 
-pub count-change₂ : (k : ℕ) (g : Item → Item) (ps : Pairs) → count₂ (change_nth₂ k g ps) ≡ count₂ ps
+pub count_change₂ : (k : ℕ) (g : Item → Item) (ps : Pairs) → count₂ (change_nth₂ k g ps) ≡ count₂ ps
 unfolding count₂ change_nth₂
-count-change₂ k g none₂ = refl
-count-change₂ zero g (more₂ y x ps) = refl
-count-change₂ (suc k) g (more₂ y x ps) = ap suc (count-change₂ k g ps)
+count_change₂ k g none₂ = refl
+count_change₂ zero g (more₂ y x ps) = refl
+count_change₂ (suc k) g (more₂ y x ps) = ap suc (count_change₂ k g ps)
 
 enclosed-at : (m : Major) (z : Size) (n : ℕ) (old : List ℕ) (new : (Item → Item) → List ℕ) (n' : (Item → Item) → ℕ) → ((g : Item → Item) → n' g ≡ n) → (f : Found Spot) → At old new f
     → At (enclosed m z n old) (λ g. enclosed m z (n' g) (new g)) (within (opening_head m z n) (closing_break z) f)
@@ -75,8 +75,8 @@ unfolding child change_child encode
 child-at i k (int g w n) = tt
 child-at i k (string s w b) = tt
 child-at i k (chunked s cs) = tt
-child-at i k (array z xs) = enclosed-at arrays z (count xs) (encode_all xs) (λ g. encode_all (change_nth k g xs)) (λ g. count (change_nth k g xs)) (λ g. count-change k g xs) (nth i k xs) (nth-at i k xs)
-child-at i k (map z ps) = enclosed-at maps z (count₂ ps) (encode_all₂ ps) (λ g. encode_all₂ (change_nth₂ k g ps)) (λ g. count₂ (change_nth₂ k g ps)) (λ g. count-change₂ k g ps) (nth₂ i k ps) (nth₂-at i k ps)
+child-at i k (array z xs) = enclosed-at arrays z (count xs) (encode_all xs) (λ g. encode_all (change_nth k g xs)) (λ g. count (change_nth k g xs)) (λ g. count_change k g xs) (nth i k xs) (nth-at i k xs)
+child-at i k (map z ps) = enclosed-at maps z (count₂ ps) (encode_all₂ ps) (λ g. encode_all₂ (change_nth₂ k g ps)) (λ g. count₂ (change_nth₂ k g ps)) (λ g. count_change₂ k g ps) (nth₂ i k ps) (nth₂-at i k ps)
 child-at i k (tag w n x) = tt
 child-at i k (simple n) = tt
 

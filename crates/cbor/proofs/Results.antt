@@ -5,17 +5,17 @@ use mathlib.Core.List.{List}
 use mathlib.Core.Path.{◌≡◌, refl, ap}
 use Rattle.cbor.specs.Refusals.{Result, ok, refuse, bind, Verdict, accepted, refused, verdict_of}
 
-pub refuse-not-ok : {A : Type 0} {n left : ℕ} {x : A} {r : List ℕ} → ◌≡◌ {A = Result A} (refuse n left) (ok x r) → ⊥
-refuse-not-ok e = let z : ◌≡◌ {A = ℕ} 0 1 = cc in omega arith
+pub refuse_not_ok : {A : Type 0} {n left : ℕ} {x : A} {r : List ℕ} → ◌≡◌ {A = Result A} (refuse n left) (ok x r) → ⊥
+refuse_not_ok e = let z : ◌≡◌ {A = ℕ} 0 1 = cc in omega arith
 
-pub refused-not-accepted : {A : Type 0} {x : A} {n q : ℕ} → ◌≡◌ {A = Verdict A} (refused n q) (accepted x) → ⊥
-refused-not-accepted e = let z : ◌≡◌ {A = ℕ} 0 1 = cc in omega arith
+pub refused_not_accepted : {A : Type 0} {x : A} {n q : ℕ} → ◌≡◌ {A = Verdict A} (refused n q) (accepted x) → ⊥
+refused_not_accepted e = let z : ◌≡◌ {A = ℕ} 0 1 = cc in omega arith
 
 -- what a verdict comes from
-pub verdict-ok : {A : Type 0} (n : ℕ) (R : Result A) {x : A} → verdict_of n R ≡ accepted x → (r : List ℕ) × (R ≡ ok x r)
+pub verdict_ok : {A : Type 0} (n : ℕ) (R : Result A) {x : A} → verdict_of n R ≡ accepted x → (r : List ℕ) × (R ≡ ok x r)
 unfolding verdict_of
-verdict-ok n (ok y r) e = (r, ap (λ z. ok z r) (cc))
-verdict-ok n (refuse k w) e = absurd (refused-not-accepted e)
+verdict_ok n (ok y r) e = (r, ap (λ z. ok z r) (cc))
+verdict_ok n (refuse k w) e = absurd (refused_not_accepted e)
 
 -- one reading behind another
 pub bind-same : {A B : Type 0} (R : Result A) (f f' : A → List ℕ → Result B) → ((x : A) (t : List ℕ) → R ≡ ok x t → f x t ≡ f' x t) → bind R f ≡ bind R f'

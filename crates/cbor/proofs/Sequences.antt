@@ -46,18 +46,18 @@ same-follow (these gs) nothing t = absurd t
 same-follow (these gs) (these hs) t = ap these (same-ranges gs hs t)
 
 -- the first bytes between two bounds, by a test of each of them
-pub lead-rule : {b lo hi : ℕ} (n l h : ℕ) → lo ≤ b → b < hi → T (every (λ k x. same (follow k) (behind_first n l h)) lo (replicate (hi - lo) 0)) → follow b ≡ behind_first n l h
-lead-rule {b} {lo} {hi} n l h p q t = same-follow (follow b) (behind_first n l h) (between (λ k. same (follow k) (behind_first n l h)) lo hi t b p q)
+pub lead_rule : {b lo hi : ℕ} (n l h : ℕ) → lo ≤ b → b < hi → T (every (λ k x. same (follow k) (behind_first n l h)) lo (replicate (hi - lo) 0)) → follow b ≡ behind_first n l h
+lead_rule {b} {lo} {hi} n l h p q t = same-follow (follow b) (behind_first n l h) (between (λ k. same (follow k) (behind_first n l h)) lo hi t b p q)
 
 -- the first bounds and the last ones, which no test of the code has
 module _ {b : ℕ} where
-  pub lead-ascii : b < 0x80 → follow b ≡ behind_first 1 0x80 0xbf
+  pub lead_ascii : b < 0x80 → follow b ≡ behind_first 1 0x80 0xbf
   unfolding rows follow_in follow is_in behind_first ranges
-  lead-ascii h = lead-rule {lo = 0} 1 0x80 0xbf (omega arith) h tt
+  lead_ascii h = lead_rule {lo = 0} 1 0x80 0xbf (omega arith) h tt
 
-  pub lead-last : 0xf5 ≤ b → b < 256 → follow b ≡ behind_first 0 0x80 0xbf
+  pub lead_last : 0xf5 ≤ b → b < 256 → follow b ≡ behind_first 0 0x80 0xbf
   unfolding rows follow_in follow is_in behind_first ranges
-  lead-last l h = lead-rule 0 0x80 0xbf l h tt
+  lead_last l h = lead_rule 0 0x80 0xbf l h tt
 
 -- One byte within bounds.
 module _ (s : List ℕ) (at low high : ℕ) where
@@ -92,10 +92,10 @@ sequence-by (suc n) low high s = let e : suc n - 1 ≡ n = omega arith in rw e (
     go true = ap suc (length-ranges n low high)
     go false = refl
 
-are-in-step : (g : Range) (gs : List Range) (s : List ℕ) → are_in (g ∷ gs) s ≡ are_in (g ∷ []) s && are_in gs (drop 1 s)
+are_in_step : (g : Range) (gs : List Range) (s : List ℕ) → are_in (g ∷ gs) s ≡ are_in (g ∷ []) s && are_in gs (drop 1 s)
 unfolding are_in
-are-in-step g gs [] = refl
-are-in-step g gs (b ∷ s) = rw (and-true (is_in g b))
+are_in_step g gs [] = refl
+are_in_step g gs (b ∷ s) = rw (and-true (is_in g b))
 
 -- The loop: i bytes of the sequence at a place are right, and the next has the bounds low and high.
 pub record Behind (s : List ℕ) (at n i low high : ℕ) : Type 0 where
@@ -113,14 +113,14 @@ behind-next s at n i low high t inv h e =
     let gs = ranges (n - (i + 1)) 0x80 0xbf in
     inv.is
     ∙ ap (λ (k : ℕ). whole n (are_in (ranges k low high) (drop (at + i) s))) m
-    ∙ ap (whole n) (are-in-step (low to high) gs (drop (at + i) s))
+    ∙ ap (whole n) (are_in_step (low to high) gs (drop (at + i) s))
     ∙ ap (λ (r : List ℕ). whole n (are_in ((low to high) ∷ []) (drop (at + i) s) && are_in gs r)) d
     ∙ ap (λ (u : Bool). whole n (u && are_in gs (drop (at + (i + 1)) s))) (sym e)
 
-are-in-room : (g : Range) (s : List ℕ) → are_in (g ∷ []) s ≡ true → 0 < length s
+are_in_room : (g : Range) (s : List ℕ) → are_in (g ∷ []) s ≡ true → 0 < length s
 unfolding are_in
-are-in-room g [] e = let z : ◌≡◌ {A = ℕ} 0 1 = cc in absurd (omega arith)
-are-in-room g (b ∷ s) e = omega arith
+are_in_room g [] e = let z : ◌≡◌ {A = ℕ} 0 1 = cc in absurd (omega arith)
+are_in_room g (b ∷ s) e = omega arith
 
 module _ {s : List ℕ} {at : ℕ} where
   pub behind-start : {n low high : ℕ} → at < length s → follow (get_or s at 0) ≡ behind_first n low high → Behind s at n 1 low high
@@ -130,7 +130,7 @@ module _ {s : List ℕ} {at : ℕ} where
   module _ {n i low high : ℕ} {t : Bool} where
     pub behind-on : Behind s at n i low high → i < n → t ≡ are_in ((low to high) ∷ []) (drop (at + i) s) → not t ≡ false → Behind s at n (i + 1) 0x80 0xbf
     behind-on inv h e y =
-        let m : 0 < length (drop (at + i) s) = are-in-room (low to high) (drop (at + i) s) (sym e ∙ not-false t y) in
+        let m : 0 < length (drop (at + i) s) = are_in_room (low to high) (drop (at + i) s) (sym e ∙ not-false t y) in
         let is = rw (not-false t y) at (behind-next s at n i low high t inv h e) in
         record { is = is; inside = omega (arith, length-drop (at + i) s) }
 
@@ -153,9 +153,9 @@ first-bad-skip zero s h = omega arith
 first-bad-skip (suc k) [] h = absurd (omega arith)
 first-bad-skip (suc k) (b ∷ s) h = let e = first-bad-skip k s (omega arith) in omega arith
 
-pub first-bad-stop : (b : ℕ) (s : List ℕ) → sequence_by (follow b) s ≡ 0 → first_bad_from 0 (b ∷ s) ≡ 0
+pub first-bad_stop : (b : ℕ) (s : List ℕ) → sequence_by (follow b) s ≡ 0 → first_bad_from 0 (b ∷ s) ≡ 0
 unfolding first_bad_from
-first-bad-stop b s e = rw (e, first_bad_from)
+first-bad_stop b s e = rw (e, first_bad_from)
 
 pub first-bad-on : (b k : ℕ) (s : List ℕ) → sequence_by (follow b) s ≡ suc k → first_bad_from 0 (b ∷ s) ≡ suc (first_bad_from k s)
 unfolding first_bad_from
@@ -170,10 +170,10 @@ pub walk_start : {s : List ℕ} → Walked s 0
 walk_start {s} = record { inside = omega arith; same = omega arith }
 
 module _ {s : List ℕ} {at : ℕ} where
-  walk-by : (n : ℕ) → Walked s at → at < length s → sequence_by (follow (get_or s at 0)) (drop (at + 1) s) ≡ n → (n ≡ 0 → ⊥) → at + n ≤ length s → Walked s (at + n)
+  walk_by : (n : ℕ) → Walked s at → at < length s → sequence_by (follow (get_or s at 0)) (drop (at + 1) s) ≡ n → (n ≡ 0 → ⊥) → at + n ≤ length s → Walked s (at + n)
   unfolding first_bad
-  walk-by zero inv h e nz r = absurd (nz refl)
-  walk-by (suc k) inv h e nz r =
+  walk_by zero inv h e nz r = absurd (nz refl)
+  walk_by (suc k) inv h e nz r =
       let f = ap (first_bad_from 0) (front s at h) ∙ first-bad-on (get_or s at 0) k (drop (at + 1) s) e in
       let le : k ≤ length (drop (at + 1) s) = simp length-drop (omega arith) in
       let g = first-bad-skip k (drop (at + 1) s) le in
@@ -181,18 +181,18 @@ module _ {s : List ℕ} {at : ℕ} where
       let d : drop k (drop (at + 1) s) ≡ drop (at + suc k) s = drop-drop k (at + 1) s ∙ ap (λ (m : ℕ). drop m s) a in
       record { inside = r; same = omega (arith, ap (first_bad_from 0) d, inv.same) }
 
-  pub walk-ascii : Walked s at → at < length s → get_or s at 0 < 0x80 → Walked s (at + 1)
+  pub walk_ascii : Walked s at → at < length s → get_or s at 0 < 0x80 → Walked s (at + 1)
   unfolding behind_first ranges sequence_by are_in
-  walk-ascii inv h l = walk-by 1 inv h (ap (λ (f : Follow). sequence_by f (drop (at + 1) s)) (lead-ascii l)) (omega arith) (omega arith)
+  walk_ascii inv h l = walk_by 1 inv h (ap (λ (f : Follow). sequence_by f (drop (at + 1) s)) (lead_ascii l)) (omega arith) (omega arith)
 
-  pub walk-on : {n : ℕ} → Walked s at → at < length s → Sequence s at n → (n ≡ 0 → ⊥) → Walked s (at + n)
-  walk-on {n} inv h q nz = walk-by n inv h (sym q.is) nz q.inside
+  pub walk_on : {n : ℕ} → Walked s at → at < length s → Sequence s at n → (n ≡ 0 → ⊥) → Walked s (at + n)
+  walk_on {n} inv h q nz = walk_by n inv h (sym q.is) nz q.inside
 
-  pub walk-bad : {n : ℕ} → Walked s at → at < length s → Sequence s at n → n ≡ 0 → at ≡ first_bad s
+  pub walk_bad : {n : ℕ} → Walked s at → at < length s → Sequence s at n → n ≡ 0 → at ≡ first_bad s
   unfolding first_bad
-  walk-bad {n} inv h q z =
+  walk_bad {n} inv h q z =
       let e : sequence_by (follow (get_or s at 0)) (drop (at + 1) s) ≡ 0 = sym q.is ∙ z in
-      let f = ap (first_bad_from 0) (front s at h) ∙ first-bad-stop (get_or s at 0) (drop (at + 1) s) e in
+      let f = ap (first_bad_from 0) (front s at h) ∙ first-bad_stop (get_or s at 0) (drop (at + 1) s) e in
       omega (arith, inv.same)
 
   pub walk_end : Walked s at → length s ≤ at → at ≡ first_bad s

@@ -44,14 +44,14 @@ pub record Goes (u : Until) (n : ℕ) (s r : List ℕ) : Type 0 where
   pub meets : Meets next n r
   pub tail : tail_of next r ≡ tail_of u r
 
-goes-cons : (u : Until) (n b : ℕ) (s r : List ℕ) → b < 255 → Meets u (suc n) r → Goes u n (b ∷ s) r
+goes_cons : (u : Until) (n b : ℕ) (s r : List ℕ) → b < 255 → Meets u (suc n) r → Goes u n (b ∷ s) r
 unfolding step_at
-goes-cons (counted m) n b s r l h = record { next = counted n; step = rw (h, step_at); meets = refl; tail = refl }
-goes-cons broken n b s r l h = let e : b ≡ break → ⊥ = omega arith in record { next = broken; step = rw (ne_eqb b break e, step_at); meets = tt; tail = refl }
-goes-cons ended n b s r l h = record { next = ended; step = refl; meets = h; tail = refl }
+goes_cons (counted m) n b s r l h = record { next = counted n; step = rw (h, step_at); meets = refl; tail = refl }
+goes_cons broken n b s r l h = let e : b ≡ break → ⊥ = omega arith in record { next = broken; step = rw (ne_eqb b break e, step_at); meets = tt; tail = refl }
+goes_cons ended n b s r l h = record { next = ended; step = refl; meets = h; tail = refl }
 
 pub goes : (u : Until) (n : ℕ) (s r : List ℕ) → Begins s → Meets u (suc n) r → Goes u n s r
-goes u n s r b h = rw b.is (goes-cons u n b.first b.rest r b.low h)
+goes u n s r b h = rw b.is (goes_cons u n b.first b.rest r b.low h)
 
 module _ {A L : Type 0} (nil : L) (cons : A → L → L) (rd : List ℕ → Result A) where
   -- c is n elements written one behind the other, and read they are xs
@@ -59,19 +59,19 @@ module _ {A L : Type 0} (nil : L) (cons : A → L → L) (rd : List ℕ → Resu
   Reads xs n c =
       (f : ℕ) (u : Until) (r : List ℕ) → Meets u n r → length (c ++ tail_of u r) < f → several_within nil cons rd f u (c ++ tail_of u r) ≡ ok xs r
 
-  pub reads-nil : Reads nil 0 []
+  pub reads_nil : Reads nil 0 []
   unfolding several_within several_by
-  reads-nil zero u r m h = absurd (omega arith)
-  reads-nil (suc f) u r m h = rw (step-over u r m)
+  reads_nil zero u r m h = absurd (omega arith)
+  reads_nil (suc f) u r m h = rw (step-over u r m)
 
   several-step : (f : ℕ) (u u' : Until) (s : List ℕ) (x : A) (t : List ℕ) (xs : L) (r : List ℕ) → step_at u s ≡ another u' → rd s ≡ ok x t
       → several_within nil cons rd f u' t ≡ ok xs r → several_within nil cons rd (suc f) u s ≡ ok (cons x xs) r
   unfolding several_within several_by bind
   several-step f u u' s x t xs r e g k = rw e (rw g (rw k))
 
-  pub reads-cons : (x : A) (xs : L) (n : ℕ) (b c : List ℕ) → Begins b → ((s : List ℕ) → rd (b ++ s) ≡ ok x s) → Reads xs n c → Reads (cons x xs) (suc n) (b ++ c)
-  reads-cons x xs n b c g e k zero u r m h = absurd (omega arith)
-  reads-cons x xs n b c g e k (suc f) u r m h =
+  pub reads_cons : (x : A) (xs : L) (n : ℕ) (b c : List ℕ) → Begins b → ((s : List ℕ) → rd (b ++ s) ≡ ok x s) → Reads xs n c → Reads (cons x xs) (suc n) (b ++ c)
+  reads_cons x xs n b c g e k zero u r m h = absurd (omega arith)
+  reads_cons x xs n b c g e k (suc f) u r m h =
       let o = goes u n ((b ++ c) ++ tail_of u r) r (begins-more (tail_of u r) (begins-more c g)) m in
       let short : length (c ++ tail_of u r) < f = simp length-append (omega (arith, simp length-append at h, ap length g.is)) in
       several-step f u o.next ((b ++ c) ++ tail_of u r) x (c ++ tail_of u r) xs r o.step (ap rd (append_assoc b c (tail_of u r)) ∙ e (c ++ tail_of u r))

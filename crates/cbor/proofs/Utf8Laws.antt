@@ -11,15 +11,15 @@ use borrow.Author.Tests.{leb-true, eq-eqb, eqb-true}
 use Rattle.cbor.specs.Utf8.{Range, is_in, Row, rows, Follow, nothing, these, follow_in, follow, are_in, sequence_by, first_bad_from, first_bad, is_utf8}
 use Rattle.cbor.specs.Valid.{Bytes}
 use Rattle.cbor.proofs.Table.{both}
-use Rattle.cbor.proofs.Sequences.{first-bad-stop, first-bad-on}
+use Rattle.cbor.proofs.Sequences.{first-bad_stop, first-bad-on}
 
 pub both_true : (a b : Bool) → a && b ≡ true → (a ≡ true) × (b ≡ true)
 both_true true b e = (refl, e)
 both_true false b e = let z : ◌≡◌ {A = ℕ} 0 1 = cc in absurd (omega arith)
 
-pub is-in : (g : Range) (b : ℕ) → is_in g b ≡ true → (g.low ≤ b) × (b ≤ g.high)
+pub is_in_lem : (g : Range) (b : ℕ) → is_in g b ≡ true → (g.low ≤ b) × (b ≤ g.high)
 unfolding is_in
-is-in g b e =
+is_in_lem g b e =
     let p = both_true (leb g.low b) (leb b g.high) e in
     (leb-true g.low b p.0, leb-true b g.high p.1)
 
@@ -36,22 +36,22 @@ abbrev pub Right : ℕ → Follow → Type 0
 Right b nothing = Unit
 Right b (these gs) = (b < 256) × T (continuing gs)
 
-follow-in : (ws : List Row) (b : ℕ) → T (right ws) → Right b (follow_in ws b)
+follow_in_lem : (ws : List Row) (b : ℕ) → T (right ws) → Right b (follow_in ws b)
 unfolding follow_in
-follow-in [] b t = tt
-follow-in (w ∷ ws) b t =
+follow_in_lem [] b t = tt
+follow_in_lem (w ∷ ws) b t =
     let p = both (leb w.first.high 0xff) (continuing w.rest && right ws) t in
     let q = both (continuing w.rest) (right ws) p.1 in
-    go (is_in w.first b) refl (leb→le w.first.high 0xff p.0) q.0 (follow-in ws b q.1)
+    go (is_in w.first b) refl (leb→le w.first.high 0xff p.0) q.0 (follow_in_lem ws b q.1)
   where
     go : (y : Bool) → is_in w.first b ≡ y → w.first.high ≤ 0xff → T (continuing w.rest) → Right b (follow_in ws b)
         → Right b (elim y [ true ↦ these w.rest | false ↦ follow_in ws b ])
-    go true e h c r = let i = is-in w.first b e in (omega arith, c)
+    go true e h c r = let i = is_in_lem w.first b e in (omega arith, c)
     go false e h c r = r
 
-pub follow-right : (b : ℕ) → Right b (follow b)
+pub follow_right : (b : ℕ) → Right b (follow b)
 unfolding follow rows
-follow-right b = follow-in rows b tt
+follow_right b = follow_in_lem rows b tt
 
 -- the first k bytes are there, each 80 to BF
 abbrev Continues : ℕ → List ℕ → Type 0
@@ -66,62 +66,62 @@ first_range g gs t =
     let q = both (leb g.high 0xbf) (continuing gs) p.1 in
     (leb→le 0x80 g.low p.0, leb→le g.high 0xbf q.0, q.1)
 
-are-in-continues : (gs : List Range) (s : List ℕ) → T (continuing gs) → are_in gs s ≡ true → Continues (length gs) s
+are_in_continues : (gs : List Range) (s : List ℕ) → T (continuing gs) → are_in gs s ≡ true → Continues (length gs) s
 unfolding are_in
-are-in-continues [] s t e = tt
-are-in-continues (g ∷ gs) [] t e = let z : ◌≡◌ {A = ℕ} 0 1 = cc in absurd (omega arith)
-are-in-continues (g ∷ gs) (b ∷ s) t e =
+are_in_continues [] s t e = tt
+are_in_continues (g ∷ gs) [] t e = let z : ◌≡◌ {A = ℕ} 0 1 = cc in absurd (omega arith)
+are_in_continues (g ∷ gs) (b ∷ s) t e =
     let p = both_true (is_in g b) (are_in gs s) e in
-    let i = is-in g b p.0 in
+    let i = is_in_lem g b p.0 in
     let r = first_range g gs t in
-    (omega arith, omega arith, are-in-continues gs s r.2 p.1)
+    (omega arith, omega arith, are_in_continues gs s r.2 p.1)
 
-are-in-append : (gs : List Range) (s b : List ℕ) → are_in gs s ≡ true → are_in gs (s ++ b) ≡ true
+are_in_append : (gs : List Range) (s b : List ℕ) → are_in gs s ≡ true → are_in gs (s ++ b) ≡ true
 unfolding are_in
-are-in-append [] s b e = refl
-are-in-append (g ∷ gs) [] b e = let z : ◌≡◌ {A = ℕ} 0 1 = cc in absurd (omega arith)
-are-in-append (g ∷ gs) (x ∷ s) b e =
+are_in_append [] s b e = refl
+are_in_append (g ∷ gs) [] b e = let z : ◌≡◌ {A = ℕ} 0 1 = cc in absurd (omega arith)
+are_in_append (g ∷ gs) (x ∷ s) b e =
     let p = both_true (is_in g x) (are_in gs s) e in
-    rw (p.0, are-in-append gs s b p.1)
+    rw (p.0, are_in_append gs s b p.1)
 
-are-in-cut : (gs : List Range) (a b : List ℕ) (c : ℕ) → c < 128 → T (continuing gs) → are_in gs (a ++ (c ∷ b)) ≡ true → are_in gs a ≡ true
+are_in_cut : (gs : List Range) (a b : List ℕ) (c : ℕ) → c < 128 → T (continuing gs) → are_in gs (a ++ (c ∷ b)) ≡ true → are_in gs a ≡ true
 unfolding are_in
-are-in-cut [] a b c h t e = refl
-are-in-cut (g ∷ gs) [] b c h t e =
-    let i = is-in g c (both_true (is_in g c) (are_in gs b) e).0 in
+are_in_cut [] a b c h t e = refl
+are_in_cut (g ∷ gs) [] b c h t e =
+    let i = is_in_lem g c (both_true (is_in g c) (are_in gs b) e).0 in
     let r = first_range g gs t in
     absurd (omega arith)
-are-in-cut (g ∷ gs) (x ∷ a) b c h t e =
+are_in_cut (g ∷ gs) (x ∷ a) b c h t e =
     let p = both_true (is_in g x) (are_in gs (a ++ (c ∷ b))) e in
-    rw (p.0, are-in-cut gs a b c h (first_range g gs t).2 p.1)
+    rw (p.0, are_in_cut gs a b c h (first_range g gs t).2 p.1)
 
 -- A sequence that is there.
-sequence-in : (gs : List Range) (s : List ℕ) (k : ℕ) → sequence_by (these gs) s ≡ suc k → (are_in gs s ≡ true) × (length gs ≡ k)
+sequence_in : (gs : List Range) (s : List ℕ) (k : ℕ) → sequence_by (these gs) s ≡ suc k → (are_in gs s ≡ true) × (length gs ≡ k)
 unfolding sequence_by
-sequence-in gs s k e = go (are_in gs s) e
+sequence_in gs s k e = go (are_in gs s) e
   where
     go : (t : Bool) → elim t [ true ↦ suc (length gs) | false ↦ 0 ] ≡ suc k → (t ≡ true) × (length gs ≡ k)
     go true e = (refl, omega arith)
     go false e = absurd (omega arith)
 
-pub in-sequence : (gs : List Range) (s : List ℕ) (k : ℕ) → are_in gs s ≡ true → length gs ≡ k → sequence_by (these gs) s ≡ suc k
+pub in_sequence : (gs : List Range) (s : List ℕ) (k : ℕ) → are_in gs s ≡ true → length gs ≡ k → sequence_by (these gs) s ≡ suc k
 unfolding sequence_by
-in-sequence gs s k e l = rw (e, sequence_by) (ap suc l)
+in_sequence gs s k e l = rw (e, sequence_by) (ap suc l)
 
-sequence-continues : (f : Follow) (b k : ℕ) (s : List ℕ) → Right b f → sequence_by f s ≡ suc k → (b < 256) × Continues k s
+sequence_continues : (f : Follow) (b k : ℕ) (s : List ℕ) → Right b f → sequence_by f s ≡ suc k → (b < 256) × Continues k s
 unfolding sequence_by
-sequence-continues nothing b k s r e = absurd (omega arith)
-sequence-continues (these gs) b k s r e = let p = sequence-in gs s k e in (r.0, rw p.1 at (are-in-continues gs s r.1 p.0))
+sequence_continues nothing b k s r e = absurd (omega arith)
+sequence_continues (these gs) b k s r e = let p = sequence_in gs s k e in (r.0, rw p.1 at (are_in_continues gs s r.1 p.0))
 
 sequence-append : (f : Follow) (k : ℕ) (s b : List ℕ) → sequence_by f s ≡ suc k → sequence_by f (s ++ b) ≡ suc k
 unfolding sequence_by
 sequence-append nothing k s b e = e
-sequence-append (these gs) k s b e = let p = sequence-in gs s k e in in-sequence gs (s ++ b) k (are-in-append gs s b p.0) p.1
+sequence-append (these gs) k s b e = let p = sequence_in gs s k e in in_sequence gs (s ++ b) k (are_in_append gs s b p.0) p.1
 
 sequence-cut : (f : Follow) (x k : ℕ) (a b : List ℕ) (c : ℕ) → Right x f → c < 128 → sequence_by f (a ++ (c ∷ b)) ≡ suc k → sequence_by f a ≡ suc k
 unfolding sequence_by
 sequence-cut nothing x k a b c r h e = e
-sequence-cut (these gs) x k a b c r h e = let p = sequence-in gs (a ++ (c ∷ b)) k e in in-sequence gs a k (are-in-cut gs a b c h r.1 p.0) p.1
+sequence-cut (these gs) x k a b c r h e = let p = sequence_in gs (a ++ (c ∷ b)) k e in in_sequence gs a k (are_in_cut gs a b c h r.1 p.0) p.1
 
 -- A valid text that is not empty begins with a sequence.
 record Begins (b : ℕ) (s : List ℕ) : Type 0 where
@@ -135,9 +135,9 @@ begins : (b : ℕ) (s : List ℕ) → first_bad_from 0 (b ∷ s) ≡ length (b �
 begins b s h = go (sequence_by (follow b) s) refl
   where
     go : (n : ℕ) → sequence_by (follow b) s ≡ n → Begins b s
-    go zero e = absurd (omega (arith, first-bad-stop b s e))
+    go zero e = absurd (omega (arith, first-bad_stop b s e))
     go (suc k) e =
-        let p = sequence-continues (follow b) b k s (follow-right b) e in
+        let p = sequence_continues (follow b) b k s (follow_right b) e in
         record { more = k; is = e; byte = p.0; continues = p.1; rest = omega (arith, first-bad-on b k s e) }
 
 -- The laws, for a text whose first k bytes end a sequence.
@@ -148,7 +148,7 @@ most-from (suc k) (b ∷ s) = omega (arith, most-from k s)
 most-from zero (b ∷ s) = go (sequence_by (follow b) s) refl (λ k. most-from k s)
   where
     go : (n : ℕ) → sequence_by (follow b) s ≡ n → ((k : ℕ) → first_bad_from k s ≤ length s) → first_bad_from 0 (b ∷ s) ≤ length (b ∷ s)
-    go zero e m = omega (arith, first-bad-stop b s e)
+    go zero e m = omega (arith, first-bad_stop b s e)
     go (suc k) e m = omega (arith, first-bad-on b k s e, m k)
 
 bytes-from : (k : ℕ) (s : List ℕ) → Continues k s → first_bad_from k s ≡ length s → Bytes s
@@ -175,7 +175,7 @@ cut-from (suc k) (x ∷ a) b c h r e = let p = cut-from k a b c h r.2 (omega ari
 cut-from zero (x ∷ a) b c h r e =
     let w = begins x (a ++ (c ∷ b)) e in
     let p = cut-from w.more a b c h w.continues w.rest in
-    let q = sequence-cut (follow x) x w.more a b c (follow-right x) h w.is in
+    let q = sequence-cut (follow x) x w.more a b c (follow_right x) h w.is in
     (first-bad-on x w.more a q ∙ ap suc p.0, p.1)
 
 -- a text is valid where no bad sequence stands before its end
@@ -196,8 +196,8 @@ pub utf8_append : (a b : List ℕ) → is_utf8 a ≡ true → first_bad (a ++ b)
 unfolding first_bad
 utf8_append a b h = append-from 0 a b tt (valid a h)
 
-pub utf8-join : (a b : List ℕ) → is_utf8 a ≡ true → is_utf8 b ≡ true → is_utf8 (a ++ b) ≡ true
-utf8-join a b h i = is-valid (a ++ b) (append-from 0 a b tt (valid a h) ∙ ap (λ (n : ℕ). length a + n) (valid b i) ∙ sym (length-append a b))
+pub utf8_join : (a b : List ℕ) → is_utf8 a ≡ true → is_utf8 b ≡ true → is_utf8 (a ++ b) ≡ true
+utf8_join a b h i = is-valid (a ++ b) (append-from 0 a b tt (valid a h) ∙ ap (λ (n : ℕ). length a + n) (valid b i) ∙ sym (length-append a b))
 
 pub utf8-bytes : (s : List ℕ) → is_utf8 s ≡ true → Bytes s
 utf8-bytes s h = bytes-from 0 s tt (valid s h)

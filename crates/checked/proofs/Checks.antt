@@ -19,30 +19,30 @@ use Rattle.checked.specs.declared.Scanned.TheVariants.{Item as ItemV, Refused as
 
 -- CHECK
 module _ {a : Passed} where
-  pub check-refused : {e : Refusal} → a ≡ RefusedV e → check_told (CheckRefused e) ≡ check_by (pass_told a)
+  pub check_refused_lem : {e : Refusal} → a ≡ RefusedV e → check_told (CheckRefused e) ≡ check_by (pass_told a)
   unfolding check_told check_by pass_told
-  check-refused f = rw f
+  check_refused_lem f = rw f
 
-  pub check-fine : {m : Passage} → a ≡ SpanV m → check_told Accepted ≡ check_by (pass_told a)
+  pub check_fine : {m : Passage} → a ≡ SpanV m → check_told Accepted ≡ check_by (pass_told a)
   unfolding check_told check_by pass_told
-  check-fine f = rw f
+  check_fine f = rw f
 
-pub ruleset check-ways = (check-refused, check-fine)
+pub ruleset check_ways = (check_refused_lem, check_fine)
 
 -- of items read from n bytes
-pub check-read : (n : ℕ) (res : Result Items) → check_by (walk_all_of n res) ≡ check_of (verdict_of n res)
+pub check_read : (n : ℕ) (res : Result Items) → check_by (walk_all_of n res) ≡ check_of (verdict_of n res)
 unfolding check_by walk_all_of told_of map_result check_of verdict_of
-check-read n (ok xs r) = refl
-check-read n (refuse k l) = refl
+check_read n (ok xs r) = refl
+check_read n (refuse k l) = refl
 
 -- SCAN
 module _ (h : HeadAt) {a : Walked} where
-  pub scan-refused : {e : Refusal} → a ≡ WalkRefusedV e → scan_told (ScanRefused e) ≡ scan_by h (walk_told a)
+  pub scan_refused_lem : {e : Refusal} → a ≡ WalkRefusedV e → scan_told (ScanRefused e) ≡ scan_by h (walk_told a)
   unfolding scan_told scan_by walk_told
-  scan-refused f = rw f
+  scan_refused_lem f = rw f
 
-  pub scan-made : {m : WalkedItem} → a ≡ MadeV m → scan_told (ItemV (record { major = m.major; info = h.info; argument = h.argument; content = h.end; end = m.end })) ≡ scan_by h (walk_told a)
+  pub scan_made : {m : WalkedItem} → a ≡ MadeV m → scan_told (ItemV (record { major = m.major; info = h.info; argument = h.argument; content = h.end; end = m.end })) ≡ scan_by h (walk_told a)
   unfolding scan_told scan_by walk_told
-  scan-made f = rw f
+  scan_made f = rw f
 
-pub ruleset scan-ways = (scan-refused, scan-made)
+pub ruleset scan_ways = (scan_refused_lem, scan_made)

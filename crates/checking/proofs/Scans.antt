@@ -24,50 +24,50 @@ use Rattle.checked.specs.CheckAnswers.{check_told, check_of, check_by, item_scan
 use Rattle.checked.specs.declared.Checked.{Checked}
 use Rattle.checked.specs.declared.Scanned.{Scanned}
 use Rattle.checked.specs.declared.Scanned.TheVariants.{Refused as ScanRefused}
-use Rattle.checked.proofs.Checks.{check-read}
+use Rattle.checked.proofs.Checks.{check_read}
 use Rattle.checking.specs.Scans.{HeadOf, scan_from, scanned}
 use Rattle.path.proofs.Stepping.{Got, got}
 
 -- CHECK
 
-pub check-told : (s : List ℕ) (a : Passed) (r : Checked) → pass_told a ≡ walk_all_of (length s) (decode s) → check_told r ≡ check_by (pass_told a) → check_told r ≡ check_of (items_of s)
+pub check_told_lem : (s : List ℕ) (a : Passed) (r : Checked) → pass_told a ≡ walk_all_of (length s) (decode s) → check_told r ≡ check_by (pass_told a) → check_told r ≡ check_of (items_of s)
 unfolding items_of
-check-told s a r told by = by ∙ ap check_by told ∙ check-read (length s) (decode s)
+check_told_lem s a r told by = by ∙ ap check_by told ∙ check_read (length s) (decode s)
 
 -- SCAN
 
-scan-no : (n : ℕ) (e : Refusal) (res : Result Head) (go : Head → List ℕ → Result HeadOf) → head_told (HeadRefusedV e) ≡ head_from n res → scan_told (ScanRefused e) ≡ scan_from n (bind res go)
+scan_no : (n : ℕ) (e : Refusal) (res : Result Head) (go : Head → List ℕ → Result HeadOf) → head_told (HeadRefusedV e) ≡ head_from n res → scan_told (ScanRefused e) ≡ scan_from n (bind res go)
 unfolding head_told head_from scan_told scan_from bind
-scan-no n e (ok d r) go h = let z : ◌≡◌ {A = ℕ} 0 1 = cc in absurd (omega arith)
-scan-no n e (refuse k l) go h =
+scan_no n e (ok d r) go h = let z : ◌≡◌ {A = ℕ} 0 1 = cc in absurd (omega arith)
+scan_no n e (refuse k l) go h =
     let i : kind_number e.kind ≡ k = cc in
     let j : e.place ≡ n - l = cc in
     λ x. scan_refused (i x) (j x)
 
 module _ (s : List ℕ) (i : ℕ) (a : HeadRead) (told : head_told a ≡ head_at s i) where
-  pub scan-refused : {e : Refusal} → a ≡ HeadRefusedV e → scan_told (ScanRefused e) ≡ scan_from (length s) (scanned (drop i s))
+  pub scan_refused_lem : {e : Refusal} → a ≡ HeadRefusedV e → scan_told (ScanRefused e) ≡ scan_from (length s) (scanned (drop i s))
   unfolding head_at scanned
-  scan-refused f = scan-no (length s) _ (next_head (drop i s)) _ (rw f at told)
+  scan_refused_lem f = scan_no (length s) _ (next_head (drop i s)) _ (rw f at told)
 
   module _ {h : HeadAt} (f : a ≡ HeadV h) where
-    pub scan-room : i ≤ length s
-    scan-room = let g = got s i a told f in omega (arith, g.early)
+    pub scan_room : i ≤ length s
+    scan_room = let g = got s i a told f in omega (arith, g.early)
 
     -- an item read behind the head
-    scan-read : (g : Got s i h) (res : Result Item) → scan_by h (walk_of (length s) res) ≡ scan_from (length s) (bind res (λ x r. ok (record { head = g.head; rest = g.rest; item = x }) r))
+    scan_read : (g : Got s i h) (res : Result Item) → scan_by h (walk_of (length s) res) ≡ scan_from (length s) (bind res (λ x r. ok (record { head = g.head; rest = g.rest; item = x }) r))
     unfolding scan_by walk_of scan_from bind
-    scan-read g (ok x r) = λ j. item_scanned (major_number (item_major x)) (g.info j) (g.argument j) (g.ends j) (length s - length r)
-    scan-read g (refuse k l) = refl
+    scan_read g (ok x r) = λ j. item_scanned (major_number (item_major x)) (g.info j) (g.argument j) (g.ends j) (length s - length r)
+    scan_read g (refuse k l) = refl
 
-    scan-is : (g : Got s i h) → scanned (drop i s) ≡ bind (item_at 16 (drop i s)) (λ x r. ok (record { head = g.head; rest = g.rest; item = x }) r)
+    scan_is : (g : Got s i h) → scanned (drop i s) ≡ bind (item_at 16 (drop i s)) (λ x r. ok (record { head = g.head; rest = g.rest; item = x }) r)
     unfolding scanned bind
-    scan-is g = rw g.is
+    scan_is g = rw g.is
 
     module _ (inner : Walked) (long : length s * 1 < 2 ^ 63)
         (walked : walk_told inner ≡ walk_of (length (take (length s - i) (drop i s))) (item_at 16 (take (length s - i) (drop i s)))) (part : Walked) (after : walk_told part ≡ item_after i (walk_told inner)) where
-      pub scan-told : (r : Scanned) → scan_told r ≡ scan_by h (walk_told part) → scan_told r ≡ scan_from (length s) (scanned (drop i s))
-      scan-told r by =
+      pub scan_told_lem : (r : Scanned) → scan_told r ≡ scan_by h (walk_told part) → scan_told r ≡ scan_from (length s) (scanned (drop i s))
+      scan_told_lem r by =
           let g = got s i a told f in
-          by ∙ ap (scan_by h) (item-told 16 s i inner part scan-room long walked after) ∙ scan-read g (item_at 16 (drop i s)) ∙ ap (scan_from (length s)) (sym (scan-is g))
+          by ∙ ap (scan_by h) (item-told 16 s i inner part scan_room long walked after) ∙ scan_read g (item_at 16 (drop i s)) ∙ ap (scan_from (length s)) (sym (scan_is g))
 
-pub ruleset scan-ways = (scan-refused, scan-told)
+pub ruleset scan_ways = (scan_refused_lem, scan_told_lem)

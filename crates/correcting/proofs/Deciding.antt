@@ -19,14 +19,14 @@ use Rattle.memory.specs.Buffer.{over}
 use Rattle.refusal.specs.RefusalKinds.{kind_number}
 use Rattle.refusal.specs.declared.Refusal.{Refusal}
 use Rattle.refusal.specs.declared.RefusalKind.TheVariants.{TooLong}
-use Rattle.cbor.proofs.Results.{refused-not-accepted}
+use Rattle.cbor.proofs.Results.{refused_not_accepted}
 use Rattle.cbor.proofs.Paths.{part-at-path}
 use Rattle.notation.specs.Reading.{marked, single, read_item}
 use Rattle.notation.specs.Alone.{plus}
 use Rattle.notation_theorems.proofs.MarkedText.{marked-length}
 use Rattle.encoding.specs.ReadAnswers.{Wrote, ReadTold, of_item}
 use Rattle.encoding.proofs.Wrote.{wrote-held}
-use Rattle.correcting.proofs.ReadOne.{one-accepted, one-denied}
+use Rattle.correcting.proofs.ReadOne.{one-accepted, one_denied}
 use Rattle.encoding.specs.declared.answer.MadeItem.{MadeItem as MadeS}
 use Rattle.encoding.specs.declared.answer.ReadAnswer.{ReadAnswer}
 use Rattle.encoding.specs.declared.answer.ReadAnswer.TheVariants.{Made as ReadMade, Refused as ReadRefused}
@@ -47,7 +47,7 @@ use Rattle.part.specs.declared.Part.{Part}
 use Rattle.planning.specs.declared.Plan.{Plan}
 use Rattle.planning.specs.declared.Decision.{Decision}
 use Rattle.planning.specs.declared.Decision.TheVariants.{Replace, Refused}
-use Rattle.operations.proofs.Verdicts.{and-then-ok, and-then-is, and-then-refused}
+use Rattle.operations.proofs.Verdicts.{and_then-ok, and_then-is, and_then-refused}
 use Rattle.text_check.proofs.Texts.{passes, fails, passed-short}
 use Rattle.operations.proofs.Demands.{items_of-ok}
 use Rattle.splicing.proofs.Putting.{whole_length}
@@ -60,19 +60,19 @@ stands : {b b' ws : List ℕ} {n : ℕ} → n ≡ length ws → Wrote b b' 0 ws 
 stands {b} {b'} {ws} {n} e w f = let g : length ws ≤ length b = omega arith in rw e (wrote-held w g)
 
 module _ (s : List ℕ) {t : Text} (h : text_told t ≡ passing s) where
-  pub new-short : t ≡ Good → length s ≤ 65535
+  pub new_short : t ≡ Good → length s ≤ 65535
   unfolding text_told
-  new-short e = passed-short s (sym h ∙ rw e)
+  new_short e = passed-short s (sym h ∙ rw e)
 
-  pub new-refused : {levels : ℕ} {item : List ℕ} {e : Refusal} → t ≡ TextRefused e → Newly s levels item (ReadRefused e)
+  pub new_refused : {levels : ℕ} {item : List ℕ} {e : Refusal} → t ≡ TextRefused e → Newly s levels item (ReadRefused e)
   unfolding text_told read_item NewRead
-  new-refused {levels} {item} {e} i =
+  new_refused {levels} {item} {e} i =
       let p : passing s ≡ refused (kind_number e.kind) e.place = sym h ∙ rw i in
       newly s levels item (ReadRefused e) _ (fails s (verdict_of (length s) (single levels s)) p) (e, refl, refl, refl)
 
-  pub new-read : {levels : ℕ} {item item' : List ℕ} {a : ReadAnswer} → t ≡ Good → Roomy s item → ReadTold of_item s item item' (length (marked s)) 0 a (plus (single levels s)) → Newly s levels item' a
+  pub new_read : {levels : ℕ} {item item' : List ℕ} {a : ReadAnswer} → t ≡ Good → Roomy s item → ReadTold of_item s item item' (length (marked s)) 0 a (plus (single levels s)) → Newly s levels item' a
   unfolding text_told read_item NewRead
-  new-read {levels} {item} {item'} {a} i l told = go a told
+  new_read {levels} {item} {item'} {a} i l told = go a told
     where
       passed : read_item levels s ≡ verdict_of (length s) (single levels s)
       passed = passes s (verdict_of (length s) (single levels s)) (sym h ∙ rw i)
@@ -83,9 +83,9 @@ module _ (s : List ℕ) {t : Text} (h : text_told t ≡ passing s) where
           let f : m.size ≤ most_bytes → m.size ≤ length item = λ n. omega (arith, n, o.short, l.room, marked-length s) in
           let w : m.size ≤ most_bytes → take m.size item' ≡ encode o.item = λ n. stands o.size o.wrote (f n) in
           newly s levels item' (ReadMade m) _ (passed ∙ o.is) (m, refl, record { sized = o.size; held = w }, λ n. omega (arith, f n, o.wrote.same))
-      go (ReadRefused e) x = newly s levels item' (ReadRefused e) _ (passed ∙ one-denied levels (ReadRefused e) x refl) (e, refl, refl, refl)
+      go (ReadRefused e) x = newly s levels item' (ReadRefused e) _ (passed ∙ one_denied levels (ReadRefused e) x refl) (e, refl, refl, refl)
 
-pub ruleset new-ways = (new-refused, new-read)
+pub ruleset new_ways = (new_refused, new_read)
 
 -- THE PART THAT IS REPLACED
 module _ (b : List ℕ) (p : Part) (used room : ℕ) (w : List ℕ) where
@@ -97,10 +97,10 @@ module _ (b : List ℕ) (p : Part) (used room : ℕ) (w : List ℕ) where
   unfolding room_for
   room-no t = rw (t, room_for)
 
-replace-new : (p : Part) (used room levels : ℕ) (s item : List ℕ) (d : Decision) {a : ReadAnswer} {m : MadeS} (v : Verdict Item) → read_item levels s ≡ v → NewRead item a v → a ≡ ReadMade m → Bounded p used
+replace_new : (p : Part) (used room levels : ℕ) (s item : List ℕ) (d : Decision) {a : ReadAnswer} {m : MadeS} (v : Verdict Item) → read_item levels s ≡ v → NewRead item a v → a ≡ ReadMade m → Bounded p used
     → PlanFor p used m.size room d → Replaces p used room levels s item d
 unfolding NewRead and_then decision_of Planned kind_number
-replace-new p used room levels s item d {m = m} (accepted y) e (m', i, w, l) j k f = go (leb (length_for p used m.size) (min room most_bytes)) refl
+replace_new p used room levels s item d {m = m} (accepted y) e (m', i, w, l) j k f = go (leb (length_for p used m.size) (min room most_bytes)) refl
   where
     same : m' ≡ m
     same = cc (i, j)
@@ -128,24 +128,24 @@ replace-new p used room levels s item d {m = m} (accepted y) e (m', i, w, l) j k
     go false t =
         let u : leb (length_for p used (length (encode y))) (min room most_bytes) ≡ false = rw sized at t in
         rw (f.no t) (record { is = λ b. sym (room-no b p used room (encode y) u) ∙ rw e; planned = λ b lb ub. tt })
-replace-new p used room levels s item d (refused n q) e (x, i, j, k') g k f = let z : ◌≡◌ {A = ℕ} 0 1 = cc (i, g) in absurd (omega arith)
+replace_new p used room levels s item d (refused n q) e (x, i, j, k') g k f = let z : ◌≡◌ {A = ℕ} 0 1 = cc (i, g) in absurd (omega arith)
 
-replace-no : (p : Part) (used room levels : ℕ) (s item : List ℕ) {a : ReadAnswer} {x : Refusal} (v : Verdict Item) → read_item levels s ≡ v → NewRead item a v → a ≡ ReadRefused x
+replace_no : (p : Part) (used room levels : ℕ) (s item : List ℕ) {a : ReadAnswer} {x : Refusal} (v : Verdict Item) → read_item levels s ≡ v → NewRead item a v → a ≡ ReadRefused x
     → Replaces p used room levels s item (Refused x)
 unfolding NewRead and_then decision_of Planned
-replace-no p used room levels s item (accepted y) e (m, i, w, l) g = let z : ◌≡◌ {A = ℕ} 0 1 = cc (i, g) in absurd (omega arith)
-replace-no p used room levels s item {x = x} (refused n q) e (x', i, j, k) g =
+replace_no p used room levels s item (accepted y) e (m, i, w, l) g = let z : ◌≡◌ {A = ℕ} 0 1 = cc (i, g) in absurd (omega arith)
+replace_no p used room levels s item {x = x} (refused n q) e (x', i, j, k) g =
     let same : x' ≡ x = cc (i, g) in
     record { is = λ b. rw (e, rw same at j, rw same at k); planned = λ b lb ub. tt }
 
 module _ (p : Part) (used room : ℕ) {levels : ℕ} {s item : List ℕ} {a : ReadAnswer} (nw : Newly s levels item a) where
-  pub replace-done : {m : MadeS} {d : Decision} → a ≡ ReadMade m → Bounded p used → PlanFor p used m.size room d → Replaces p used room levels s item d
-  replace-done e k f = replace-new p used room levels s item _ (read_item levels s) refl nw.read e k f
+  pub replace_done : {m : MadeS} {d : Decision} → a ≡ ReadMade m → Bounded p used → PlanFor p used m.size room d → Replaces p used room levels s item d
+  replace_done e k f = replace_new p used room levels s item _ (read_item levels s) refl nw.read e k f
 
-  pub replace-refused : {x : Refusal} → a ≡ ReadRefused x → Replaces p used room levels s item (Refused x)
-  replace-refused e = replace-no p used room levels s item (read_item levels s) refl nw.read e
+  pub replace_refused : {x : Refusal} → a ≡ ReadRefused x → Replaces p used room levels s item (Refused x)
+  replace_refused e = replace_no p used room levels s item (read_item levels s) refl nw.read e
 
-pub ruleset replace-ways = (replace-done, replace-refused)
+pub ruleset replace_ways = (replace_done, replace_refused)
 
 -- WHERE THE ITEM IS
 record Spotted (s path : List ℕ) (p : Part) : Type 0 where
@@ -161,12 +161,12 @@ spot-found path xs z e = go (locate path xs) e
   where
     go : (f : Found Spot) → spot_of f ≡ accepted z → f ≡ found z
     go (found y) i = ap found (cc)
-    go (nowhere k) i = absurd (refused-not-accepted i)
+    go (nowhere k) i = absurd (refused_not_accepted i)
 
 spotted : (s path : List ℕ) (p : Part) → Bytes s → (v : Verdict Spot) → look_up s path ≡ v → locate_told (PartV p) ≡ locate_of v → Spotted s path p
 unfolding locate_told locate_of look_up start end
 spotted s path p b (accepted z) e h =
-    let o = and-then-ok (items_of s) (λ xs. spot_of (locate path xs)) e in
+    let o = and_then-ok (items_of s) (λ xs. spot_of (locate path xs)) e in
     let d = items_of-ok s o.0 b o.1 in
     let w = (part-at-path path o.0 z (spot-found path o.0 z o.2)).was in
     record { spot = z; is = e; start = cc; end = cc; whole = sym d.same ∙ w }
@@ -177,8 +177,8 @@ module _ (b : List ℕ) (used : ℕ) (path : List ℕ) (p : Part) (l : used ≤ 
   abbrev z : Spot
   z = sp.spot
 
-  used-is : used ≡ length z.before + (length (encode z.item) + length z.behind)
-  used-is = omega (arith, length-take used b, simp length-append at (ap length sp.whole))
+  used_is : used ≡ length z.before + (length (encode z.item) + length z.behind)
+  used_is = omega (arith, length-take used b, simp length-append at (ap length sp.whole))
 
   front-is : take p.start b ≡ z.before
   front-is =
@@ -196,7 +196,7 @@ module _ (b : List ℕ) (used : ℕ) (path : List ℕ) (p : Part) (l : used ≤ 
 
   length-is : (y : Item) → length_for p used (length (encode y)) ≡ length (replaced z y)
   unfolding replaced
-  length-is y = simp length-append (omega (arith, sp.start, sp.end, used-is))
+  length-is y = simp length-append (omega (arith, sp.start, sp.end, used_is))
 
   room-is : (y : Item) → room_for b p used (length b) (encode y) ≡ fitting b (replaced z y)
   unfolding room_for fitting room
@@ -214,65 +214,65 @@ refused-spot e (refused n q) h = let i : kind_number e.kind ≡ n = cc in let j 
 
 -- THE DECISION: v says whether the used bytes are within the buffer
 module _ (b : List ℕ) (used : ℕ) (path text : List ℕ) {v : Bool} (f : v ≡ leb used (min (length b) most_bytes)) where
-  pub decide-long : {item : List ℕ} {d : Decision} → v ≡ false → d ≡ Refused (record { kind = TooLong; place = 0 }) → Decides b used path text item d
+  pub decide_long : {item : List ℕ} {d : Decision} → v ≡ false → d ≡ Refused (record { kind = TooLong; place = 0 }) → Decides b used path text item d
   unfolding correction room decision_of Planned kind_number
-  decide-long t e =
+  decide_long t e =
       let i : leb used (min (length b) most_bytes) ≡ false = sym f ∙ t in
       rw e (record { is = rw (i, correction); planned = tt })
 
   inside : v ≡ true → used ≤ min (length b) most_bytes
   inside t = leb-true used (min (length b) most_bytes) (sym f ∙ t)
 
-  pub decide-inside : v ≡ true → used ≤ length b
-  decide-inside t = omega (arith, inside t)
+  pub decide_inside : v ≡ true → used ≤ length b
+  decide_inside t = omega (arith, inside t)
 
-  onward-of : v ≡ true → correction b used path text ≡ and_then (look_up (take used b) path) (λ z. and_then (read_item (level path) text) (λ y. fitting b (replaced z y)))
+  onward_of : v ≡ true → correction b used path text ≡ and_then (look_up (take used b) path) (λ z. and_then (read_item (level path) text) (λ y. fitting b (replaced z y)))
   unfolding correction room
-  onward-of t = let i : leb used (min (length b) most_bytes) ≡ true = sym f ∙ t in rw (i, correction)
+  onward_of t = let i : leb used (min (length b) most_bytes) ≡ true = sym f ∙ t in rw (i, correction)
 
   module _ (t : v ≡ true) {r : Located} (sp : Spots (take used b) path r) where
-    pub decide-refused : {item : List ℕ} {e : Refusal} → r ≡ PartRefused e → Decides b used path text item (Refused e)
+    pub decide_refused : {item : List ℕ} {e : Refusal} → r ≡ PartRefused e → Decides b used path text item (Refused e)
     unfolding decision_of Planned
-    decide-refused {item} {e} i = record { is = sym (onward-of t ∙ and-then-refused _ (refused-spot e (look_up (take used b) path) (rw i at sp.told))); planned = tt }
+    decide_refused {item} {e} i = record { is = sym (onward_of t ∙ and_then-refused _ (refused-spot e (look_up (take used b) path) (rw i at sp.told))); planned = tt }
 
     found_at : {p : Part} → r ≡ PartV p → Spotted (take used b) path p
     found_at {p} i = spotted (take used b) path p sp.bytes (look_up (take used b) path) refl (rw i at sp.told)
 
-    pub decide-bounded : {p : Part} → r ≡ PartV p → Bounded p used
-    decide-bounded {p} i =
+    pub decide_bounded : {p : Part} → r ≡ PartV p → Bounded p used
+    decide_bounded {p} i =
         let s = found_at i in
-        let u = used-is b used path p (omega (arith, inside t)) s in
+        let u = used_is b used path p (omega (arith, inside t)) s in
         record { order = omega (arith, s.start, s.end); inside = omega (arith, s.end, u); short = omega (arith, inside t) }
 
-    pub decide-done : {p : Part} {levels : ℕ} {item : List ℕ} {d : Decision} → r ≡ PartV p → levels ≡ level path → Replaces p used (length b) levels text item d → Decides b used path text item d
-    decide-done {p} {levels} {item} {d} i e x =
+    pub decide_done : {p : Part} {levels : ℕ} {item : List ℕ} {d : Decision} → r ≡ PartV p → levels ≡ level path → Replaces p used (length b) levels text item d → Decides b used path text item d
+    decide_done {p} {levels} {item} {d} i e x =
         let s = found_at i in
         let l : used ≤ length b = omega (arith, inside t) in
         record {
-          is = x.is b ∙ ap (λ (k : ℕ). and_then (read_item k text) (λ y. room_for b p used (length b) (encode y))) e ∙ onward-room b used path p l s (read_item (level path) text) ∙ sym (onward-of t ∙ and-then-is _ s.is);
+          is = x.is b ∙ ap (λ (k : ℕ). and_then (read_item k text) (λ y. room_for b p used (length b) (encode y))) e ∙ onward-room b used path p l s (read_item (level path) text) ∙ sym (onward_of t ∙ and_then-is _ s.is);
           planned = x.planned b refl l;
         }
 
-pub ruleset decide-ways = (decide-long, decide-refused, decide-done)
+pub ruleset decide_ways = (decide_long, decide_refused, decide_done)
 
 -- CARRIED OUT
 module _ {b path text item : List ℕ} {used : ℕ} {d : Decision} (ds : Decides b used path text item d) where
-  pub carry-plans : {p : Plan} → d ≡ Replace p → Plans b used item p
+  pub carry_plans : {p : Plan} → d ≡ Replace p → Plans b used item p
   unfolding Planned
-  carry-plans e = rw e at ds.planned
+  carry_plans e = rw e at ds.planned
 
-  pub carry-refused : {e : Refusal} → d ≡ Refused e → Corrects b b used path text (AnswerRefused e)
+  pub carry_refused : {e : Refusal} → d ≡ Refused e → Corrects b b used path text (AnswerRefused e)
   unfolding decision_of correct outcome_of written
-  carry-refused {e} i = let c : refused (kind_number e.kind) e.place ≡ correction b used path text = rw i at ds.is in record { is = ap (written b (zeroed used)) c }
+  carry_refused {e} i = let c : refused (kind_number e.kind) e.place ≡ correction b used path text = rw i at ds.is in record { is = ap (written b (zeroed used)) c }
 
-  pub carry-done : {p : Plan} {n : ℕ} {b' : List ℕ} → d ≡ Replace p → n ≡ p.length → b' ≡ over b 0 (zeroed used (splice b used p.start p.end (take p.size item))) → Corrects b b' used path text (Written n)
+  pub carry_done : {p : Plan} {n : ℕ} {b' : List ℕ} → d ≡ Replace p → n ≡ p.length → b' ≡ over b 0 (zeroed used (splice b used p.start p.end (take p.size item))) → Corrects b b' used path text (Written n)
   unfolding decision_of correct outcome_of written
-  carry-done {p} i l e =
+  carry_done {p} i l e =
       let c : accepted (splice b used p.start p.end (take p.size item)) ≡ correction b used path text = rw i at ds.is in
-      let m = whole_length (carry-plans i) in
+      let m = whole_length (carry_plans i) in
       record { is = rw (e, l, ← m) (ap (written b (zeroed used)) c) }
 
-pub ruleset carry-ways = (carry-refused, carry-done)
+pub ruleset carry_ways = (carry_refused, carry_done)
 
 pub corrected : {b b' path text : List ℕ} {used : ℕ} {r : Answer} → Corrects b b' used path text r → outcome_of r b' ≡ correct b used path text
 corrected x = x.is

@@ -17,7 +17,7 @@ use Rattle.notation.specs.Cutting.{next, place}
 use Rattle.notation.specs.Form.{one, stray, reads}
 use Rattle.notation.specs.Reading.{marked, outside, single}
 use Rattle.notation.specs.Alone.{plus, alone_marked, single_marked}
-use Rattle.notation_theorems.proofs.MarkedItem.{single-is, verdict-marked}
+use Rattle.notation_theorems.proofs.MarkedItem.{single-is, verdict_marked}
 use Rattle.scanning.specs.ScanAnswers.{Skips}
 use Rattle.token.specs.TokenAnswers.{Took}
 use Rattle.token.specs.declared.Token.{Token as Cut}
@@ -27,7 +27,7 @@ use Rattle.correcting.specs.OneAnswers.{Behind}
 use Rattle.encoding.specs.declared.answer.MadeItem.{MadeItem as MadeS}
 use Rattle.encoding.specs.declared.answer.ReadAnswer.{ReadAnswer}
 use Rattle.encoding.specs.declared.answer.ReadAnswer.TheVariants.{Made, Refused}
-use Rattle.encoding.proofs.Telling.{place_at, place-left, bind-yes, told-no, told-ok, denied, got, lost, told-lost, told_more, told-stop}
+use Rattle.encoding.proofs.Telling.{place_at, place-left, bind-yes, told-no, told-ok, denied, got, lost, told-lost, told_more, told_stop}
 
 pub one-room : (s : List ℕ) → length s ≤ 65535 → Room s 0 0
 one-room s h = record { inside = omega arith; room = omega (arith, length_marked s) }
@@ -66,7 +66,7 @@ module _ {s : List ℕ} {at : ℕ} (d : ℕ) (sk : Skips s 0 at) where
         rw (one-is z ∙ bind-yes (reads (one d) (marked s)) (alone_marked d) it.thing it.rest it.is ∙ ap (alone_marked d it.thing) (sym e))
         (told_more le (h.is it.thing b b' (length (marked s) - 0) 0 (rw e it.moved)))
 
-pub ruleset one-ways = (one-blank, one-refused, one-behind)
+pub ruleset one_ways = (one-blank, one-refused, one-behind)
 
 -- BEHIND THE ITEM
 pub behind-none : {s : List ℕ} {m : MadeS} (d : ℕ) → m.next ≡ length s → Behind s d m (Made m)
@@ -105,9 +105,9 @@ module _ {s : List ℕ} {m : MadeS} {t : Cut} {a : ReadAnswer} (d : ℕ) (inside
   pub behind-token : t.place ≡ m.next → Strayed d t a → Behind s d m a
   behind-token p h =
       let e : place (drop m.next (marked s)) ≡ length (drop m.next (marked s)) = omega (arith, place-left tk, length-drop m.next (marked s), p) in
-      record { is = λ x b b' most pos mv. told-stop d _ _ tk h (outside-token s m.next d n x e) (λ tok r c i. ap (λ (l : ℕ). refuse (stray d tok) l) (sym e)) }
+      record { is = λ x b b' most pos mv. told_stop d _ _ tk h (outside-token s m.next d n x e) (λ tok r c i. ap (λ (l : ℕ). refuse (stray d tok) l) (sym e)) }
 
-pub ruleset behind-ways = (behind-none, behind-blank, behind-token)
+pub ruleset behind_ways = (behind-none, behind-blank, behind-token)
 
 -- THE VERDICT that an answer stands for
 pub record Accepted (s b b' : List ℕ) (most d : ℕ) (m : MadeS) : Type 0 where
@@ -122,8 +122,8 @@ module _ {s b b' : List ℕ} {most : ℕ} (d : ℕ) (a : ReadAnswer) (told : Rea
   unfolding of_item verdict_of
   one-accepted g =
       let it = got a told g in
-      record { item = it.thing; is = sym (verdict-marked s (single d s)) ∙ ap (verdict_of (length (marked s))) it.is; size = it.moved.sized; wrote = it.moved.wrote; short = omega (arith, it.moved.short) }
+      record { item = it.thing; is = sym (verdict_marked s (single d s)) ∙ ap (verdict_of (length (marked s))) it.is; size = it.moved.sized; wrote = it.moved.wrote; short = omega (arith, it.moved.short) }
 
-  pub one-denied : {e : Refusal} → a ≡ Refused e → verdict_of (length s) (single d s) ≡ refused (kind_number e.kind) e.place
+  pub one_denied : {e : Refusal} → a ≡ Refused e → verdict_of (length s) (single d s) ≡ refused (kind_number e.kind) e.place
   unfolding verdict_of
-  one-denied g = let l = lost a told g in sym (verdict-marked s (single d s)) ∙ ap (verdict_of (length (marked s))) l.is ∙ cc (l.kind, l.place)
+  one_denied g = let l = lost a told g in sym (verdict_marked s (single d s)) ∙ ap (verdict_of (length (marked s))) l.is ∙ cc (l.kind, l.place)

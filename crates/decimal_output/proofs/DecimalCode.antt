@@ -13,7 +13,7 @@ use borrow.Author.Tests.{leb-true, leb-false, ltb-false, lt-ltb, le-ltb}
 use Rattle.cbor.specs.Ascii.{ascii}
 use Rattle.notation.specs.Printing.{decimal_within, decimal_of}
 use Rattle.text_output.specs.PrintParts.{Prints}
-use Rattle.text_output.proofs.PrintLeaves.{prints-more, prints-as}
+use Rattle.text_output.proofs.PrintLeaves.{prints-more, prints_as}
 
 -- DIGITS
 
@@ -22,11 +22,11 @@ unfolding decimal_of decimal_within
 decimal-one n h = rw (lt-ltb n 10 h, decimal_within)
 
 -- the fuel does not matter
-decimal-fuel : (f g n : ℕ) → n < f → n < g → decimal_within f n ≡ decimal_within g n
+decimal_fuel : (f g n : ℕ) → n < f → n < g → decimal_within f n ≡ decimal_within g n
 unfolding decimal_within
-decimal-fuel zero g n h k = absurd (omega arith)
-decimal-fuel (suc f) zero n h k = absurd (omega arith)
-decimal-fuel (suc f) (suc g) n h k = go (ltb n 10) refl (λ a b. decimal-fuel f g (n / 10) a b)
+decimal_fuel zero g n h k = absurd (omega arith)
+decimal_fuel (suc f) zero n h k = absurd (omega arith)
+decimal_fuel (suc f) (suc g) n h k = go (ltb n 10) refl (λ a b. decimal_fuel f g (n / 10) a b)
   where
     go : (t : Bool) → ltb n 10 ≡ t → (n / 10 < f → n / 10 < g → decimal_within f (n / 10) ≡ decimal_within g (n / 10))
         → ◌≡◌ {A = List ℕ} (elim t [ true ↦ (0x30 + n) ∷ [] | false ↦ decimal_within f (n / 10) ++ (0x30 + n % 10) ∷ [] ]) (elim t [ true ↦ (0x30 + n) ∷ [] | false ↦ decimal_within g (n / 10) ++ (0x30 + n % 10) ∷ [] ])
@@ -42,7 +42,7 @@ unfolding decimal_of decimal_within
 decimal-more n h =
     let a : n / 10 < n = omega arith in
     let b : n / 10 < suc (n / 10) = omega arith in
-    rw (le-ltb n 10 h, decimal_within) (ap (λ (x : List ℕ). x ++ (0x30 + n % 10) ∷ []) (decimal-fuel n (suc (n / 10)) (n / 10) a b))
+    rw (le-ltb n 10 h, decimal_within) (ap (λ (x : List ℕ). x ++ (0x30 + n % 10) ∷ []) (decimal_fuel n (suc (n / 10)) (n / 10) a b))
 
 -- how many digits it has at most
 pub decimal-length : (k n : ℕ) → n < 10 ^ suc k → length (decimal_of n) ≤ suc k
@@ -60,10 +60,10 @@ decimal-length (suc k) n h = go (leb 10 n) refl (λ l. decimal-length k (n / 10)
 
 module _ {b b₁ : List ℕ} {n pos p : ℕ} where
   pub decimal_digit : n < 10 → Prints b b₁ pos ((0x30 + n) ∷ []) p → Prints b b₁ pos (decimal_of n) p
-  decimal_digit h f = prints-as (sym (decimal-one n h)) f
+  decimal_digit h f = prints_as (sym (decimal-one n h)) f
 
   pub decimal-on : {b₂ : List ℕ} {q : ℕ} → 10 ≤ n → Prints b b₁ pos (decimal_of (n / 10)) p → Prints b₁ b₂ p ((0x30 + n % 10) ∷ []) q → Prints b b₂ pos (decimal_of n) q
-  decimal-on h f g = prints-as (sym (decimal-more n h)) (prints-more f g)
+  decimal-on h f g = prints_as (sym (decimal-more n h)) (prints-more f g)
 
   pub next_last : n ≡ 18446744073709551615 → Prints b b₁ pos (ascii "18446744073709551616") p → Prints b b₁ pos (decimal_of (suc n)) p
   unfolding decimal_of decimal_within
@@ -72,6 +72,6 @@ module _ {b b₁ : List ℕ} {n pos p : ℕ} where
   pub next-other : (n ≡ 18446744073709551615 → ⊥) → Prints b b₁ pos (decimal_of (n + 1)) p → Prints b b₁ pos (decimal_of (suc n)) p
   next-other m f = rw add-one at f
 
-pub ruleset decimal-ways = (decimal_digit, decimal-on)
+pub ruleset decimal_ways = (decimal_digit, decimal-on)
 
-pub ruleset next-ways = (next_last, next-other)
+pub ruleset next_ways = (next_last, next-other)

@@ -10,7 +10,7 @@ use Rattle.notation.specs.Classes.{digit, minus, is}
 use Rattle.notation.specs.Scanning.{run}
 use Rattle.notation.specs.Numbers.{digit_value, is_digit, number_from, digits, makes_float, is_floating, radix_of}
 use Rattle.notation.specs.Reading.{marked}
-use Rattle.notation_theorems.proofs.PrintNumbers.{digit-range}
+use Rattle.notation_theorems.proofs.PrintNumbers.{digit_range}
 use Rattle.scanning.proofs.Marked.{at_byte, at-end}
 use Rattle.decimals.specs.DigitParts.{Worth, Outside, GoesOn, EndsAt, Tally, Leads, Behind, DigitThere}
 
@@ -20,7 +20,7 @@ no_digit : (b : ℕ) → ((0x30 ≤ b) × (b < 0x3a) → ⊥) → is_digit 10 b 
 no_digit b n = go (is_digit 10 b) refl
   where
     go : (t : Bool) → is_digit 10 b ≡ t → t ≡ false
-    go true e = absurd (n (digit-range b e))
+    go true e = absurd (n (digit_range b e))
     go false e = refl
 
 pub a-digit : (b : ℕ) → 0x30 ≤ b → b ≤ 0x39 → is_digit 10 b ≡ true
@@ -37,16 +37,16 @@ digit-from b h = go (leb b 0x39) refl
     go true e = sym (a-digit b h (leb-true b 0x39 e))
     go false e = sym (no_digit b (λ p. omega (arith, p.1, leb-false b 0x39 e)))
 
-pub ruleset digit-ways = (digit-below, digit-from)
+pub ruleset digit_ways = (digit-below, digit-from)
 
 module _ (b : ℕ) (e : is_digit 10 b ≡ true) where
-  pub worth-sub : 0x30 ≤ b
-  worth-sub = (digit-range b e).0
+  pub worth_sub : 0x30 ≤ b
+  worth_sub = (digit_range b e).0
 
   pub worth-is : Worth b (b - 0x30)
   unfolding digit_value is_in
   worth-is =
-      let p = digit-range b e in
+      let p = digit_range b e in
       let h : 0x30 ≤ b = p.0 in
       let l : b ≤ 0x39 = omega (arith, p.1) in
       record { is = rw (le-leb 0x30 b h, digit_value) (rw (le-leb b 0x39 l)); most = omega arith; zero = λ z. omega arith }
@@ -59,9 +59,9 @@ module _ (b : ℕ) (e : is_digit 10 b ≡ true) where
 pub on-yes : {b : ℕ} → GoesOn b true
 on-yes = record { is = λ e. absurd (clash e); paren = λ e. absurd (clash e) }
 
-pub on-not : {b : ℕ} (t : Bool) → t ≡ is_digit 10 b → (b ≡ 0x28 → ⊥) → (b ≡ 0x2e → ⊥) → (b ≡ 0x45 → ⊥) → (b ≡ 0x5f → ⊥) → (b ≡ 0x62 → ⊥) → (b ≡ 0x65 → ⊥) → (b ≡ 0x6f → ⊥) → (b ≡ 0x78 → ⊥) → GoesOn b t
+pub on_not : {b : ℕ} (t : Bool) → t ≡ is_digit 10 b → (b ≡ 0x28 → ⊥) → (b ≡ 0x2e → ⊥) → (b ≡ 0x45 → ⊥) → (b ≡ 0x5f → ⊥) → (b ≡ 0x62 → ⊥) → (b ≡ 0x65 → ⊥) → (b ≡ 0x6f → ⊥) → (b ≡ 0x78 → ⊥) → GoesOn b t
 unfolding makes_float radix_of
-on-not {b} t e n₀ n₁ n₂ n₃ n₄ n₅ n₆ n₇ =
+on_not {b} t e n₀ n₁ n₂ n₃ n₄ n₅ n₆ n₇ =
     record {
       is = λ f. record {
         digit = sym e ∙ f;
@@ -72,7 +72,7 @@ on-not {b} t e n₀ n₁ n₂ n₃ n₄ n₅ n₆ n₇ =
       paren = λ f. ne_eqb b 0x28 n₀;
     }
 
-pub ruleset on-ways = (on-yes, on-not)
+pub ruleset on_ways = (on-yes, on_not)
 
 -- the end mark, and an opening parenthesis, are outside
 outside-end : Outside 256
@@ -93,7 +93,7 @@ pub ends_at : {s : List ℕ} {at : ℕ} {t : Bool} → at < length s → GoesOn 
 ends_at {s} {at} {t} l g =
     record { is = λ f. record { next = get_or s at 0; rest = drop (at + 1) (marked s); left = at_byte s at l; outside = g.is (not-true t f) }; paren = λ f. g.paren (not-true t f) }
 
-pub ruleset ends-ways = (ends-text, ends_at)
+pub ruleset ends_ways = (ends-text, ends_at)
 
 -- DIGITS
 
@@ -110,18 +110,18 @@ pub digits-none : (v b : ℕ) (r : List ℕ) → is_digit 10 b ≡ false → dig
 unfolding digits run bind number_from
 digits-none v b r e = rw (e, digits, run)
 
-pub tally-start : {s : List ℕ} {from first : ℕ} → from ≤ length s → first ≤ 9 → Tally s from first from first
-tally-start h m = record { counts = refl; floats = refl; grows = omega arith; most = omega arith; inside = h; ahead = omega arith }
+pub tally_start : {s : List ℕ} {from first : ℕ} → from ≤ length s → first ≤ 9 → Tally s from first from first
+tally_start h m = record { counts = refl; floats = refl; grows = omega arith; most = omega arith; inside = h; ahead = omega arith }
 
 module _ {s : List ℕ} {from first at v : ℕ} (inv : Tally s from first at v) (l : at < length s) where
-  pub tally-digit : (t : Bool) → t ≡ is_digit 10 (get_or s at 0) → not t ≡ false → is_digit 10 (get_or s at 0) ≡ true
-  tally-digit t e f = sym e ∙ not-false t f
+  pub tally_digit : (t : Bool) → t ≡ is_digit 10 (get_or s at 0) → not t ≡ false → is_digit 10 (get_or s at 0) ≡ true
+  tally_digit t e f = sym e ∙ not-false t f
 
   module _ (t : Bool) (e : t ≡ is_digit 10 (get_or s at 0)) (f : not t ≡ false) where
-    pub tally-on : {d : ℕ} → v < 1844674407370955160 → Worth (get_or s at 0) d → Tally s from first (at + 1) (v * 10 + d)
+    pub tally_on : {d : ℕ} → v < 1844674407370955160 → Worth (get_or s at 0) d → Tally s from first (at + 1) (v * 10 + d)
     unfolding is_floating
-    tally-on {d} u w =
-        let g = tally-digit t e f in
+    tally_on {d} u w =
+        let g = tally_digit t e f in
         record {
           counts = inv.counts ∙ (rw (at_byte s at l) (digits_more v (get_or s at 0) (drop (at + 1) (marked s)) g ∙ ap (λ (k : ℕ). digits 10 (v * 10 + k) (drop (at + 1) (marked s))) (sym w.is)));
           floats = inv.floats ∙ (rw (at_byte s at l) (rw (g, is_floating)));
@@ -135,13 +135,13 @@ module _ {b : ℕ} {minus more : Bool} where
   pub leads-other : (b ≡ 0x30 → ⊥) → Leads b minus more true
   leads-other n = record { unsigned = λ e z. absurd (n z); single = λ e z. absurd (n z) }
 
-  pub leads-never : Leads b minus more false
-  leads-never = record { unsigned = λ e z. absurd (clash (sym e)); single = λ e z. absurd (clash (sym e)) }
+  pub leads_never : Leads b minus more false
+  leads_never = record { unsigned = λ e z. absurd (clash (sym e)); single = λ e z. absurd (clash (sym e)) }
 
   pub leads-zero : minus ≡ false → Leads b minus more (not more)
   leads-zero m = record { unsigned = λ e z. m; single = λ e z. not-true more e }
 
-pub ruleset leads-ways = (leads-other, leads-never, leads-zero)
+pub ruleset leads_ways = (leads-other, leads_never, leads-zero)
 
 module _ {at : ℕ} {minus : Bool} where
   pub behind-some : minus ≡ true → Behind at minus (at + 1)
@@ -150,12 +150,12 @@ module _ {at : ℕ} {minus : Bool} where
   pub behind-none : minus ≡ false → Behind at minus at
   behind-none e = record { some = λ z. absurd (clash (sym z ∙ e)); none = λ z. refl }
 
-pub ruleset behind-ways = (behind-some, behind-none)
+pub ruleset behind_ways = (behind-some, behind-none)
 
-pub there-not : {s : List ℕ} {at : ℕ} → DigitThere s at false
-there-not = record { is = λ e. absurd (clash (sym e)) }
+pub there_not : {s : List ℕ} {at : ℕ} → DigitThere s at false
+there_not = record { is = λ e. absurd (clash (sym e)) }
 
 pub there-byte : {s : List ℕ} {at : ℕ} {t : Bool} → at < length s → t ≡ is_digit 10 (get_or s at 0) → DigitThere s at t
 there-byte l e = record { is = λ f. record { inside = l; digit = sym e ∙ f } }
 
-pub ruleset there-ways = (there-not, there-byte)
+pub ruleset there_ways = (there_not, there-byte)

@@ -9,7 +9,7 @@ use lib.Count.{count_trailing_zeros, under, trailing_le}
 use Rattle.notation.specs.Numbers.{digit_value, is_digit}
 use Rattle.decimals.specs.DigitParts.{Worth, Tally}
 use Rattle.decimals.specs.WordParts.{Wide, word_at, Eight, Small, none, one, joined, Marks, Clear, Raised}
-use Rattle.decimals.proofs.DigitCode.{a-digit, worth-is, tally-start, tally-on}
+use Rattle.decimals.proofs.DigitCode.{a-digit, worth-is, tally_start, tally_on}
 
 -- BYTES
 
@@ -59,48 +59,48 @@ eight_is {s} {at} {a} {b} {c} {d} {e} {f} {g} {h} l p₀ p₁ p₂ p₃ p₄ p�
 
 -- MARKS
 
-both-even : (x y q o : ℕ) → x < 2 → y < 2 → o ≡ q * 2 + max (x % 2) (y % 2) → o % 2 ≡ 0 → (x ≡ 0) × (y ≡ 0)
-both-even x y q o lx ly e h =
+both_even : (x y q o : ℕ) → x < 2 → y < 2 → o ≡ q * 2 + max (x % 2) (y % 2) → o % 2 ≡ 0 → (x ≡ 0) × (y ≡ 0)
+both_even x y q o lx ly e h =
     let m : max (x % 2) (y % 2) ≡ 0 = omega arith in
     (omega arith, omega arith)
 
 -- neither byte has the high bit
-both-low : (a b : ℕ) → a < 256 → b < 256 → bit_and (bit_or a b) 0x80 ≡ 0 → (a < 128) × (b < 128)
-both-low a b la lb e =
+both_low : (a b : ℕ) → a < 256 → b < 256 → bit_and (bit_or a b) 0x80 ≡ 0 → (a < 128) × (b < 128)
+both_low a b la lb e =
     let h : bit_and (bit_or a b) 0x80 ≡ (bit_or a b / 128 % 2) * 128 = and_high (bit_or a b) 1 7 in
     let z : bit_or a b / 128 % 2 ≡ 0 = omega arith in
     let o : bit_or (a / 128) (b / 128) % 2 ≡ 0 = ap (λ (v : ℕ). v % 2) (sym (or_shr a b 7)) ∙ z in
-    let p = both-even (a / 128) (b / 128) (bit_or (a / 128 / 2) (b / 128 / 2)) (bit_or (a / 128) (b / 128)) (omega arith) (omega arith) (or_step (a / 128) (b / 128)) o in
+    let p = both_even (a / 128) (b / 128) (bit_or (a / 128 / 2) (b / 128 / 2)) (bit_or (a / 128) (b / 128)) (omega arith) (omega arith) (or_step (a / 128) (b / 128)) o in
     (omega (arith, p.0), omega (arith, p.1))
 
 -- a low byte below 0x80 before and after 0x76 is added to it is at most 9, and carries nothing into the next one
-small-marks : (n m x z t : ℕ) → n ≤ m → z ≡ (x + every 0x76 m) % 256 ^ m → t ≡ bit_and (bit_or z x) (every 0x80 m) → t % 256 ^ n ≡ 0 → Small n x
-small-marks zero m x z t h p q r = none
-small-marks (suc n) zero x z t h p q r = absurd (omega arith)
-small-marks (suc n) (suc m) x z t h p q r =
+small_marks : (n m x z t : ℕ) → n ≤ m → z ≡ (x + every 0x76 m) % 256 ^ m → t ≡ bit_and (bit_or z x) (every 0x80 m) → t % 256 ^ n ≡ 0 → Small n x
+small_marks zero m x z t h p q r = none
+small_marks (suc n) zero x z t h p q r = absurd (omega arith)
+small_marks (suc n) (suc m) x z t h p q r =
     let t₁ = low_first t n in
     let z₁ = low_first (x + every 0x76 (suc m)) m in
     let eh : every 0x80 (suc m) % 256 ≡ 0x80 = omega arith in
     let eo : every 0x80 (suc m) / 256 ≡ every 0x80 m = omega arith in
     let lo : t % 256 ≡ bit_and (bit_or (z % 256) (x % 256)) 0x80 = ap (λ (v : ℕ). v % 256) q ∙ (and_mod (bit_or z x) (every 0x80 (suc m)) 8 ∙ (rw (or_mod z x 8, eh))) in
     let hi : t / 256 ≡ bit_and (bit_or (z / 256) (x / 256)) (every 0x80 m) = ap (λ (v : ℕ). v / 256) q ∙ (and_shr (bit_or z x) (every 0x80 (suc m)) 8 ∙ (rw (or_shr z x 8, eo))) in
-    let b = both-low (z % 256) (x % 256) (omega arith) (omega arith) (sym lo ∙ omega arith) in
+    let b = both_low (z % 256) (x % 256) (omega arith) (omega arith) (sym lo ∙ omega arith) in
     let l : x % 256 ≤ 9 = omega arith in
     let c : (x + every 0x76 (suc m)) / 256 ≡ x / 256 + every 0x76 m = omega arith in
     let w : z / 256 ≡ (x / 256 + every 0x76 m) % 256 ^ m = omega (arith, ap (λ (v : ℕ). v % 256 ^ m) c) in
-    one l (small-marks n m (x / 256) (z / 256) (t / 256) (omega arith) w hi (omega arith))
+    one l (small_marks n m (x / 256) (z / 256) (t / 256) (omega arith) w hi (omega arith))
 
-pub marks-are : {x z : ℕ} → z ≡ (x + 0x7676_7676_7676_7676) % 2 ^ 64 → Marks x (bit_and (bit_or z x) 0x8080_8080_8080_8080)
-marks-are {x} {z} e = record { is = λ n h r. small-marks n 8 x z (bit_and (bit_or z x) 0x8080_8080_8080_8080) h e refl r }
+pub marks_are : {x z : ℕ} → z ≡ (x + 0x7676_7676_7676_7676) % 2 ^ 64 → Marks x (bit_and (bit_or z x) 0x8080_8080_8080_8080)
+marks_are {x} {z} e = record { is = λ n h r. small_marks n 8 x z (bit_and (bit_or z x) 0x8080_8080_8080_8080) h e refl r }
 
 -- ZEROS AT THE LOW END
 
 -- as many low bits are zeros as are counted
-tz-low : (d n k : ℕ) → k ≤ count_trailing_zeros d n → n % 2 ^ k ≡ 0
+tz_low : (d n k : ℕ) → k ≤ count_trailing_zeros d n → n % 2 ^ k ≡ 0
 unfolding count_trailing_zeros
-tz-low d n zero h = mod-one n
-tz-low zero n (suc k) h = absurd (omega arith)
-tz-low (suc d) n (suc k) h = go (n % 2) refl (tz-low d (n / 2) k) h
+tz_low d n zero h = mod-one n
+tz_low zero n (suc k) h = absurd (omega arith)
+tz_low (suc d) n (suc k) h = go (n % 2) refl (tz_low d (n / 2) k) h
   where
     go : (r : ℕ) → n % 2 ≡ r → (k ≤ count_trailing_zeros d (n / 2) → n / 2 % 2 ^ k ≡ 0) → suc k ≤ under r (count_trailing_zeros d (n / 2)) → n % 2 ^ suc k ≡ 0
     go zero e f l =
@@ -109,58 +109,58 @@ tz-low (suc d) n (suc k) h = go (n % 2) refl (tz-low d (n / 2) k) h
     go (suc r) e f l = absurd (omega arith)
 
 -- a byte is eight bits
-pow-bytes : (n : ℕ) → 256 ^ n ≡ 2 ^ (n * 8)
-pow-bytes zero = refl
-pow-bytes (suc n) =
+pow_bytes : (n : ℕ) → 256 ^ n ≡ 2 ^ (n * 8)
+pow_bytes zero = refl
+pow_bytes (suc n) =
     let z : suc n * 8 ≡ n * 8 + 8 = omega arith in
-    pow-suc 256 n ∙ (ap (λ (p : ℕ). p * 256) (pow-bytes n) ∙ (rw z (sym (pow-add 2 (n * 8) 8))))
+    pow-suc 256 n ∙ (ap (λ (p : ℕ). p * 256) (pow_bytes n) ∙ (rw z (sym (pow-add 2 (n * 8) 8))))
 
-pub clear-is : (t : ℕ) → Clear t (count_trailing_zeros 64 t / 8)
-clear-is t =
+pub clear_is : (t : ℕ) → Clear t (count_trailing_zeros 64 t / 8)
+clear_is t =
     let k = count_trailing_zeros 64 t in
-    record { is = rw (pow-bytes (k / 8)) (tz-low 64 t (k / 8 * 8) (omega arith)); most = omega (arith, trailing_le 64 t) }
+    record { is = rw (pow_bytes (k / 8)) (tz_low 64 t (k / 8 * 8) (omega arith)); most = omega (arith, trailing_le 64 t) }
 
 -- DIGITS IN THE HIGH BYTES
 
 -- bytes above those that count change nothing
-joined-mod : (v n x : ℕ) → joined v n (x % 256 ^ n) ≡ joined v n x
+joined_mod : (v n x : ℕ) → joined v n (x % 256 ^ n) ≡ joined v n x
 unfolding joined
-joined-mod v zero x = refl
-joined-mod v (suc n) x =
+joined_mod v zero x = refl
+joined_mod v (suc n) x =
     let l = low_first x n in
     let a : x % 256 ^ suc n % 256 ≡ x % 256 = omega arith in
     let b : x % 256 ^ suc n / 256 ≡ x / 256 % 256 ^ n = omega arith in
-    rw (a, b) (joined-mod (v * 10 + x % 256) n (x / 256))
+    rw (a, b) (joined_mod (v * 10 + x % 256) n (x / 256))
 
-small-mod : (n x : ℕ) → Small n x → Small n (x % 256 ^ n)
-small-mod zero x h = none
-small-mod (suc n) x (one l h) =
+small_mod : (n x : ℕ) → Small n x → Small n (x % 256 ^ n)
+small_mod zero x h = none
+small_mod (suc n) x (one l h) =
     let f = low_first x n in
     let a : x % 256 ^ suc n % 256 ≡ x % 256 = omega arith in
     let b : x % 256 ^ suc n / 256 ≡ x / 256 % 256 ^ n = omega arith in
-    one {k = n} {x = x % 256 ^ suc n} (rw a l) (rw b (small-mod n (x / 256) h))
+    one {k = n} {x = x % 256 ^ suc n} (rw a l) (rw b (small_mod n (x / 256) h))
 
 -- zeros below the digits are zeros before them
 up_one : (x j : ℕ) → x * 256 ^ suc j ≡ x * 256 ^ j * 256
 up_one x j = ap (λ (p : ℕ). x * p) (pow-suc 256 j) ∙ sym (mul_assoc x (256 ^ j) 256)
 
-joined-up : (j n k x : ℕ) → k ≡ j + n → joined 0 k (x * 256 ^ j) ≡ joined 0 n x
+joined_up : (j n k x : ℕ) → k ≡ j + n → joined 0 k (x * 256 ^ j) ≡ joined 0 n x
 unfolding joined
-joined-up zero n k x e = let z : k ≡ n = omega arith in rw (z, mul-one x)
-joined-up (suc j) n zero x e = absurd (omega arith)
-joined-up (suc j) n (suc k) x e =
+joined_up zero n k x e = let z : k ≡ n = omega arith in rw (z, mul-one x)
+joined_up (suc j) n zero x e = absurd (omega arith)
+joined_up (suc j) n (suc k) x e =
     let u = up_one x j in
     let a : x * 256 ^ suc j % 256 ≡ 0 = omega arith in
     let b : x * 256 ^ suc j / 256 ≡ x * 256 ^ j = omega arith in
-    rw (a, b) (joined-up j n k x (omega arith))
+    rw (a, b) (joined_up j n k x (omega arith))
 
-small-up : (j n k x : ℕ) → k ≡ j + n → Small n x → Small k (x * 256 ^ j)
-small-up zero n k x e h = let z : k ≡ n = omega arith in rw (z, mul-one x) h
-small-up (suc j) n zero x e h = absurd (omega arith)
-small-up (suc j) n (suc k) x e h =
+small_up : (j n k x : ℕ) → k ≡ j + n → Small n x → Small k (x * 256 ^ j)
+small_up zero n k x e h = let z : k ≡ n = omega arith in rw (z, mul-one x) h
+small_up (suc j) n zero x e h = absurd (omega arith)
+small_up (suc j) n (suc k) x e h =
     let u = up_one x j in
     let b : x * 256 ^ suc j / 256 ≡ x * 256 ^ j = omega arith in
-    one {k = k} {x = x * 256 ^ suc j} (omega arith) (rw b (small-up j n k x (omega arith) h))
+    one {k = k} {x = x * 256 ^ suc j} (omega arith) (rw b (small_up j n k x (omega arith) h))
 
 -- what is shifted out was above the digits
 shifted : (x j n : ℕ) → (x * 256 ^ j) % 256 ^ (n + j) ≡ (x % 256 ^ n) * 256 ^ j
@@ -174,20 +174,20 @@ pub raised_is : {x n : ℕ} → Small n x → n ≤ 8 → Raised x n (x * 2 ^ (6
 raised_is {x} {n} h l =
     let a : 64 - n * 8 ≡ (8 - n) * 8 = omega arith in
     let b : n + (8 - n) ≡ 8 = omega arith in
-    let e : x * 2 ^ (64 - n * 8) % 2 ^ 64 ≡ (x % 256 ^ n) * 256 ^ (8 - n) = rw (a, ← pow-bytes (8 - n)) (rw b at (shifted x (8 - n) n)) in
+    let e : x * 2 ^ (64 - n * 8) % 2 ^ 64 ≡ (x % 256 ^ n) * 256 ^ (8 - n) = rw (a, ← pow_bytes (8 - n)) (rw b at (shifted x (8 - n) n)) in
     record {
-      small = rw e (small-up (8 - n) n 8 (x % 256 ^ n) (omega arith) (small-mod n x h));
-      same = rw e (joined-up (8 - n) n 8 (x % 256 ^ n) (omega arith) ∙ joined-mod 0 n x);
+      small = rw e (small_up (8 - n) n 8 (x % 256 ^ n) (omega arith) (small_mod n x h));
+      same = rw e (joined_up (8 - n) n 8 (x % 256 ^ n) (omega arith) ∙ joined_mod 0 n x);
     }
 
 -- THE NUMBER OF EIGHT DIGITS
 
 -- a byte and the next one, as one number in place of the lower one: nothing is carried
-two-low : (s : ℕ) → s % 256 ≤ 9 → s / 256 % 256 ≤ 9 → (s * 10 + s / 256) % 256 ≡ s % 256 * 10 + s / 256 % 256
-two-low s a b = omega arith
+two_low : (s : ℕ) → s % 256 ≤ 9 → s / 256 % 256 ≤ 9 → (s * 10 + s / 256) % 256 ≡ s % 256 * 10 + s / 256 % 256
+two_low s a b = omega arith
 
-two-next : (s : ℕ) → s % 256 ≤ 9 → s / 256 % 256 ≤ 9 → (s * 10 + s / 256) / 256 ≡ s / 256 * 10 + s / 256 / 256
-two-next s a b = omega arith
+two_next : (s : ℕ) → s % 256 ≤ 9 → s / 256 % 256 ≤ 9 → (s * 10 + s / 256) / 256 ≡ s / 256 * 10 + s / 256 / 256
+two_next s a b = omega arith
 
 -- eight digits, from the low end
 pub record Digits (s : ℕ) : Type 0 where
@@ -224,15 +224,15 @@ module _ {s : ℕ} (h : Small 8 s) (l : Fits bits64 s) where
       let k₁ : s₁ ≤ 0x9_0909_0909_0909 = omega (arith, d.d₁) in
       omega (arith, d.d₀)
 
-  pub tens-fit : Fits bits64 (s * 10)
-  tens-fit = record { fits = omega (arith, most) }
+  pub tens_fit : Fits bits64 (s * 10)
+  tens_fit = record { fits = omega (arith, most) }
 
   pub twos_fit : Fits bits64 (s * 10 + s / 256)
   twos_fit = record { fits = omega (arith, most) }
 
 -- two digits up, by the places of the word
 two_up : (s : ℕ) → s % 256 ≤ 9 → s / 256 % 256 ≤ 9 → s / 256 / 256 % 256 ≤ 9 → (s * 10 + s / 256) / 0x1_0000 ≡ s / 256 / 256 * 10 + s / 256 / 256 / 256
-two_up s a b c = sym (div-div-eq-div-mul (s * 10 + s / 256) 256 256) ∙ (rw (two-next s a b) (two-next (s / 256) b c))
+two_up s a b c = sym (div-div-eq-div-mul (s * 10 + s / 256) 256 256) ∙ (rw (two_next s a b) (two_next (s / 256) b c))
 
 pub number_is : {s : ℕ} → Small 8 s
     → (s * 10 + s / 256) % 256 * 1_000_000 + (s * 10 + s / 256) / 0x1_0000 % 256 * 10_000 + (s * 10 + s / 256) / 0x1_0000_0000 % 256 * 100 + (s * 10 + s / 256) / 0x1_0000_0000_0000 % 256 ≡ joined 0 8 s
@@ -246,10 +246,10 @@ number_is {s} h =
     let y₂ : y / 0x1_0000 ≡ s₂ * 10 + s₂ / 256 = two_up s d.d₀ d.d₁ d.d₂ in
     let y₄ : y / 0x1_0000_0000 ≡ s₄ * 10 + s₄ / 256 = sym (div-div-eq-div-mul y 0x1_0000 0x1_0000) ∙ (rw y₂ (two_up s₂ d.d₂ d.d₃ d.d₄)) in
     let y₆ : y / 0x1_0000_0000_0000 ≡ s₆ * 10 + s₆ / 256 = sym (div-div-eq-div-mul y 0x1_0000_0000 0x1_0000) ∙ (rw y₄ (two_up s₄ d.d₄ d.d₅ d.d₆)) in
-    let e₀ = two-low s d.d₀ d.d₁ in
-    let e₂ = ap (λ (v : ℕ). v % 256) y₂ ∙ two-low s₂ d.d₂ d.d₃ in
-    let e₄ = ap (λ (v : ℕ). v % 256) y₄ ∙ two-low s₄ d.d₄ d.d₅ in
-    let e₆ = ap (λ (v : ℕ). v % 256) y₆ ∙ two-low s₆ d.d₆ d.d₇ in
+    let e₀ = two_low s d.d₀ d.d₁ in
+    let e₂ = ap (λ (v : ℕ). v % 256) y₂ ∙ two_low s₂ d.d₂ d.d₃ in
+    let e₄ = ap (λ (v : ℕ). v % 256) y₄ ∙ two_low s₄ d.d₄ d.d₅ in
+    let e₆ = ap (λ (v : ℕ). v % 256) y₆ ∙ two_low s₆ d.d₆ d.d₇ in
     rw (e₀, e₂, e₄, e₆) (omega arith)
 
 -- THE DIGITS OF A TEXT
@@ -275,18 +275,18 @@ module _ (s : List ℕ) (bytes : (i : ℕ) → get_or s i 0 < 256) where
       (g, rw z at (worth-is (get_or s at 0) g))
 
   -- j digits stand before: so few that one more has room
-  tally-word : {from first : ℕ} (n k j at v x : ℕ) → n ≤ k → j + n ≤ 17 → v < 10 ^ j → at + n ≤ length s → Small n x → Less s at k x → Tally s from first at v → Tally s from first (at + n) (joined v n x)
+  tally_word : {from first : ℕ} (n k j at v x : ℕ) → n ≤ k → j + n ≤ 17 → v < 10 ^ j → at + n ≤ length s → Small n x → Less s at k x → Tally s from first at v → Tally s from first (at + n) (joined v n x)
   unfolding joined
-  tally-word zero k j at v x h m u i y e t = let z : at + 0 ≡ at = omega arith in rw z t
-  tally-word (suc n) zero j at v x h m u i y e t = absurd (omega arith)
-  tally-word (suc n) (suc k) j at v x h m u i (one l y) e t =
+  tally_word zero k j at v x h m u i y e t = let z : at + 0 ≡ at = omega arith in rw z t
+  tally_word (suc n) zero j at v x h m u i y e t = absurd (omega arith)
+  tally_word (suc n) (suc k) j at v x h m u i (one l y) e t =
       let z : at + suc n ≡ at + 1 + n = omega arith in
       let b = low_byte at k x l e in
       let w = worth-byte at (x % 256) l b.0 in
       let p = pow-suc 10 j in
       let r : v < 1844674407370955160 = omega (arith, pow-le-pow_right {n = 10} (omega arith) {i = j} {j = 17} (omega arith)) in
-      let q = tally-on t (omega arith) true (sym w.0) refl r w.1 in
-      rw z (tally-word n k (suc j) (at + 1) (v * 10 + x % 256) (x / 256) (omega arith) (omega arith) (omega arith) (omega arith) y b.1 q)
+      let q = tally_on t (omega arith) true (sym w.0) refl r w.1 in
+      rw z (tally_word n k (suc j) (at + 1) (v * 10 + x % 256) (x / 256) (omega arith) (omega arith) (omega arith) (omega arith) y b.1 q)
 
   -- the first digit is counted already
   word_first : (at n x : ℕ) → 0 < n → n ≤ 8 → at + 8 ≤ length s → Small n x → Less s at 8 x → Tally s (at + 1) (digit_value (get_or s at 0)) (at + n) (joined 0 n x)
@@ -297,7 +297,7 @@ module _ (s : List ℕ) (bytes : (i : ℕ) → get_or s i 0 < 256) where
       let b = low_byte at 7 x l e in
       let w = (worth-byte at (x % 256) l b.0).1 in
       let o : 0 * 10 + x % 256 ≡ x % 256 = omega arith in
-      rw (z, o, ← w.is) (tally-word n 7 1 (at + 1) (x % 256) (x / 256) (omega arith) (omega arith) (omega arith) (omega arith) y b.1 (tally-start (omega arith) l))
+      rw (z, o, ← w.is) (tally_word n 7 1 (at + 1) (x % 256) (x / 256) (omega arith) (omega arith) (omega arith) (omega arith) y b.1 (tally_start (omega arith) l))
 
 pub one_by_one : {s : List ℕ} {b from d end v : ℕ} → Worth b d → Tally s from d end v → Tally s from (digit_value b) end v
 one_by_one w t = rw (← w.is) t

@@ -17,8 +17,8 @@ use Rattle.outcome.specs.declared.Answer.TheVariants.{Written}
 use Rattle.outcome.proofs.Room.{laid-room, laid-yes, laid-no}
 
 module _ {m : List ℕ} {n : ℕ} (b : List ℕ) {v : Bool} (f : v ≡ leb n (min (length b) 65535)) where
-  pub deliver-done : {b' : List ℕ} → v ≡ true → b' ≡ copied b 0 m n → Delivered m n b b' (Written n)
-  deliver-done t e = record {
+  pub deliver_done : {b' : List ℕ} → v ≡ true → b' ≡ copied b 0 m n → Delivered m n b b' (Written n)
+  deliver_done t e = record {
     is = λ w x.
         let l : n ≤ min (length b) 65535 = laid-room b f t in
         let h : take n m ≡ w = x.held (omega arith) in
@@ -27,7 +27,7 @@ module _ {m : List ℕ} {n : ℕ} (b : List ℕ) {v : Bool} (f : v ≡ leb n (mi
         rw (e, c) (laid-yes b f w x.sized t);
   }
 
-  pub deliver-refused : {r : Answer} → v ≡ false → Refuses NoRoom 0 r → Delivered m n b b r
-  deliver-refused t x = record { is = λ w y. laid-no b f w y.sized t x }
+  pub deliver_refused : {r : Answer} → v ≡ false → Refuses NoRoom 0 r → Delivered m n b b r
+  deliver_refused t x = record { is = λ w y. laid-no b f w y.sized t x }
 
-pub ruleset deliver-ways = (deliver-done, deliver-refused)
+pub ruleset deliver_ways = (deliver_done, deliver_refused)

@@ -5,7 +5,7 @@ use mathlib.Core.Path.{◌≡◌, refl, sym, ap, ◌∙◌}
 use mathlib.Core.List.{List}
 use lib.ListN.{length, take}
 use Rattle.cbor.specs.Refusals.{accepted}
-use Rattle.cbor.proofs.Results.{refused-not-accepted}
+use Rattle.cbor.proofs.Results.{refused_not_accepted}
 use Rattle.operations.specs.Operations.{Outcome, room, read, print, correct}
 use Rattle.operations.specs.Demands.{Kept, Allowed, Stored, edited_text, Agree}
 use Rattle.operations.proofs.Demands.{demand1, demand2, demand3}
@@ -19,30 +19,30 @@ use Rattle.outcome.specs.declared.Answer.TheVariants.{Written, Refused}
 use Rattle.edn.specs.Promises.{ReadRan, PrintRan, CorrectRan, Demand1Ran, Demand2Ran, Demand3Ran, StoredRan}
 
 -- what an answer says, and back
-answer-of : (r : Answer) (b : List ℕ) (n : ℕ) → r ≡ Written n → (outcome_of r b).answer ≡ accepted n
+answer_of_lem : (r : Answer) (b : List ℕ) (n : ℕ) → r ≡ Written n → (outcome_of r b).answer ≡ accepted n
 unfolding outcome_of
-answer-of r b n e = rw e
+answer_of_lem r b n e = rw e
 
-of-answer : (r : Answer) (b : List ℕ) (n : ℕ) → (outcome_of r b).answer ≡ accepted n → r ≡ Written n
+of_answer : (r : Answer) (b : List ℕ) (n : ℕ) → (outcome_of r b).answer ≡ accepted n → r ≡ Written n
 unfolding outcome_of
-of-answer (Written k) b n e = ap Written (cc)
-of-answer (Refused x) b n e = absurd (refused-not-accepted e)
+of_answer (Written k) b n e = ap Written (cc)
+of_answer (Refused x) b n e = absurd (refused_not_accepted e)
 
-buffer-of : (r : Answer) (b : List ℕ) → (outcome_of r b).buffer ≡ b
+buffer_of : (r : Answer) (b : List ℕ) → (outcome_of r b).buffer ≡ b
 unfolding outcome_of
-buffer-of (Written k) b = refl
-buffer-of (Refused x) b = refl
+buffer_of (Written k) b = refl
+buffer_of (Refused x) b = refl
 
 -- a run's answer and buffer, as the operation has them
 module _ (r : Answer) (b : List ℕ) {o : Outcome ℕ} (h : outcome_of r b ≡ o) where
   ran-answer : {n : ℕ} → o.answer ≡ accepted n → r ≡ Written n
-  ran-answer {n} e = of-answer r b n (ap (λ (v : Outcome ℕ). v.answer) h ∙ e)
+  ran-answer {n} e = of_answer r b n (ap (λ (v : Outcome ℕ). v.answer) h ∙ e)
 
   ran-accepted : {n : ℕ} → r ≡ Written n → o.answer ≡ accepted n
-  ran-accepted {n} e = sym (ap (λ (v : Outcome ℕ). v.answer) h) ∙ answer-of r b n e
+  ran-accepted {n} e = sym (ap (λ (v : Outcome ℕ). v.answer) h) ∙ answer_of_lem r b n e
 
   ran-buffer : o.buffer ≡ b
-  ran-buffer = sym (ap (λ (v : Outcome ℕ). v.buffer) h) ∙ buffer-of r b
+  ran-buffer = sym (ap (λ (v : Outcome ℕ). v.buffer) h) ∙ buffer_of r b
 
 -- what a refusal leaves
 ran-kept : (e : Refusal) (b b' : List ℕ) (o : Outcome ℕ) → Kept b o → outcome_of (Refused e) b' ≡ o → b' ≡ b
@@ -69,9 +69,9 @@ in_table EndsInside = (omega arith, omega arith)
 in_table NotWellFormed = (omega arith, omega arith)
 in_table NoSuchPath = (omega arith, omega arith)
 
-pub demand1-ran : Demand1Ran
+pub demand1_ran : Demand1Ran
 unfolding ReadRan PrintRan CorrectRan
-demand1-ran =
+demand1_ran =
     record {
       numbers = in_table;
       reading = λ text b b' e h. ran-kept e b b' (read text b) (demand1.reading text b) h;
@@ -79,9 +79,9 @@ demand1-ran =
       correcting = λ b used path text b' e h. ran-kept e b b' (correct b used path text) (demand1.correcting b used path text) h;
     }
 
-pub demand2-ran : Demand2Ran
+pub demand2_ran : Demand2Ran
 unfolding ReadRan PrintRan
-demand2-ran =
+demand2_ran =
     record {
       acceptance = λ text b b' r h n. ((λ i. (demand2.acceptance text b n).0 (ran-accepted r b' h i)), (λ a. ran-answer r b' h ((demand2.acceptance text b n).1 a)));
       encoding = λ text b b' n xs e h. rw (ran-buffer (Written n) b' h) at (demand2.encoding text b n xs e (ran-accepted (Written n) b' h refl));
@@ -94,9 +94,9 @@ demand2-ran =
 
 -- DEMAND 3
 
-pub demand3-ran : Demand3Ran
+pub demand3_ran : Demand3Ran
 unfolding ReadRan CorrectRan
-demand3-ran text buffer used path new e c b' q fresh f' r same g =
+demand3_ran text buffer used path new e c b' q fresh f' r same g =
     let a = demand3.agrees text buffer used path new e fresh same in
     record { success = λ n. (there a n, back a n); bytes = λ n i. ap (take n) (sym (ran-buffer c b' q)) ∙ a.bytes n (ran-accepted c b' q i) (ran-accepted r f' g (there a n i)) ∙ ap (take n) (ran-buffer r f' g) }
   where
@@ -114,7 +114,7 @@ demand3-ran text buffer used path new e c b' q fresh f' r same g =
 
 pub stored-ran : StoredRan
 unfolding ReadRan room
-stored-ran text b b' used p buffer e l = made ((demand2-ran.acceptance text b b' (Written used) p used).0 refl)
+stored-ran text b b' used p buffer e l = made ((demand2_ran.acceptance text b b' (Written used) p used).0 refl)
   where
     made : Allowed text b used → Stored text buffer used
-    made a = record { items = a.items; accepts = a.allows; sized = a.sized; short = omega (arith, a.fits); within = l; held = e ∙ (demand2-ran.encoding text b b' used a.items a.allows p).bytes }
+    made a = record { items = a.items; accepts = a.allows; sized = a.sized; short = omega (arith, a.fits); within = l; held = e ∙ (demand2_ran.encoding text b b' used a.items a.allows p).bytes }

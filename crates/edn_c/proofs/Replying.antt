@@ -19,28 +19,28 @@ use Rattle.c_reply.specs.Replies.{code, succeeds, length_in, answer_of}
 use Rattle.c_place_reply.specs.PlaceReplies.{spot_in, place_in, CheckReplied, PartReplied}
 
 -- AN OPERATION WITH A BUFFER
-answer-of : (a : Answer) (b : List ℕ) → answer_of a ≡ (outcome_of a b).answer
+answer_of_lem : (a : Answer) (b : List ℕ) → answer_of a ≡ (outcome_of a b).answer
 unfolding answer_of outcome_of
-answer-of (Written n) b = refl
-answer-of (Refused e) b = refl
+answer_of_lem (Written n) b = refl
+answer_of_lem (Refused e) b = refl
 
-buffer-of : (a : Answer) (b : List ℕ) → b ≡ (outcome_of a b).buffer
+buffer_of : (a : Answer) (b : List ℕ) → b ≡ (outcome_of a b).buffer
 unfolding outcome_of
-buffer-of (Written n) b = refl
-buffer-of (Refused e) b = refl
+buffer_of (Written n) b = refl
+buffer_of (Refused e) b = refl
 
 module _ (a : Answer) (b : List ℕ) (o : Outcome ℕ) (h : outcome_of a b ≡ o) where
   pub whole-number : {r : ℕ} → r ≡ code (answer_of a) → r ≡ code o.answer
-  whole-number s = s ∙ ap code (answer-of a b ∙ ap (λ p. p.answer) h)
+  whole-number s = s ∙ ap code (answer_of_lem a b ∙ ap (λ p. p.answer) h)
 
   pub whole-success : (r : ℕ) → eqb r 0 ≡ succeeds (answer_of a) → eqb r 0 ≡ succeeds o.answer
-  whole-success r s = s ∙ ap succeeds (answer-of a b ∙ ap (λ p. p.answer) h)
+  whole-success r s = s ∙ ap succeeds (answer_of_lem a b ∙ ap (λ p. p.answer) h)
 
   pub whole-buffer : b ≡ o.buffer
-  whole-buffer = buffer-of a b ∙ ap (λ p. p.buffer) h
+  whole-buffer = buffer_of a b ∙ ap (λ p. p.buffer) h
 
   pub whole-value : (v : List ℕ) {v' : List ℕ} → v' ≡ length_in v (answer_of a) → v' ≡ length_in v o.answer
-  whole-value v s = s ∙ ap (length_in v) (answer-of a b ∙ ap (λ p. p.answer) h)
+  whole-value v s = s ∙ ap (length_in v) (answer_of_lem a b ∙ ap (λ p. p.answer) h)
 
 -- LOOKING UP
 module _ {l : Located} {v v' : List ℕ} {r : ℕ} (w : Verdict Spot) (x : PartReplied l v v' r) (h : locate_told l ≡ locate_of w) where
@@ -55,11 +55,11 @@ module _ {l : Located} {v v' : List ℕ} {r : ℕ} (w : Verdict Spot) (x : PartR
 
 -- CHECKING
 module _ {c : Checked} {v v' : List ℕ} {r : ℕ} (w : Verdict Items) (x : CheckReplied c v v' r) (h : check_told c ≡ check_of w) where
-  pub check-number : r ≡ code w
-  check-number = x.number w h
+  pub check_number : r ≡ code w
+  check_number = x.number w h
 
-  pub check-success : eqb r 0 ≡ succeeds w
-  check-success = x.success w h
+  pub check_success : eqb r 0 ≡ succeeds w
+  check_success = x.success w h
 
-  pub check-value : v' ≡ place_in v w
-  check-value = x.value w h
+  pub check_value : v' ≡ place_in v w
+  check_value = x.value w h

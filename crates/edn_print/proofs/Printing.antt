@@ -12,15 +12,15 @@ use Rattle.operations.specs.Programs.{print_program}
 use Rattle.outcome.specs.Outcomes.{outcome_of}
 use Rattle.outcome.specs.declared.Answer.{Answer}
 use Rattle.report_lines.specs.Reports.{Reports, itself, said_of}
-use Rattle.report_lines.proofs.Programs.{program-said}
+use Rattle.report_lines.proofs.Programs.{program_said}
 
 module _ (s b b' : List ℕ) (a : Answer) {o o' : List ℕ} {r : ℕ} (h : outcome_of a b' ≡ print s b) (l : length b ≡ most_bytes) (p : Reports o o' (said_of itself a b') r) where
   report : Reports o o' (print_program s) r
   unfolding print print_program text_of itself
-  report = program-said itself (items_of s) print_text b b' l a h p
+  report = program_said itself (items_of s) print_text b b' l a h p
 
-  pub report-size : r ≡ length (print_program s)
-  report-size = report.size
+  pub report_size : r ≡ length (print_program s)
+  report_size = report.size
 
-  pub report-is : o' ≡ clipped o 0 (print_program s)
-  report-is = report.is
+  pub report_is : o' ≡ clipped o 0 (print_program s)
+  report_is = report.is

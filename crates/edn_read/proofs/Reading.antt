@@ -13,15 +13,15 @@ use Rattle.operations.specs.Programs.{accepted_lines, read_program}
 use Rattle.outcome.specs.Outcomes.{outcome_of}
 use Rattle.outcome.specs.declared.Answer.{Answer}
 use Rattle.report_lines.specs.Reports.{Reports, said_of}
-use Rattle.report_lines.proofs.Programs.{program-said}
+use Rattle.report_lines.proofs.Programs.{program_said}
 
 module _ (s b b' : List ℕ) (a : Answer) {o o' : List ℕ} {r : ℕ} (h : outcome_of a b' ≡ read s b) (l : length b ≡ most_bytes) (p : Reports o o' (said_of accepted_lines a b') r) where
   report : Reports o o' (read_program s) r
   unfolding read read_program bytes_of
-  report = program-said accepted_lines (read_text s) encode_all b b' l a h p
+  report = program_said accepted_lines (read_text s) encode_all b b' l a h p
 
-  pub report-size : r ≡ length (read_program s)
-  report-size = report.size
+  pub report_size : r ≡ length (read_program s)
+  report_size = report.size
 
-  pub report-is : o' ≡ clipped o 0 (read_program s)
-  report-is = report.is
+  pub report_is : o' ≡ clipped o 0 (read_program s)
+  report_is = report.is

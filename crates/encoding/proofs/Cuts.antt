@@ -6,7 +6,7 @@ use Prim.Native.Nat.{ℕ}
 use native.Mathlib.Omega.{arith}
 use lib.ListN.{length, drop}
 use Rattle.cbor.specs.Refusals.{Result, ok, refuse}
-use Rattle.cbor.proofs.Results.{refuse-not-ok}
+use Rattle.cbor.proofs.Results.{refuse_not_ok}
 use Rattle.notation.specs.Tokens.{Token}
 use Rattle.notation.specs.Cutting.{cut, placed, place, next}
 use Rattle.notation.specs.Reading.{marked}
@@ -24,7 +24,7 @@ module _ {s : List ℕ} {from at : ℕ} (sk : Skips s from at) where
     where
       go : (R : Result Token) → placed (length (drop at (marked s))) R ≡ ok tok r → R ≡ ok tok r
       go (ok t u) f = f
-      go (refuse n w) f = absurd (refuse-not-ok f)
+      go (refuse n w) f = absurd (refuse_not_ok f)
 
   pub next-cut : {nx : ℕ} {tok : Token} → CutAt s at nx tok → NextAt s from nx tok
   unfolding placed

@@ -17,7 +17,7 @@ use Rattle.notation.specs.Form.{at_start, behind_comma, one, items, pairs, Close
 use Rattle.token.specs.TokenAnswers.{item_code, open_code, kind_code, begin_code, shape_code, code_of}
 use Rattle.encoding.specs.ReadAnswers.{follow_by}
 use Rattle.notation_theorems.proofs.ByName.{bind_ok, bind-refuse, reads-is}
-use Rattle.notation_theorems.proofs.Equations.{first-is, obey-if}
+use Rattle.notation_theorems.proofs.Equations.{first-is, obey_if}
 
 -- CODES: those of tokens that begin an item are none of the others
 unfoldable pub opens_by : ℕ → Bool
@@ -46,27 +46,27 @@ begin-opens (opens (brace i)) = refl
 begin-opens (opens (tagging w n)) = refl
 begin-opens (opens embedding) = refl
 
-pub shape-shuts : (h : Shape) → opens_by (shape_code h) ≡ false
+pub shape_shuts : (h : Shape) → opens_by (shape_code h) ≡ false
 unfolding shape_code opens_by
-shape-shuts square = refl
-shape-shuts curly = refl
-shape-shuts round = refl
-shape-shuts angle = refl
-shape-shuts whole = refl
+shape_shuts square = refl
+shape_shuts curly = refl
+shape_shuts round = refl
+shape_shuts angle = refl
+shape_shuts whole = refl
 
-pub begin-not : (g : Beginning) (c : ℕ) → opens_by c ≡ false → begin_code g ≡ c → ⊥
-begin-not g c f e = true≢false (sym (begin-opens g) ∙ ap opens_by e ∙ f)
+pub begin_not : (g : Beginning) (c : ℕ) → opens_by c ≡ false → begin_code g ≡ c → ⊥
+begin_not g c f e = true≢false (sym (begin-opens g) ∙ ap opens_by e ∙ f)
 
-pub begin-close : (g : Beginning) (h : Shape) → begin_code g ≡ shape_code h → ⊥
-begin-close g h e = begin-not g (shape_code h) (shape-shuts h) e
+pub begin_close : (g : Beginning) (h : Shape) → begin_code g ≡ shape_code h → ⊥
+begin_close g h e = begin_not g (shape_code h) (shape_shuts h) e
 
-pub shape-low : (h : Shape) → 14 ≤ shape_code h
+pub shape_low : (h : Shape) → 14 ≤ shape_code h
 unfolding shape_code
-shape-low square = omega arith
-shape-low curly = omega arith
-shape-low round = omega arith
-shape-low angle = omega arith
-shape-low whole = omega arith
+shape_low square = omega arith
+shape_low curly = omega arith
+shape_low round = omega arith
+shape_low angle = omega arith
+shape_low whole = omega arith
 
 item-some : (x : Item) → 1 ≤ item_code x
 unfolding item_code
@@ -89,7 +89,7 @@ code-some (begins (opens (bracket i))) = omega arith
 code-some (begins (opens (brace i))) = omega arith
 code-some (begins (opens (tagging w n))) = omega arith
 code-some (begins (opens embedding)) = omega arith
-code-some (closes h i) = omega (arith, shape-low h)
+code-some (closes h i) = omega (arith, shape_low h)
 code-some a_comma = omega arith
 code-some a_colon = omega arith
 
@@ -118,8 +118,8 @@ code-number whole = refl
 same_shape : (h h' : Shape) → shape_code h' ≡ shape_code h → eqb (shape_number h) (shape_number h') ≡ true
 same_shape h h' e = eq-eqb (shape_number h) (shape_number h') (sym (number-code h) ∙ ap number_by (sym e) ∙ number-code h')
 
-other-shape : (h h' : Shape) → (shape_code h' ≡ shape_code h → ⊥) → eqb (shape_number h) (shape_number h') ≡ false
-other-shape h h' n = ne_eqb (shape_number h) (shape_number h') (λ e. n (sym (code-number h') ∙ ap code_by (sym e) ∙ code-number h))
+other_shape : (h h' : Shape) → (shape_code h' ≡ shape_code h → ⊥) → eqb (shape_number h) (shape_number h') ≡ false
+other_shape h h' n = ne_eqb (shape_number h) (shape_number h') (λ e. n (sym (code-number h') ∙ ap code_by (sym e) ∙ code-number h))
 
 -- the indicator of a closing token
 unfoldable pub indicator_of : Token → Indicator
@@ -136,36 +136,36 @@ step rd add last d h x a_comma p r = bind (rd r) (λ xs r'. ok (add x xs) r')
 step rd add last d h x a_colon p r = refuse (stray d a_colon) p
 
 module _ {E A : Type 0} (rd : List ℕ → Result A) (add : E → A → A) (last : E → Indicator → A) (d : ℕ) (h : Shape) (x : E) (p : ℕ) (r : List ℕ) where
-  pub step-close : (tok : Token) → code_of tok ≡ shape_code h → step rd add last d h x tok p r ≡ ok (last x (indicator_of tok)) r
+  pub step_close : (tok : Token) → code_of tok ≡ shape_code h → step rd add last d h x tok p r ≡ ok (last x (indicator_of tok)) r
   unfolding step code_of indicator_of
-  step-close (begins g) e = absurd (begin-close g h e)
-  step-close (closes h' i) e = rw (same_shape h h' e, step)
-  step-close a_comma e = absurd (omega (arith, shape-low h))
-  step-close a_colon e = absurd (omega (arith, shape-low h))
+  step_close (begins g) e = absurd (begin_close g h e)
+  step_close (closes h' i) e = rw (same_shape h h' e, step)
+  step_close a_comma e = absurd (omega (arith, shape_low h))
+  step_close a_colon e = absurd (omega (arith, shape_low h))
 
-  pub step-comma : (tok : Token) → code_of tok ≡ 11 → step rd add last d h x tok p r ≡ bind (rd r) (λ xs r'. ok (add x xs) r')
+  pub step_comma : (tok : Token) → code_of tok ≡ 11 → step rd add last d h x tok p r ≡ bind (rd r) (λ xs r'. ok (add x xs) r')
   unfolding step code_of opens_by
-  step-comma (begins g) e = absurd (begin-not g 11 refl e)
-  step-comma (closes h' i) e = absurd (omega (arith, shape-low h'))
-  step-comma a_comma e = refl
-  step-comma a_colon e = absurd (omega arith)
+  step_comma (begins g) e = absurd (begin_not g 11 refl e)
+  step_comma (closes h' i) e = absurd (omega (arith, shape_low h'))
+  step_comma a_comma e = refl
+  step_comma a_colon e = absurd (omega arith)
 
   pub step-stray : (tok : Token) → (code_of tok ≡ shape_code h → ⊥) → (code_of tok ≡ 11 → ⊥) → step rd add last d h x tok p r ≡ refuse (stray d tok) p
   unfolding step code_of
   step-stray (begins g) n m = refl
-  step-stray (closes h' i) n m = rw (other-shape h h' n, step)
+  step-stray (closes h' i) n m = rw (other_shape h h' n, step)
   step-stray a_comma n m = absurd (m refl)
   step-stray a_colon n m = refl
 
 -- a closing token, of the shape that is open or of another
-closing-on : {A : Type 0} (d : ℕ) (h h' : Shape) (i : Indicator) (x : A) (p q : ℕ) (r : List ℕ) → shape_code h' ≡ shape_code h → obey reads (closing_rule d h h' i x) p q r ≡ ok x r
+closing_on : {A : Type 0} (d : ℕ) (h h' : Shape) (i : Indicator) (x : A) (p q : ℕ) (r : List ℕ) → shape_code h' ≡ shape_code h → obey reads (closing_rule d h h' i x) p q r ≡ ok x r
 unfolding closing_rule obey
-closing-on d h h' i x p q r e = obey-if (eqb (shape_number h) (shape_number h')) (give x) (strays d (closes h' i)) p q r ∙ rw (same_shape h h' e)
+closing_on d h h' i x p q r e = obey_if (eqb (shape_number h) (shape_number h')) (give x) (strays d (closes h' i)) p q r ∙ rw (same_shape h h' e)
 
-closing-off : {A : Type 0} (d : ℕ) (h h' : Shape) (i : Indicator) (x : A) (p q : ℕ) (r : List ℕ) → (shape_code h' ≡ shape_code h → ⊥)
+closing_off : {A : Type 0} (d : ℕ) (h h' : Shape) (i : Indicator) (x : A) (p q : ℕ) (r : List ℕ) → (shape_code h' ≡ shape_code h → ⊥)
     → obey reads (closing_rule d h h' i x) p q r ≡ refuse (stray d (closes h' i)) q
 unfolding closing_rule obey strays
-closing-off d h h' i x p q r n = obey-if (eqb (shape_number h) (shape_number h')) (give x) (strays d (closes h' i)) p q r ∙ rw (other-shape h h' n)
+closing_off d h h' i x p q r n = obey_if (eqb (shape_number h) (shape_number h')) (give x) (strays d (closes h' i)) p q r ∙ rw (other_shape h h' n)
 
 -- READERS THAT BEGIN WITH AN ITEM
 module _ {A : Type 0} (R : Token → Rule A) (after : Item → Token → Rule A) (d : ℕ) (bs : (g : Beginning) → R (begins g) ≡ then (beginning d g) (λ x. take (after x)))
@@ -198,7 +198,7 @@ last_item x i = record { all = more x none; indicator = i }
 item-step : (h : Shape) (d : ℕ) (x : Item) (u : Token) (p q : ℕ) (r : List ℕ) → obey reads (after_item h d x u) p q r ≡ step (reads (items h behind_comma d)) add_item last_item d h x u q r
 unfolding obey after_item step strays closing_rule last_item
 item-step h d x (begins g) p q r = refl
-item-step h d x (closes h' i) p q r = obey-if (eqb (shape_number h) (shape_number h')) (give (last_item x i)) (strays d (closes h' i)) p q r
+item-step h d x (closes h' i) p q r = obey_if (eqb (shape_number h) (shape_number h')) (give (last_item x i)) (strays d (closes h' i)) p q r
 item-step h d x a_comma p q r = refl
 item-step h d x a_colon p q r = refl
 
@@ -210,10 +210,10 @@ items_more h d s =
 
 pub items-end : (h : Shape) (d : ℕ) (s r : List ℕ) (tok : Token) → next s ≡ ok tok r → code_of tok ≡ shape_code h → reads (items h at_start d) s ≡ ok (record { all = none; indicator = indicator_of tok }) r
 unfolding rules items_rule code_of indicator_of
-items-end h d s r (begins g) e c = absurd (begin-close g h c)
-items-end h d s r (closes h' i) e c = reads-is (items h at_start d) s ∙ bind_ok _ e ∙ closing-on d h h' i _ (place s) (place s) r c
-items-end h d s r a_comma e c = absurd (omega (arith, shape-low h))
-items-end h d s r a_colon e c = absurd (omega (arith, shape-low h))
+items-end h d s r (begins g) e c = absurd (begin_close g h c)
+items-end h d s r (closes h' i) e c = reads-is (items h at_start d) s ∙ bind_ok _ e ∙ closing_on d h h' i _ (place s) (place s) r c
+items-end h d s r a_comma e c = absurd (omega (arith, shape_low h))
+items-end h d s r a_colon e c = absurd (omega (arith, shape_low h))
 
 -- two rules that differ only at a closing token which is not there
 start-same : {A : Type 0} (h : Shape) (u : Result Token) (f g : Token → List ℕ → Result A) → ((tok : Token) (r : List ℕ) → u ≡ ok tok r → code_of tok ≡ shape_code h → ⊥)
@@ -225,7 +225,7 @@ start-same h (refuse k q) f g n j = refl
 items-by : (h : Shape) (d : ℕ) (tok : Token) (p : ℕ) (r : List ℕ) → (code_of tok ≡ shape_code h → ⊥) → obey reads (items_rule h at_start d tok) p p r ≡ obey reads (items_rule h behind_comma d tok) p p r
 unfolding items_rule code_of obey strays
 items-by h d (begins g) p r n = refl
-items-by h d (closes h' i) p r n = closing-off d h h' i _ p p r n
+items-by h d (closes h' i) p r n = closing_off d h h' i _ p p r n
 items-by h d a_comma p r n = refl
 items-by h d a_colon p r n = refl
 
@@ -249,15 +249,15 @@ pairs-more d s = reads-is (pairs behind_comma d) s ∙ after_one (pairs_rule beh
 
 pub pairs_end : (d : ℕ) (s r : List ℕ) (tok : Token) → next s ≡ ok tok r → code_of tok ≡ shape_code curly → reads (pairs at_start d) s ≡ ok none₂ r
 unfolding rules pairs_rule code_of
-pairs_end d s r (begins g) e c = absurd (begin-close g curly c)
-pairs_end d s r (closes h' i) e c = reads-is (pairs at_start d) s ∙ bind_ok _ e ∙ closing-on d curly h' i _ (place s) (place s) r c
-pairs_end d s r a_comma e c = absurd (omega (arith, shape-low curly))
-pairs_end d s r a_colon e c = absurd (omega (arith, shape-low curly))
+pairs_end d s r (begins g) e c = absurd (begin_close g curly c)
+pairs_end d s r (closes h' i) e c = reads-is (pairs at_start d) s ∙ bind_ok _ e ∙ closing_on d curly h' i _ (place s) (place s) r c
+pairs_end d s r a_comma e c = absurd (omega (arith, shape_low curly))
+pairs_end d s r a_colon e c = absurd (omega (arith, shape_low curly))
 
 pairs-by : (d : ℕ) (tok : Token) (p : ℕ) (r : List ℕ) → (code_of tok ≡ shape_code curly → ⊥) → obey reads (pairs_rule at_start d tok) p p r ≡ obey reads (pairs_rule behind_comma d tok) p p r
 unfolding pairs_rule code_of obey strays
 pairs-by d (begins g) p r n = refl
-pairs-by d (closes h' i) p r n = closing-off d curly h' i _ p p r n
+pairs-by d (closes h' i) p r n = closing_off d curly h' i _ p p r n
 pairs-by d a_comma p r n = refl
 pairs-by d a_colon p r n = refl
 

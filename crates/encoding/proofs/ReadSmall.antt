@@ -16,7 +16,7 @@ use Rattle.refusal.specs.RefusalKinds.{kind_number, Kinded}
 use Rattle.memory.specs.Buffer.{over_if_fits, moved, head_put}
 use Rattle.head.specs.HeadAnswers.{argument_size, head_bytes}
 use Rattle.refusal.specs.declared.RefusalKind.{RefusalKind}
-use Rattle.cbor.proofs.Arguments.{length-big}
+use Rattle.cbor.proofs.Arguments.{length_big}
 use Rattle.cbor.proofs.Tests.{clash}
 use Rattle.head.proofs.HeadCode.{size_none, size-most}
 use Rattle.numbers.specs.NumberAnswers.{choose_by}
@@ -29,31 +29,31 @@ use Rattle.encoding.specs.declared.answer.ReadAnswer.TheVariants.{Made, Refused}
 
 -- THE MAJOR TYPE
 module _ {c : ℕ} where
-  pub major-1 : c ≡ 1 → MajorBy c 0
+  pub major_1 : c ≡ 1 → MajorBy c 0
   unfolding major_by
-  major-1 e = rw e (record { is = refl; most = omega arith })
+  major_1 e = rw e (record { is = refl; most = omega arith })
 
-  pub major-2 : c ≡ 2 → MajorBy c 1
+  pub major_2 : c ≡ 2 → MajorBy c 1
   unfolding major_by
-  major-2 e = rw e (record { is = refl; most = omega arith })
+  major_2 e = rw e (record { is = refl; most = omega arith })
 
-  pub major-3 : c ≡ 3 → MajorBy c 7
+  pub major_3 : c ≡ 3 → MajorBy c 7
   unfolding major_by
-  major-3 e = rw e (record { is = refl; most = omega arith })
+  major_3 e = rw e (record { is = refl; most = omega arith })
 
-  pub major-4 : c ≡ 4 → MajorBy c 3
+  pub major_4 : c ≡ 4 → MajorBy c 3
   unfolding major_by
-  major-4 e = rw e (record { is = refl; most = omega arith })
+  major_4 e = rw e (record { is = refl; most = omega arith })
 
-  pub major-5 : c ≡ 5 → MajorBy c 2
+  pub major_5 : c ≡ 5 → MajorBy c 2
   unfolding major_by
-  major-5 e = rw e (record { is = refl; most = omega arith })
+  major_5 e = rw e (record { is = refl; most = omega arith })
 
-  pub major-6 : (c ≡ 1 → ⊥) → (c ≡ 2 → ⊥) → (c ≡ 3 → ⊥) → (c ≡ 4 → ⊥) → (c ≡ 5 → ⊥) → MajorBy c 6
+  pub major_6 : (c ≡ 1 → ⊥) → (c ≡ 2 → ⊥) → (c ≡ 3 → ⊥) → (c ≡ 4 → ⊥) → (c ≡ 5 → ⊥) → MajorBy c 6
   unfolding major_by
-  major-6 n1 n2 n3 n4 n5 = record { is = simp (major_by, ne_eqb c 1 n1, ne_eqb c 2 n2, ne_eqb c 3 n3, ne_eqb c 4 n4, ne_eqb c 5 n5); most = omega arith }
+  major_6 n1 n2 n3 n4 n5 = record { is = simp (major_by, ne_eqb c 1 n1, ne_eqb c 2 n2, ne_eqb c 3 n3, ne_eqb c 4 n4, ne_eqb c 5 n5); most = omega arith }
 
-pub ruleset major-ways = (major-1, major-2, major-3, major-4, major-5, major-6)
+pub ruleset major_ways = (major_1, major_2, major_3, major_4, major_5, major_6)
 
 -- ADDITIONAL INFORMATION
 pub short-most : (n : ℕ) → information (shortest n) n ≤ 27
@@ -69,35 +69,35 @@ short-most n = go (leb n 23) refl (leb n 0xff) (leb n 0xffff) (leb n 0xffff_ffff
     go false e false false false = omega arith
 
 module _ {k n : ℕ} where
-  pub info-0 : {r : ℕ} → k ≡ 0 → r ≡ information (shortest n) n → Informed k n r
+  pub info_0 : {r : ℕ} → k ≡ 0 → r ≡ information (shortest n) n → Informed k n r
   unfolding info_by
-  info-0 e f = rw e (record { is = f; most = omega (arith, f, short-most n) })
+  info_0 e f = rw e (record { is = f; most = omega (arith, f, short-most n) })
 
-  pub info-1 : k ≡ 1 → Informed k n 31
+  pub info_1 : k ≡ 1 → Informed k n 31
   unfolding info_by
-  info-1 e = rw e (record { is = refl; most = omega arith })
+  info_1 e = rw e (record { is = refl; most = omega arith })
 
-  pub info-3 : k ≡ 3 → Informed k n (n % 32)
+  pub info_3 : k ≡ 3 → Informed k n (n % 32)
   unfolding info_by
-  info-3 e = rw e (record { is = refl; most = omega arith })
+  info_3 e = rw e (record { is = refl; most = omega arith })
 
-  pub info-4 : k ≡ 4 → Informed k n 24
+  pub info_4 : k ≡ 4 → Informed k n 24
   unfolding info_by
-  info-4 e = rw e (record { is = refl; most = omega arith })
+  info_4 e = rw e (record { is = refl; most = omega arith })
 
-  pub info-5 : k ≡ 5 → Informed k n 25
+  pub info_5 : k ≡ 5 → Informed k n 25
   unfolding info_by
-  info-5 e = rw e (record { is = refl; most = omega arith })
+  info_5 e = rw e (record { is = refl; most = omega arith })
 
-  pub info-6 : k ≡ 6 → Informed k n 26
+  pub info_6 : k ≡ 6 → Informed k n 26
   unfolding info_by
-  info-6 e = rw e (record { is = refl; most = omega arith })
+  info_6 e = rw e (record { is = refl; most = omega arith })
 
-  pub info-7 : (k ≡ 0 → ⊥) → (k ≡ 1 → ⊥) → (k ≡ 3 → ⊥) → (k ≡ 4 → ⊥) → (k ≡ 5 → ⊥) → (k ≡ 6 → ⊥) → Informed k n 27
+  pub info_7 : (k ≡ 0 → ⊥) → (k ≡ 1 → ⊥) → (k ≡ 3 → ⊥) → (k ≡ 4 → ⊥) → (k ≡ 5 → ⊥) → (k ≡ 6 → ⊥) → Informed k n 27
   unfolding info_by
-  info-7 n0 n1 n3 n4 n5 n6 = record { is = simp (info_by, ne_eqb k 0 n0, ne_eqb k 1 n1, ne_eqb k 3 n3, ne_eqb k 4 n4, ne_eqb k 5 n5, ne_eqb k 6 n6); most = omega arith }
+  info_7 n0 n1 n3 n4 n5 n6 = record { is = simp (info_by, ne_eqb k 0 n0, ne_eqb k 1 n1, ne_eqb k 3 n3, ne_eqb k 4 n4, ne_eqb k 5 n5, ne_eqb k 6 n6); most = omega arith }
 
-pub ruleset info-ways = (info-0, info-1, info-3, info-4, info-5, info-6, info-7)
+pub ruleset info_ways = (info_0, info_1, info_3, info_4, info_5, info_6, info_7)
 
 -- HEADS
 pub size_fits : {r : ℕ} (i : ℕ) → r ≡ argument_size i → Fits bits64 (r + 1)
@@ -105,7 +105,7 @@ size_fits i e = record { fits = omega (arith, e, size-most i) }
 
 pub length-head : (i n : ℕ) → length (head_bytes i n) ≡ argument_size (i % 32) + 1
 unfolding head_bytes
-length-head i n = omega (arith, length-big (argument_size (i % 32)) n)
+length-head i n = omega (arith, length_big (argument_size (i % 32)) n)
 
 pub head-short : (i n : ℕ) → length (head_bytes i n) ≤ 9
 head-short i n = omega (arith, length-head i n, size-most (i % 32))
@@ -117,20 +117,20 @@ pub size_is : {i r : ℕ} → r ≡ argument_size (i % 32) → HeadSize i (r + 1
 size_is {i} e = record { is = λ n. omega (arith, e, length-head i n); most = omega (arith, e, size-most (i % 32)) }
 
 module _ {c k n major info : ℕ} (a : MajorBy c major) (b : Informed k n info) where
-  pub initial-mul : Fits bits8 (major * 32)
-  initial-mul = record { fits = omega (arith, a.most) }
+  pub initial_mul : Fits bits8 (major * 32)
+  initial_mul = record { fits = omega (arith, a.most) }
 
-  pub initial-add : Fits bits8 (major * 32 + info)
-  initial-add = record { fits = omega (arith, a.most, b.most) }
+  pub initial_add : Fits bits8 (major * 32 + info)
+  initial_add = record { fits = omega (arith, a.most, b.most) }
 
 pub initial-is : {major info : ℕ} (t : Cut) → MajorBy t.kind major → Informed t.indicator t.argument info → major * 32 + info ≡ initial_by t
 unfolding initial_by
 initial-is t a b = rw (a.is, b.is)
 
 -- REFUSALS AND ANSWERS
-pub denies-is : {k : RefusalKind} {at : ℕ} → Denies (kind_number k) at (Refused (record { kind = k; place = at }))
+pub denies_is : {k : RefusalKind} {at : ℕ} → Denies (kind_number k) at (Refused (record { kind = k; place = at }))
 unfolding verdict_by
-denies-is = record { is = refl }
+denies_is = record { is = refl }
 
 pub strayed-is : {d k : ℕ} {t : Cut} {kind : RefusalKind} → k ≡ stray_by d t.kind t.refusal t.indicator → Kinded k kind → Strayed d t (Refused (record { kind = kind; place = t.place }))
 unfolding verdict_by
@@ -142,45 +142,45 @@ module _ (d code refusal mark : ℕ) where
   stray-none e = rw e
 
   module _ (n0 : code ≡ 0 → ⊥) where
-    pub stray-angle-1 : code ≡ 20 → mark ≡ 1 → 9 ≡ stray_by d code refusal mark
+    pub stray_angle_1 : code ≡ 20 → mark ≡ 1 → 9 ≡ stray_by d code refusal mark
     unfolding stray_by
-    stray-angle-1 e f = rw (e, f)
+    stray_angle_1 e f = rw (e, f)
 
-    pub stray-angle-2 : code ≡ 20 → mark ≡ 2 → 9 ≡ stray_by d code refusal mark
+    pub stray_angle_2 : code ≡ 20 → mark ≡ 2 → 9 ≡ stray_by d code refusal mark
     unfolding stray_by
-    stray-angle-2 e f = rw (e, f)
+    stray_angle_2 e f = rw (e, f)
 
-    pub stray-angle : code ≡ 20 → (mark ≡ 1 → ⊥) → (mark ≡ 2 → ⊥) → 11 ≡ stray_by d code refusal mark
+    pub stray_angle : code ≡ 20 → (mark ≡ 1 → ⊥) → (mark ≡ 2 → ⊥) → 11 ≡ stray_by d code refusal mark
     unfolding stray_by
-    stray-angle e n1 n2 = simp (stray_by, ne_eqb code 0 n0, eq-eqb code 20 e, ne_eqb mark 1 n1, ne_eqb mark 2 n2)
+    stray_angle e n1 n2 = simp (stray_by, ne_eqb code 0 n0, eq-eqb code 20 e, ne_eqb mark 1 n1, ne_eqb mark 2 n2)
 
     module _ (n20 : code ≡ 20 → ⊥) where
-      pub stray-plain : (d ≡ 0 → ⊥) → 11 ≡ stray_by d code refusal mark
+      pub stray_plain : (d ≡ 0 → ⊥) → 11 ≡ stray_by d code refusal mark
       unfolding stray_by
-      stray-plain nd = simp (stray_by, ne_eqb code 0 n0, ne_eqb code 20 n20, ne_eqb d 0 nd)
+      stray_plain nd = simp (stray_by, ne_eqb code 0 n0, ne_eqb code 20 n20, ne_eqb d 0 nd)
 
       module _ (z : d ≡ 0) where
-        pub stray-6 : code ≡ 6 → 10 ≡ stray_by d code refusal mark
+        pub stray_6 : code ≡ 6 → 10 ≡ stray_by d code refusal mark
         unfolding stray_by
-        stray-6 e = rw (e, z)
+        stray_6 e = rw (e, z)
 
-        pub stray-15 : code ≡ 15 → 10 ≡ stray_by d code refusal mark
+        pub stray_15 : code ≡ 15 → 10 ≡ stray_by d code refusal mark
         unfolding stray_by
-        stray-15 e = rw (e, z)
+        stray_15 e = rw (e, z)
 
-        pub stray-17 : code ≡ 17 → 10 ≡ stray_by d code refusal mark
+        pub stray_17 : code ≡ 17 → 10 ≡ stray_by d code refusal mark
         unfolding stray_by
-        stray-17 e = rw (e, z)
+        stray_17 e = rw (e, z)
 
-        pub stray-19 : code ≡ 19 → 10 ≡ stray_by d code refusal mark
+        pub stray_19 : code ≡ 19 → 10 ≡ stray_by d code refusal mark
         unfolding stray_by
-        stray-19 e = rw (e, z)
+        stray_19 e = rw (e, z)
 
         pub stray-rest : (code ≡ 6 → ⊥) → (code ≡ 15 → ⊥) → (code ≡ 17 → ⊥) → (code ≡ 19 → ⊥) → 11 ≡ stray_by d code refusal mark
         unfolding stray_by
         stray-rest n6 n15 n17 n19 = simp (stray_by, ne_eqb code 0 n0, ne_eqb code 20 n20, eq-eqb d 0 z, ne_eqb code 6 n6, ne_eqb code 15 n15, ne_eqb code 17 n17, ne_eqb code 19 n19)
 
-pub ruleset stray-ways = (stray-none, stray-angle-1, stray-angle-2, stray-angle, stray-plain, stray-6, stray-15, stray-17, stray-19, stray-rest)
+pub ruleset stray_ways = (stray-none, stray_angle_1, stray_angle_2, stray_angle, stray_plain, stray_6, stray_15, stray_17, stray_19, stray-rest)
 
 -- CONTAINERS
 pub one_byte : (i n : ℕ) → length (head_bytes i n) ≡ 1 → head_bytes i n ≡ i ∷ []
@@ -197,20 +197,20 @@ module _ {b b' : List ℕ} {pos first size r : ℕ} (n : ℕ) (h : HeadSize firs
       let l : length (head_bytes first n) ≡ 1 = sym (h.is n) ∙ e in
       record { is = λ b₀ ws w z. rw (one_byte first n l) (wrote-front w f); sized = sym l }
 
-  pub before-long : b' ≡ head_put b pos (head_bytes first n) size → Closes b b' pos (head_bytes first n) size r
-  before-long f = record { is = λ b₀ ws w z. wrote-closed (head_bytes first n) (head-some first n) w z f; sized = h.is n }
+  pub before_long : b' ≡ head_put b pos (head_bytes first n) size → Closes b b' pos (head_bytes first n) size r
+  before_long f = record { is = λ b₀ ws w z. wrote-closed (head_bytes first n) (head-some first n) w z f; sized = h.is n }
 
-pub ruleset before-ways = (before-short, before-long)
+pub ruleset before_ways = (before-short, before_long)
 
 module _ {b : List ℕ} {pos room major indicator n next size place width : ℕ} {binary : Bool} {length' : ℕ} {a : ReadAnswer} (c : width ≡ choose_by indicator n) where
-  pub finish-none : width ≡ 0 → Denies bad_indicator place a → Finished b b pos room major indicator n next size place binary length' a
-  finish-none e f = record { refused = λ z. f; made = λ k. absurd (k (sym c ∙ e)); closed = λ k. absurd (k (sym c ∙ e)) }
+  pub finish_none : width ≡ 0 → Denies bad_indicator place a → Finished b b pos room major indicator n next size place binary length' a
+  finish_none e f = record { refused = λ z. f; made = λ k. absurd (k (sym c ∙ e)); closed = λ k. absurd (k (sym c ∙ e)) }
 
   -- a head of `head` bytes, of the additional information that goes with the width
-  finish-by : {b' : List ℕ} {info head : ℕ} → (width ≡ 0 → ⊥) → Informed width n info → head ≡ length (head_bytes (major * 32 + info) n)
+  finish_by : {b' : List ℕ} {info head : ℕ} → (width ≡ 0 → ⊥) → Informed width n info → head ≡ length (head_bytes (major * 32 + info) n)
       → ((b₀ ws : List ℕ) → Wrote b₀ b (pos + room) ws → size ≡ length ws → (length (head_bytes (major * 32 + info) n) < room → pos + room + size ≤ length b) → Wrote b₀ b' pos (head_bytes (major * 32 + info) n ++ ws))
       → a ≡ Made (record { next = next; size = head + size; count = 1; indicator = 0; binary = binary; length = length' }) → Finished b b' pos room major indicator n next size place binary length' a
-  finish-by {b'} {info} {head} k i h w f =
+  finish_by {b'} {info} {head} k i h w f =
       let j : info ≡ info_by (choose_by indicator n) n = i.is ∙ ap (λ (w : ℕ). info_by w n) c in
       let q : head ≡ length (head_bytes (major * 32 + info_by (choose_by indicator n) n) n) = h ∙ ap (λ (x : ℕ). length (head_bytes (major * 32 + x) n)) j in
       record {
@@ -220,45 +220,45 @@ module _ {b : List ℕ} {pos room major indicator n next size place width : ℕ}
       }
 
 module _ {b b' : List ℕ} {pos major indicator n next size place width info head : ℕ} {binary : Bool} {length' : ℕ} {a : ReadAnswer} (c : width ≡ choose_by indicator n) (k : width ≡ 0 → ⊥) (i : Informed width n info) where
-  pub finish-done : Closes b b' pos (head_bytes (major * 32 + info) n) size head
+  pub finish_done : Closes b b' pos (head_bytes (major * 32 + info) n) size head
       → a ≡ Made (record { next = next; size = head + size; count = 1; indicator = 0; binary = binary; length = length' }) → Finished b b' pos 1 major indicator n next size place binary length' a
-  finish-done h f = finish-by c k i h.sized (λ b₀ ws w e far. h.is b₀ ws w e) f
+  finish_done h f = finish_by c k i h.sized (λ b₀ ws w e far. h.is b₀ ws w e) f
 
   -- behind any room: what was read is moved to where the head ends
-  pub enclose-done : {b₁ : List ℕ} {room : ℕ} → HeadSize (major * 32 + info) head → b₁ ≡ moved b (pos + room) (pos + head) size → b' ≡ over_if_fits b₁ pos (head_bytes (major * 32 + info) n)
+  pub enclose_done : {b₁ : List ℕ} {room : ℕ} → HeadSize (major * 32 + info) head → b₁ ≡ moved b (pos + room) (pos + head) size → b' ≡ over_if_fits b₁ pos (head_bytes (major * 32 + info) n)
       → a ≡ Made (record { next = next; size = head + size; count = 1; indicator = 0; binary = binary; length = length' }) → Finished b b' pos room major indicator n next size place binary length' a
-  enclose-done {room = room} h m w f =
+  enclose_done {room = room} h m w f =
       let q : head ≡ length (head_bytes (major * 32 + info) n) = h.is n in
-      finish-by c k i q (λ b₀ ws u e far. wrote-moved (head_bytes (major * 32 + info) n) u e (m ∙ ap (λ (x : ℕ). moved b (pos + room) (pos + x) size) q) w far) f
+      finish_by c k i q (λ b₀ ws u e far. wrote-moved (head_bytes (major * 32 + info) n) u e (m ∙ ap (λ (x : ℕ). moved b (pos + room) (pos + x) size) q) w far) f
 
-pub ruleset finish-ways = (finish-none, finish-done)
+pub ruleset finish_ways = (finish_none, finish_done)
 
-pub ruleset enclose-ways = (finish-none, enclose-done)
+pub ruleset enclose_ways = (finish_none, enclose_done)
 
 -- FEW THINGS
-pub short-not : {indicator count : ℕ} → IsShort indicator count false
-short-not = record { none = λ e. absurd (clash (sym e)); few = λ e. absurd (clash (sym e)) }
+pub short_not : {indicator count : ℕ} → IsShort indicator count false
+short_not = record { none = λ e. absurd (clash (sym e)); few = λ e. absurd (clash (sym e)) }
 
 module _ {n : ℕ} (f : Few n) where
   few-width : shortest n ≡ w0
   unfolding shortest fits limit
   few-width = rw (le-leb n 23 (omega (arith, f.most)), shortest)
 
-  few-choice : 3 ≡ choose_by 0 n
+  few_choice : 3 ≡ choose_by 0 n
   unfolding choose_by width_number
-  few-choice = sym (ap width_number few-width)
+  few_choice = sym (ap width_number few-width)
 
-  few-informed : Informed 3 n n
+  few_informed : Informed 3 n n
   unfolding info_by
-  few-informed = record { is = omega (arith, f.most); most = omega (arith, f.most) }
+  few_informed = record { is = omega (arith, f.most); most = omega (arith, f.most) }
 
   few-size : (major : ℕ) → HeadSize (major * 32 + n) 1
   few-size major =
       let e : (major * 32 + n) % 32 ≡ n = omega (arith, f.most) in
       size_is (size_none n (λ z. omega (arith, f.most)) (λ z. omega (arith, f.most)) (λ z. omega (arith, f.most)) (λ z. omega (arith, f.most)) ∙ ap argument_size (sym e))
 
-  pub short-cast : Fits bits8 n
-  short-cast = record { fits = omega (arith, f.most) }
+  pub short_cast : Fits bits8 n
+  short_cast = record { fits = omega (arith, f.most) }
 
   pub short-first : {major size : ℕ} → Heavy major size → Fits bits8 (major * 32 + n)
   short-first h = record { fits = omega (arith, f.most, h.most) }
@@ -269,7 +269,7 @@ module _ {n : ℕ} (f : Few n) where
       let q : size + 1 ≡ 1 + size = omega arith in
       record {
         is = λ place.
-            finish-done few-choice (λ z. omega arith) few-informed (before-short n (few-size major) refl w)
+            finish_done few_choice (λ z. omega arith) few_informed (before-short n (few-size major) refl w)
             (e ∙ ap (λ (x : ℕ). Made (record { next = next; size = x; count = 1; indicator = 0; binary = false; length = 0 })) q);
       }
 
@@ -284,14 +284,14 @@ module _ {pos room size : ℕ} (h : Heavy room size) (l : Light pos) where
   pub head-place : {i r : ℕ} → HeadSize i r → Fits bits64 (pos + r)
   head-place s = record { fits = omega (arith, s.most, l.fits) }
 
-  pub enclose-size : {i r : ℕ} → HeadSize i r → Fits bits64 (r + size)
-  enclose-size s = record { fits = omega (arith, s.most, h.fits) }
+  pub enclose_size : {i r : ℕ} → HeadSize i r → Fits bits64 (r + size)
+  enclose_size s = record { fits = omega (arith, s.most, h.fits) }
 
-pub finish-first : {major size width n info : ℕ} → Heavy major size → Informed width n info → Fits bits8 (major * 32 + info)
-finish-first h i = record { fits = omega (arith, h.most, i.most) }
+pub finish_first : {major size width n info : ℕ} → Heavy major size → Informed width n info → Fits bits8 (major * 32 + info)
+finish_first h i = record { fits = omega (arith, h.most, i.most) }
 
-pub heavy-mul : {major size : ℕ} → Heavy major size → Fits bits8 (major * 32)
-heavy-mul h = record { fits = omega (arith, h.most) }
+pub heavy_mul : {major size : ℕ} → Heavy major size → Fits bits8 (major * 32)
+heavy_mul h = record { fits = omega (arith, h.most) }
 
-pub finish-size : {b b' : List ℕ} {pos major size r : ℕ} (i n : ℕ) → Heavy major size → Closes b b' pos (head_bytes i n) size r → Fits bits64 (r + size)
-finish-size i n h s = record { fits = omega (arith, h.fits, s.sized, head-short i n) }
+pub finish_size : {b b' : List ℕ} {pos major size r : ℕ} (i n : ℕ) → Heavy major size → Closes b b' pos (head_bytes i n) size r → Fits bits64 (r + size)
+finish_size i n h s = record { fits = omega (arith, h.fits, s.sized, head-short i n) }

@@ -30,13 +30,13 @@ use Rattle.encoding.specs.declared.answer.ReadAnswer.{ReadAnswer}
 use Rattle.encoding.specs.declared.answer.ReadAnswer.TheVariants.{Made}
 
 -- HEADS of tokens
-pub info-width : (w : Width) (n : ℕ) → n ≤ limit w → info_by (width_number w) n ≡ information w n
+pub info_width : (w : Width) (n : ℕ) → n ≤ limit w → info_by (width_number w) n ≡ information w n
 unfolding info_by width_number information limit
-info-width w0 n h = omega arith
-info-width w1 n h = refl
-info-width w2 n h = refl
-info-width w4 n h = refl
-info-width w8 n h = refl
+info_width w0 n h = omega arith
+info_width w1 n h = refl
+info_width w2 n h = refl
+info_width w4 n h = refl
+info_width w8 n h = refl
 
 pub kind-major : (k : Kind) → major_by (kind_code k) ≡ major_number (strings k)
 unfolding major_by kind_code major_number
@@ -48,15 +48,15 @@ module _ {b b' : List ℕ} {pos first size : ℕ} (n : ℕ) (h : HeadSize first 
   pub written-short : size ≡ 1 → b' ≡ over_if_fits b pos (first ∷ []) → HeadWritten b b' pos first n 1
   written-short e w = record { wrote = rw (one_byte first n (sym (h.is n) ∙ e)) (wrote-written w); size = rw (← e) h }
 
-  pub written-long : b' ≡ over_if_fits b pos (head_bytes first n) → HeadWritten b b' pos first n size
-  written-long w = record { wrote = wrote-written w; size = h }
+  pub written_long : b' ≡ over_if_fits b pos (head_bytes first n) → HeadWritten b b' pos first n size
+  written_long w = record { wrote = wrote-written w; size = h }
 
-pub ruleset written-ways = (written-short, written-long)
+pub ruleset written_ways = (written-short, written_long)
 
 -- A LEAF
-pub leafed-is : {b b' : List ℕ} {pos first size : ℕ} {a : ReadAnswer} (t : Cut) → first ≡ initial_by t → HeadWritten b b' pos first t.argument size
+pub leafed_is : {b b' : List ℕ} {pos first size : ℕ} {a : ReadAnswer} (t : Cut) → first ≡ initial_by t → HeadWritten b b' pos first t.argument size
     → a ≡ Made (record { next = t.next; size = size; count = 1; indicator = 0; binary = false; length = 0 }) → Leafed t b b' pos a
-leafed-is {first = first} {size = size} t e h f =
+leafed_is {first = first} {size = size} t e h f =
     let q : size ≡ length (head_bytes (initial_by t) t.argument) = h.size.is t.argument ∙ ap (λ (x : ℕ). length (head_bytes x t.argument)) e in
     record {
       is = f ∙ ap (λ (x : ℕ). Made (record { next = t.next; size = x; count = 1; indicator = 0; binary = false; length = 0 })) q;
@@ -65,28 +65,28 @@ leafed-is {first = first} {size = size} t e h f =
 
 -- WHAT A LITERAL HOLDS
 module _ (s : List ℕ) (t : Cut) {b b' : List ℕ} {pos : ℕ} where
-  by-quotes : (q : ℕ) → Quoting b b' pos (unquote q character (drop t.start (marked s))) → ((c : List ℕ) → Spelled s t.form t.start t.stop c → QuotedAs s q t.start c) → Filled s t b b' pos
-  by-quotes q h g = record { is = λ c sp. wrote-over h.same (h.is c (g c sp).rest (g c sp).is); same = h.same }
+  by_quotes : (q : ℕ) → Quoting b b' pos (unquote q character (drop t.start (marked s))) → ((c : List ℕ) → Spelled s t.form t.start t.stop c → QuotedAs s q t.start c) → Filled s t b b' pos
+  by_quotes q h g = record { is = λ c sp. wrote-over h.same (h.is c (g c sp).rest (g c sp).is); same = h.same }
 
-  by-encodes : (read : List ℕ → Content) → Fills b b' pos (read (take (t.stop - t.start) (drop t.start s))) → ((c : List ℕ) → Spelled s t.form t.start t.stop c → EncodedAs s read t.start t.stop c)
+  by_encodes : (read : List ℕ → Content) → Fills b b' pos (read (take (t.stop - t.start) (drop t.start s))) → ((c : List ℕ) → Spelled s t.form t.start t.stop c → EncodedAs s read t.start t.stop c)
       → Filled s t b b' pos
-  by-encodes read h g = record { is = λ c sp. wrote-over h.same (h.is c (g c sp).is); same = h.same }
+  by_encodes read h g = record { is = λ c sp. wrote-over h.same (h.is c (g c sp).is); same = h.same }
 
-  pub fill-0 : t.form ≡ 0 → Quoting b b' pos (unquote 0x22 character (drop t.start (marked s))) → Filled s t b b' pos
+  pub fill_0 : t.form ≡ 0 → Quoting b b' pos (unquote 0x22 character (drop t.start (marked s))) → Filled s t b b' pos
   unfolding Spelled
-  fill-0 e h = by-quotes 0x22 h (λ c sp. rw e at sp)
+  fill_0 e h = by_quotes 0x22 h (λ c sp. rw e at sp)
 
-  pub fill-1 : t.form ≡ 1 → Quoting b b' pos (unquote 0x27 character (drop t.start (marked s))) → Filled s t b b' pos
+  pub fill_1 : t.form ≡ 1 → Quoting b b' pos (unquote 0x27 character (drop t.start (marked s))) → Filled s t b b' pos
   unfolding Spelled
-  fill-1 e h = by-quotes 0x27 h (λ c sp. rw e at sp)
+  fill_1 e h = by_quotes 0x27 h (λ c sp. rw e at sp)
 
-  pub fill-2 : t.form ≡ 2 → Fills b b' pos (hex_content (take (t.stop - t.start) (drop t.start s))) → Filled s t b b' pos
+  pub fill_2 : t.form ≡ 2 → Fills b b' pos (hex_content (take (t.stop - t.start) (drop t.start s))) → Filled s t b b' pos
   unfolding Spelled
-  fill-2 e h = by-encodes hex_content h (λ c sp. rw e at sp)
+  fill_2 e h = by_encodes hex_content h (λ c sp. rw e at sp)
 
-  pub fill-3 : (t.form ≡ 0 → ⊥) → (t.form ≡ 1 → ⊥) → (t.form ≡ 2 → ⊥) → Fills b b' pos (base64_content (take (t.stop - t.start) (drop t.start s))) → Filled s t b b' pos
+  pub fill_3 : (t.form ≡ 0 → ⊥) → (t.form ≡ 1 → ⊥) → (t.form ≡ 2 → ⊥) → Fills b b' pos (base64_content (take (t.stop - t.start) (drop t.start s))) → Filled s t b b' pos
   unfolding Spelled
-  fill-3 n0 n1 n2 h = by-encodes base64_content h (λ c sp. go t.form n0 n1 n2 c sp)
+  fill_3 n0 n1 n2 h = by_encodes base64_content h (λ c sp. go t.form n0 n1 n2 c sp)
     where
       go : (f : ℕ) → (f ≡ 0 → ⊥) → (f ≡ 1 → ⊥) → (f ≡ 2 → ⊥) → (c : List ℕ) → Spelled s f t.start t.stop c → EncodedAs s base64_content t.start t.stop c
       go zero n0 n1 n2 c sp = absurd (n0 refl)
@@ -94,7 +94,7 @@ module _ (s : List ℕ) (t : Cut) {b b' : List ℕ} {pos : ℕ} where
       go (suc (suc zero)) n0 n1 n2 c sp = absurd (n2 refl)
       go (suc (suc (suc f))) n0 n1 n2 c sp = sp
 
-pub ruleset fill-ways = (fill-0, fill-1, fill-2, fill-3)
+pub ruleset fill_ways = (fill_0, fill_1, fill_2, fill_3)
 
 -- A STRING
 module _ (pos n : ℕ) (l : Light (pos + n)) where
@@ -154,15 +154,15 @@ pub string-head : {s : List ℕ} {t : Cut} {k : Kind} {w : Width} {c : List ℕ}
 unfolding initial_by initial size_number
 string-head {t = t} {k = k} {w = w} {c = c} l =
     let n : length c ≤ limit w = l.fit w refl in
-    let e : initial_by t ≡ initial (strings k) (information w (length c)) = rw (l.code, l.size, l.number, kind-major k, info-width w (length c) n) in
+    let e : initial_by t ≡ initial (strings k) (information w (length c)) = rw (l.code, l.size, l.number, kind-major k, info_width w (length c) n) in
     rw (e, l.number) (sym (head_bytes_lem (strings k) w (length c) n))
 
 module _ (s : List ℕ) (t : Cut) {b b' : List ℕ} {pos : ℕ} {a : ReadAnswer} where
-  literal-open-by : {binary : Bool} {first : ℕ} → first ≡ initial_by t → t.indicator ≡ 1 → binary ≡ is_bytes_by t.kind → Ended b b' pos first t.next 0 binary 0 a
+  literal_open_by : {binary : Bool} {first : ℕ} → first ≡ initial_by t → t.indicator ≡ 1 → binary ≡ is_bytes_by t.kind → Ended b b' pos first t.next 0 binary 0 a
       → (k : Kind) (z : Size) (c : List ℕ) → LiteralIs s t k z c → Gave b b' pos t.next a (of_item (literal_item k z c))
   unfolding of_item literal_item encode enclosed opening_head closing_break encode_chunks initial_by initial size_number info_by
-  literal-open-by fe e te en k (definite w) c l = absurd (omega (arith, l.size, width_some w))
-  literal-open-by {binary} {first} fe e te en k indefinite c l =
+  literal_open_by fe e te en k (definite w) c l = absurd (omega (arith, l.size, width_some w))
+  literal_open_by {binary} {first} fe e te en k indefinite c l =
       let q : first ≡ initial (strings k) 31 = fe ∙ rw (l.code, e, kind-major k) in
       let p : pos + 0 + 1 ≡ pos + 1 = omega arith in
       record {
@@ -176,8 +176,8 @@ module _ (s : List ℕ) (t : Cut) {b b' : List ℕ} {pos : ℕ} {a : ReadAnswer}
         wrote = rw (← q) (wrote-more (wrote-written en.front) en.back p);
       }
 
-  pub literal-open : {binary : Bool} {first : ℕ} → first ≡ initial_by t → t.indicator ≡ 1 → binary ≡ is_bytes_by t.kind → Ended b b' pos first t.next 0 binary 0 a → LiteralTold s t b b' pos a
-  literal-open fe e te en = record { is = literal-open-by fe e te en }
+  pub literal_open : {binary : Bool} {first : ℕ} → first ≡ initial_by t → t.indicator ≡ 1 → binary ≡ is_bytes_by t.kind → Ended b b' pos first t.next 0 binary 0 a → LiteralTold s t b b' pos a
+  literal_open fe e te en = record { is = literal_open_by fe e te en }
 
   literal-by : {binary : Bool} {size : ℕ} → (t.indicator ≡ 1 → ⊥) → binary ≡ is_bytes_by t.kind → Stringed s t b b' pos size
       → a ≡ Made (record { next = t.next; size = size; count = 1; indicator = 0; binary = binary; length = t.argument })
@@ -202,7 +202,7 @@ module _ (s : List ℕ) (t : Cut) {b b' : List ℕ} {pos : ℕ} {a : ReadAnswer}
       → a ≡ Made (record { next = t.next; size = size; count = 1; indicator = 0; binary = binary; length = t.argument }) → LiteralTold s t b b' pos a
   literal-done n1 te st f = record { is = literal-by n1 te st f }
 
-pub ruleset literal-ways = (literal-open, literal-done)
+pub ruleset literal_ways = (literal_open, literal-done)
 
-pub light-none : (pos n : ℕ) → Light (pos + n) → Light (pos + 0)
-light-none pos n l = record { fits = omega (arith, l.fits) }
+pub light_none : (pos n : ℕ) → Light (pos + n) → Light (pos + 0)
+light_none pos n l = record { fits = omega (arith, l.fits) }

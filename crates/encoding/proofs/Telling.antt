@@ -78,8 +78,8 @@ said-refused a e f = rw f
 never_both : {m : MadeS} {k p : ℕ} (u : Verdict MadeS) → u ≡ accepted m → u ≡ refused k p → ⊥
 never_both u e f = let z : ◌≡◌ {A = ℕ} 0 1 = cc in omega arith
 
-pub made-never : {m : MadeS} {k p : ℕ} {P : Type 0} (a : ReadAnswer) → verdict_by a ≡ refused k p → a ≡ Made m → P
-made-never {m} a f e = absurd (never_both (verdict_by a) (said-made a m e) f)
+pub made_never : {m : MadeS} {k p : ℕ} {P : Type 0} (a : ReadAnswer) → verdict_by a ≡ refused k p → a ≡ Made m → P
+made_never {m} a f e = absurd (never_both (verdict_by a) (said-made a m e) f)
 
 made-same : (a : ReadAnswer) (m m' : MadeS) → a ≡ Made m → verdict_by a ≡ accepted m' → m ≡ m'
 made-same a m m' e f = let g = said-made a m e in cc
@@ -87,7 +87,7 @@ made-same a m m' e f = let g = said-made a m e in cc
 got_of : {A : Type 0} (v : A → View) (s b b' : List ℕ) (most pos : ℕ) (a : ReadAnswer) (m : MadeS) (res : Result A) → a ≡ Made m → After v s b b' most pos a res → Got v s b b' most pos m res
 unfolding After
 got_of v s b b' most pos a m (ok x r) e f = record { thing = x; rest = r; is = refl; moved = rw (made-same a m f.made e f.is) f.moved }
-got_of v s b b' most pos a m (refuse k q) e f = made-never a f.is e
+got_of v s b b' most pos a m (refuse k q) e f = made_never a f.is e
 
 pub got : {A : Type 0} {v : A → View} {s b b' : List ℕ} {most pos : ℕ} {m : MadeS} {res : Result A} (a : ReadAnswer) → ReadTold v s b b' most pos a res → a ≡ Made m → Got v s b b' most pos m res
 got {A} {v} {s} {b} {b'} {most} {pos} {m} {res} a h e = got_of v s b b' most pos a m res e h.after
@@ -103,16 +103,16 @@ pub record Lost {A : Type 0} (s : List ℕ) (e : Refusal) (res : Result A) : Typ
   pub kind : kind_number e.kind ≡ number
   pub place : e.place ≡ length (marked s) - left
 
-lost-of : {A : Type 0} (v : A → View) (s b b' : List ℕ) (most pos : ℕ) (a : ReadAnswer) (e : Refusal) (res : Result A) → a ≡ Refused e → After v s b b' most pos a res → Lost s e res
+lost_of : {A : Type 0} (v : A → View) (s b b' : List ℕ) (most pos : ℕ) (a : ReadAnswer) (e : Refusal) (res : Result A) → a ≡ Refused e → After v s b b' most pos a res → Lost s e res
 unfolding After
-lost-of v s b b' most pos a e (ok x r) h f = absurd (never_both (verdict_by a) f.is (said-refused a e h))
-lost-of v s b b' most pos a e (refuse k l) h f =
+lost_of v s b b' most pos a e (ok x r) h f = absurd (never_both (verdict_by a) f.is (said-refused a e h))
+lost_of v s b b' most pos a e (refuse k l) h f =
     let i = f.is in
     let g = said-refused a e h in
     record { number = k; left = l; is = refl; kind = cc; place = cc }
 
 pub lost : {A : Type 0} {v : A → View} {s b b' : List ℕ} {most pos : ℕ} {e : Refusal} {res : Result A} (a : ReadAnswer) → ReadTold v s b b' most pos a res → a ≡ Refused e → Lost s e res
-lost {A} {v} {s} {b} {b'} {most} {pos} {e} {res} a h f = lost-of v s b b' most pos a e res f h.after
+lost {A} {v} {s} {b} {b'} {most} {pos} {e} {res} a h f = lost_of v s b b' most pos a e res f h.after
 
 -- a reader that begins with a part that is refused
 pub told-lost : {A B : Type 0} {v : B → View} {s b b' : List ℕ} {most pos : ℕ} {e : Refusal} {res : Result A} (res' : Result B) (f : A → List ℕ → Result B) → Lost s e res → res' ≡ bind res f
@@ -175,15 +175,15 @@ either_way : (v : Bool) → ◌≡◌ {A = ℕ} (elim v [ true ↦ 11 | false �
 either_way true = refl
 either_way false = refl
 
-leaf-flat : (d : ℕ) (x : Item) → LeafFine x → stray d (begins (leaf x)) ≡ not_allowed
+leaf_flat : (d : ℕ) (x : Item) → LeafFine x → stray d (begins (leaf x)) ≡ not_allowed
 unfolding stray levels
-leaf-flat d (int g w n) f = let e : leb 0 d ≡ true = le-leb 0 d (omega arith) in rw (e, stray)
-leaf-flat d (simple n) f = let e : leb 0 d ≡ true = le-leb 0 d (omega arith) in rw (e, stray)
-leaf-flat d (string k w b) f = absurd f
-leaf-flat d (chunked k cs) f = absurd f
-leaf-flat d (array z xs) f = absurd f
-leaf-flat d (map z ps) f = absurd f
-leaf-flat d (tag w n x) f = absurd f
+leaf_flat d (int g w n) f = let e : leb 0 d ≡ true = le-leb 0 d (omega arith) in rw (e, stray)
+leaf_flat d (simple n) f = let e : leb 0 d ≡ true = le-leb 0 d (omega arith) in rw (e, stray)
+leaf_flat d (string k w b) f = absurd f
+leaf_flat d (chunked k cs) f = absurd f
+leaf_flat d (array z xs) f = absurd f
+leaf_flat d (map z ps) f = absurd f
+leaf_flat d (tag w n x) f = absurd f
 
 leaf-stray : (d n : ℕ) (x : Item) → LeafFine x → stray_by d (item_code x) n (item_mark x) ≡ not_allowed
 unfolding stray_by item_code
@@ -199,44 +199,44 @@ leaf-stray d n' (tag w n x) f = absurd f
 some_level : (d : ℕ) → eqb (suc d) 0 ≡ false
 some_level d = ne_eqb (suc d) 0 (λ z. absurd (omega arith))
 
-open-stray : (d n : ℕ) (o : Opener) → stray_by d (open_code o) n (open_mark o) ≡ stray d (begins (opens o))
+open_stray : (d n : ℕ) (o : Opener) → stray_by d (open_code o) n (open_mark o) ≡ stray d (begins (opens o))
 unfolding stray_by open_code stray
-open-stray zero n' (bracket i) = refl
-open-stray zero n' (brace i) = refl
-open-stray zero n' (tagging w n) = refl
-open-stray zero n' embedding = refl
-open-stray (suc d) n' (bracket i) = rw (some_level d, stray_by)
-open-stray (suc d) n' (brace i) = rw (some_level d, stray_by)
-open-stray (suc d) n' (tagging w n) = rw (some_level d, stray_by)
-open-stray (suc d) n' embedding = rw (some_level d, stray_by)
+open_stray zero n' (bracket i) = refl
+open_stray zero n' (brace i) = refl
+open_stray zero n' (tagging w n) = refl
+open_stray zero n' embedding = refl
+open_stray (suc d) n' (bracket i) = rw (some_level d, stray_by)
+open_stray (suc d) n' (brace i) = rw (some_level d, stray_by)
+open_stray (suc d) n' (tagging w n) = rw (some_level d, stray_by)
+open_stray (suc d) n' embedding = rw (some_level d, stray_by)
 
-angle-stray : (d n : ℕ) (i : Indicator) → stray_by d 20 n (indicator_number i) ≡ stray_indicator i
+angle_stray : (d n : ℕ) (i : Indicator) → stray_by d 20 n (indicator_number i) ≡ stray_indicator i
 unfolding stray_by indicator_number width_number stray_indicator
-angle-stray d n absent = refl
-angle-stray d n indefinitely = refl
-angle-stray d n unknown = refl
-angle-stray d n (wide w0) = refl
-angle-stray d n (wide w1) = refl
-angle-stray d n (wide w2) = refl
-angle-stray d n (wide w4) = refl
-angle-stray d n (wide w8) = refl
+angle_stray d n absent = refl
+angle_stray d n indefinitely = refl
+angle_stray d n unknown = refl
+angle_stray d n (wide w0) = refl
+angle_stray d n (wide w1) = refl
+angle_stray d n (wide w2) = refl
+angle_stray d n (wide w4) = refl
+angle_stray d n (wide w8) = refl
 
-close-stray : (d n : ℕ) (h : Shape) (i : Indicator) → stray_by d (shape_code h) n (indicator_number i) ≡ stray_closing h i
+close_stray : (d n : ℕ) (h : Shape) (i : Indicator) → stray_by d (shape_code h) n (indicator_number i) ≡ stray_closing h i
 unfolding stray_by shape_code stray_closing
-close-stray d n square i = either_way (eqb d 0)
-close-stray d n curly i = either_way (eqb d 0)
-close-stray d n round i = either_way (eqb d 0)
-close-stray d n angle i = angle-stray d n i
-close-stray d n whole i = either_way (eqb d 0)
+close_stray d n square i = either_way (eqb d 0)
+close_stray d n curly i = either_way (eqb d 0)
+close_stray d n round i = either_way (eqb d 0)
+close_stray d n angle i = angle_stray d n i
+close_stray d n whole i = either_way (eqb d 0)
 
 stray-is : (n d m : ℕ) (tok : Token) (k : ℕ) → Fine n tok k → stray_by d (code_of tok) m (mark_of tok) ≡ stray d tok
 unfolding code_of mark_of begin_code begin_mark kind_code stray_by stray
-stray-is n d m (begins (leaf x)) k f = leaf-stray d m x f ∙ sym (leaf-flat d x f)
+stray-is n d m (begins (leaf x)) k f = leaf-stray d m x f ∙ sym (leaf_flat d x f)
 stray-is n d m (begins (literal byte_string z b)) k f = either_way (eqb d 0)
 stray-is n d m (begins (literal text_string z b)) k f = either_way (eqb d 0)
 stray-is n d m (begins chunking) k f = either_way (eqb d 0)
-stray-is n d m (begins (opens o)) k f = open-stray d m o
-stray-is n d m (closes h i) k f = close-stray d m h i
+stray-is n d m (begins (opens o)) k f = open_stray d m o
+stray-is n d m (closes h i) k f = close_stray d m h i
 stray-is n d m a_comma k f = either_way (eqb d 0)
 stray-is n d m a_colon k f = either_way (eqb d 0)
 
@@ -252,7 +252,7 @@ eleven = record { low = omega arith; high = omega arith }
 
 stray-known : (n d : ℕ) (tok : Token) (k : ℕ) → Fine n tok k → Known (stray d tok)
 unfolding stray stray_closing
-stray-known n d (begins (leaf x)) k f = rw (leaf-flat d x f) eleven
+stray-known n d (begins (leaf x)) k f = rw (leaf_flat d x f) eleven
 stray-known n d (begins (literal c z b)) k f = eleven
 stray-known n d (begins chunking) k f = eleven
 stray-known n zero (begins (opens o)) k f = record { low = omega arith; high = omega arith }
@@ -266,22 +266,22 @@ stray-known n d a_comma k f = eleven
 stray-known n d a_colon k f = eleven
 
 -- a reader that comes to a token which its rule denies, or to none
-stop-of : {A : Type 0} (v : A → View) (s b b' : List ℕ) (most pos d at : ℕ) (a : ReadAnswer) (t : Cut) (f : Token → List ℕ → Result A) (u : Result Token)
+stop_of : {A : Type 0} (v : A → View) (s b b' : List ℕ) (most pos d at : ℕ) (a : ReadAnswer) (t : Cut) (f : Token → List ℕ → Result A) (u : Result Token)
     → Shown s t u → Cuts (place (drop at (marked s))) u → t.place ≡ length (marked s) - place (drop at (marked s)) → Strayed d t a
     → ((tok : Token) (r : List ℕ) → t.kind ≡ code_of tok → u ≡ ok tok r → f tok r ≡ refuse (stray d tok) (place (drop at (marked s)))) → ReadTold v s b b' most pos a (bind u f)
 unfolding Shown bind stray_by
-stop-of v s b b' most pos d at a t f (ok tok r) h c p st g =
+stop_of v s b b' most pos d at a t f (ok tok r) h c p st g =
     let e : stray_by d t.kind t.refusal t.indicator ≡ stray d tok = rw (h.code, h.indicator) (stray-is (place (drop at (marked s)) - 1) d t.refusal tok (length r) c.0) in
     let k : Known (stray_by d t.kind t.refusal t.indicator) = rw e (stray-known (place (drop at (marked s)) - 1) d tok (length r) c.0) in
     told-no (stray d tok) (place (drop at (marked s))) _ (g tok r h.code refl)
     (record { is = st.is ∙ ap₂ refused (st.known k.low k.high ∙ e) p })
-stop-of v s b b' most pos d at a t f (refuse k q) h c p st g =
+stop_of v s b b' most pos d at a t f (refuse k q) h c p st g =
     let e : stray_by d t.kind t.refusal t.indicator ≡ k = rw h.code h.refusal in
     told-no k q _ refl
     (record { is = st.is ∙ ap₂ refused (st.known (omega (arith, e, c.0.low)) (omega (arith, e, c.0.high)) ∙ e) (p ∙ ap (λ (x : ℕ). length (marked s) - x) (sym c.1)) })
 
-pub told-stop : {A : Type 0} {v : A → View} {s b b' : List ℕ} {most pos at : ℕ} {a : ReadAnswer} {t : Cut} (d : ℕ) (f : Token → List ℕ → Result A) (res : Result A)
+pub told_stop : {A : Type 0} {v : A → View} {s b b' : List ℕ} {most pos at : ℕ} {a : ReadAnswer} {t : Cut} (d : ℕ) (f : Token → List ℕ → Result A) (res : Result A)
     → Took s at t → Strayed d t a → res ≡ bind (next (drop at (marked s))) f
     → ((tok : Token) (r : List ℕ) → t.kind ≡ code_of tok → next (drop at (marked s)) ≡ ok tok r → f tok r ≡ refuse (stray d tok) (place (drop at (marked s)))) → ReadTold v s b b' most pos a res
-told-stop {A} {v} {s} {b} {b'} {most} {pos} {at} {a} {t} d f res tk st q g =
-    rw q (stop-of v s b b' most pos d at a t f _ tk.shown (next-fine (drop at (marked s))) (place_at tk) st g)
+told_stop {A} {v} {s} {b} {b'} {most} {pos} {at} {a} {t} d f res tk st q g =
+    rw q (stop_of v s b b' most pos d at a t f _ tk.shown (next-fine (drop at (marked s))) (place_at tk) st g)

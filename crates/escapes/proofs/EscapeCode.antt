@@ -15,11 +15,11 @@ use Rattle.notation.specs.Reading.{marked}
 use Rattle.notation.specs.Scanning.{fault}
 use Rattle.notation.specs.Quoted.{utf8_of, Before, no_surrogate, high_surrogate, Quoting, character, escape, unicode, paired, Move, gives, closed, wrong, Escape, escapes, escaped_in, whole_unit, unit, move_at, unquote}
 use Rattle.scanning.specs.ScanAnswers.{is_next, Peeked}
-use Rattle.scanning.proofs.ScanCode.{peeked-yes}
+use Rattle.scanning.proofs.ScanCode.{peeked_yes}
 use Rattle.literal_body.specs.LiteralAnswers.{digit_number}
 use Rattle.escapes.specs.EscapeAnswers.{onward, escaped_as, Escaped, DigitAt, UnitAt, Surrogate, Unescapes, Behind, Escapes, EscapesUnquoted}
 use Rattle.escapes.specs.declared.ReadEscape.{ReadEscape}
-use Rattle.literal_body.proofs.LiteralCode.{true-false, pre-nil, front-marked, past, digit-yes, digit-no, digit-number}
+use Rattle.literal_body.proofs.LiteralCode.{true_false, pre_nil, front-marked, past, digit-yes, digit-no, digit-number}
 use Rattle.code_point.proofs.PointCode.{utf8-one, utf8-most}
 
 -- ONE BYTE
@@ -41,7 +41,7 @@ unquote-by q k s i h e =
 -- nothing is given
 pub onward-on : (q : ℕ) (k : Quoting) (s : List ℕ) → onward q (gives [] k) s ≡ unquote q k s
 unfolding onward
-onward-on q k s = pre-nil (unquote q k s)
+onward-on q k s = pre_nil (unquote q k s)
 
 -- behind the text, where the end mark may not stand
 pub unquote-end : (q : ℕ) (k : Quoting) (s : List ℕ) (i : ℕ) → length s ≤ i → move_at q k 256 ≡ wrong → unquote q k (drop i (marked s)) ≡ fault no_token
@@ -55,49 +55,49 @@ abbrev NoneOf : List Escape → ℕ → Type 0
 NoneOf [] b = Unit
 NoneOf (e ∷ es) b = (b ≡ e.letter → ⊥) × NoneOf es b
 
-escaped-not : (es : List Escape) (b : ℕ) → NoneOf es b → escaped_in es b ≡ wrong
+escaped_not : (es : List Escape) (b : ℕ) → NoneOf es b → escaped_in es b ≡ wrong
 unfolding escaped_in
-escaped-not [] b n = refl
-escaped-not (e ∷ es) b n = (rw (ne_eqb b e.letter n.0, escaped_in)) ∙ escaped-not es b n.1
+escaped_not [] b n = refl
+escaped_not (e ∷ es) b n = (rw (ne_eqb b e.letter n.0, escaped_in)) ∙ escaped_not es b n.1
 
 module _ {b : ℕ} where
-  pub escaped-backslash : b ≡ 0x5c → Escaped b 0x5c
+  pub escaped_backslash : b ≡ 0x5c → Escaped b 0x5c
   unfolding escaped_in escapes escaped_as
-  escaped-backslash e = record { is = rw e; low = omega arith }
+  escaped_backslash e = record { is = rw e; low = omega arith }
 
-  pub escaped-slash : b ≡ 0x2f → Escaped b 0x2f
+  pub escaped_slash : b ≡ 0x2f → Escaped b 0x2f
   unfolding escaped_in escapes escaped_as
-  escaped-slash e = record { is = rw e; low = omega arith }
+  escaped_slash e = record { is = rw e; low = omega arith }
 
-  pub escaped-b : b ≡ 0x62 → Escaped b 0x08
+  pub escaped_b : b ≡ 0x62 → Escaped b 0x08
   unfolding escaped_in escapes escaped_as
-  escaped-b e = record { is = rw e; low = omega arith }
+  escaped_b e = record { is = rw e; low = omega arith }
 
-  pub escaped-f : b ≡ 0x66 → Escaped b 0x0c
+  pub escaped_f : b ≡ 0x66 → Escaped b 0x0c
   unfolding escaped_in escapes escaped_as
-  escaped-f e = record { is = rw e; low = omega arith }
+  escaped_f e = record { is = rw e; low = omega arith }
 
-  pub escaped-n : b ≡ 0x6e → Escaped b 0x0a
+  pub escaped_n : b ≡ 0x6e → Escaped b 0x0a
   unfolding escaped_in escapes escaped_as
-  escaped-n e = record { is = rw e; low = omega arith }
+  escaped_n e = record { is = rw e; low = omega arith }
 
-  pub escaped-r : b ≡ 0x72 → Escaped b 0x0d
+  pub escaped_r : b ≡ 0x72 → Escaped b 0x0d
   unfolding escaped_in escapes escaped_as
-  escaped-r e = record { is = rw e; low = omega arith }
+  escaped_r e = record { is = rw e; low = omega arith }
 
-  pub escaped-t : b ≡ 0x74 → Escaped b 0x09
+  pub escaped_t : b ≡ 0x74 → Escaped b 0x09
   unfolding escaped_in escapes escaped_as
-  escaped-t e = record { is = rw e; low = omega arith }
+  escaped_t e = record { is = rw e; low = omega arith }
 
-  pub escaped-none : (b ≡ 0x5c → ⊥) → (b ≡ 0x2f → ⊥) → (b ≡ 0x62 → ⊥) → (b ≡ 0x66 → ⊥) → (b ≡ 0x6e → ⊥) → (b ≡ 0x72 → ⊥) → (b ≡ 0x74 → ⊥) → Escaped b 0
+  pub escaped_none : (b ≡ 0x5c → ⊥) → (b ≡ 0x2f → ⊥) → (b ≡ 0x62 → ⊥) → (b ≡ 0x66 → ⊥) → (b ≡ 0x6e → ⊥) → (b ≡ 0x72 → ⊥) → (b ≡ 0x74 → ⊥) → Escaped b 0
   unfolding escaped_in escapes escaped_as
-  escaped-none n₁ n₂ n₃ n₄ n₅ n₆ n₇ =
+  escaped_none n₁ n₂ n₃ n₄ n₅ n₆ n₇ =
       record {
-        is = escaped-not escapes b (n₁, (n₂, (n₃, (n₄, (n₅, (n₆, (n₇, tt)))))));
+        is = escaped_not escapes b (n₁, (n₂, (n₃, (n₄, (n₅, (n₆, (n₇, tt)))))));
         low = omega arith;
       }
 
-pub ruleset escaped-ways = (escaped-backslash, escaped-slash, escaped-b, escaped-f, escaped-n, escaped-r, escaped-t, escaped-none)
+pub ruleset escaped_ways = (escaped_backslash, escaped_slash, escaped_b, escaped_f, escaped_n, escaped_r, escaped_t, escaped_none)
 
 -- DIGITS
 
@@ -118,7 +118,7 @@ digit-here {s} {at} {v} h d =
       inside = λ l. h;
     }
 
-pub ruleset digit-ways = (digit-past, digit-here)
+pub ruleset digit_ways = (digit-past, digit-here)
 
 -- one digit more, that is not the last
 digit-on : {s : List ℕ} {i v : ℕ} (k c q : ℕ) (h : Before) → DigitAt s i v → v < 16 → unquote q (unicode (suc (suc k)) c h) (drop i (marked s)) ≡ unquote q (unicode (suc k) (c * 16 + v) h) (drop (i + 1) (marked s))
@@ -165,21 +165,21 @@ module _ {s : List ℕ} {at a : ℕ} (x : DigitAt s at a) where
               inside = λ g. let i = w.inside l in omega arith;
             }
 
-pub ruleset unit-ways = (unit-first, unit-second, unit-third, unit-fourth, unit-whole)
+pub ruleset unit_ways = (unit-first, unit-second, unit-third, unit-fourth, unit-whole)
 
 -- A WHOLE UNIT
 
-in-range : (l h c : ℕ) → l ≤ c → c ≤ h → is_in (l to h) c ≡ true
+in_range : (l h c : ℕ) → l ≤ c → c ≤ h → is_in (l to h) c ≡ true
 unfolding is_in
-in-range l h c p q = rw (le-leb l c p, le-leb c h q)
+in_range l h c p q = rw (le-leb l c p, le-leb c h q)
 
-below-range : (l h c : ℕ) → c < l → is_in (l to h) c ≡ false
+below_range : (l h c : ℕ) → c < l → is_in (l to h) c ≡ false
 unfolding is_in
-below-range l h c p = rw (lt-leb l c p)
+below_range l h c p = rw (lt-leb l c p)
 
-above-range : (l h c : ℕ) → l ≤ c → h < c → is_in (l to h) c ≡ false
+above_range : (l h c : ℕ) → l ≤ c → h < c → is_in (l to h) c ≡ false
 unfolding is_in
-above-range l h c p q = rw (le-leb l c p, lt-leb c h q)
+above_range l h c p q = rw (le-leb l c p, lt-leb c h q)
 
 -- behind none
 whole_by : Bool → Bool → ℕ → Move
@@ -193,52 +193,52 @@ whole-zero c t u e f = λ j. whole_by (e j) (f j) c
 
 module _ {s : List ℕ} {at : ℕ} where
   behind-none : Behind s at (record { good = false; next = 0; point = 0 })
-  behind-none = record { point = omega arith; inside = λ z. absurd (true-false (sym z)); short = λ z. absurd (true-false (sym z)) }
+  behind-none = record { point = omega arith; inside = λ z. absurd (true_false (sym z)); short = λ z. absurd (true_false (sym z)) }
 
-  unescapes-none : {q : ℕ} {k : Quoting} → unquote q k (drop at (marked s)) ≡ fault no_token → Unescapes s q k at (record { good = false; next = 0; point = 0 })
-  unescapes-none e = record { good = λ z. absurd (true-false (sym z)); bad = λ z. e }
+  unescapes_none : {q : ℕ} {k : Quoting} → unquote q k (drop at (marked s)) ≡ fault no_token → Unescapes s q k at (record { good = false; next = 0; point = 0 })
+  unescapes_none e = record { good = λ z. absurd (true_false (sym z)); bad = λ z. e }
 
-  unescapes-as : {q n c : ℕ} {k : Quoting} → unquote q k (drop at (marked s)) ≡ onward q (gives (utf8_of c) character) (drop n (marked s)) → Unescapes s q k at (record { good = true; next = n; point = c })
-  unescapes-as e = record { good = λ z. e; bad = λ z. absurd (true-false z) }
+  unescapes_as : {q n c : ℕ} {k : Quoting} → unquote q k (drop at (marked s)) ≡ onward q (gives (utf8_of c) character) (drop n (marked s)) → Unescapes s q k at (record { good = true; next = n; point = c })
+  unescapes_as e = record { good = λ z. e; bad = λ z. absurd (true_false z) }
 
   no-escape : {k : Quoting} {r : ReadEscape} → r ≡ record { good = false; next = 0; point = 0 } → ((q : ℕ) → unquote q k (drop at (marked s)) ≡ fault no_token) → Escapes s k at r
-  no-escape {k} u f = subst⁻¹ (Escapes s k at) u (record { reads = λ q. unescapes-none (f q); place = behind-none })
+  no-escape {k} u f = subst⁻¹ (Escapes s k at) u (record { reads = λ q. unescapes_none (f q); place = behind-none })
 
-  an-escape : {k : Quoting} {r : ReadEscape} {n c : ℕ} → r ≡ record { good = true; next = n; point = c } → ((q : ℕ) → unquote q k (drop at (marked s)) ≡ onward q (gives (utf8_of c) character) (drop n (marked s)))
+  an_escape : {k : Quoting} {r : ReadEscape} {n c : ℕ} → r ≡ record { good = true; next = n; point = c } → ((q : ℕ) → unquote q k (drop at (marked s)) ≡ onward q (gives (utf8_of c) character) (drop n (marked s)))
       → c < 0x110000 → n ≤ length s → at + 4 ≤ n → Escapes s k at r
-  an-escape {k} {c = c} u f p i l =
-      subst⁻¹ (Escapes s k at) u (record { reads = λ q. unescapes-as (f q); place = record { point = p; inside = λ z. i; short = λ z. omega (arith, utf8-most c) } })
+  an_escape {k} {c = c} u f p i l =
+      subst⁻¹ (Escapes s k at) u (record { reads = λ q. unescapes_as (f q); place = record { point = p; inside = λ z. i; short = λ z. omega (arith, utf8-most c) } })
 
 -- what must be next, and is not
-unless-next : (q : ℕ) (k : Quoting) (c : ℕ) → ((b : ℕ) → eqb b c ≡ false → move_at q k b ≡ wrong) → (r : List ℕ) → is_next c r ≡ false → unquote q k r ≡ fault no_token
+unless_next : (q : ℕ) (k : Quoting) (c : ℕ) → ((b : ℕ) → eqb b c ≡ false → move_at q k b ≡ wrong) → (r : List ℕ) → is_next c r ≡ false → unquote q k r ≡ fault no_token
 unfolding unquote is_next onward
-unless-next q k c f [] e = refl
-unless-next q k c f (b ∷ r) e = unquote-next q k b r ∙ ap (λ (m : Move). onward q m r) (f b e)
+unless_next q k c f [] e = refl
+unless_next q k c f (b ∷ r) e = unquote-next q k b r ∙ ap (λ (m : Move). onward q m r) (f b e)
 
 -- the low surrogate
 module _ (s : List ℕ) (at h : ℕ) {t : Bool} (x : Peeked s at 0x5c t) where
-  pub low-bare : {r : ReadEscape} → not t ≡ true → r ≡ record { good = false; next = 0; point = 0 } → Escapes s (paired h) at r
+  pub low_bare : {r : ReadEscape} → not t ≡ true → r ≡ record { good = false; next = 0; point = 0 } → Escapes s (paired h) at r
   unfolding move_at
-  low-bare f u = no-escape u (λ q. unless-next q (paired h) 0x5c (λ b e. rw (e, move_at)) (drop at (marked s)) (sym x.is ∙ not-true t f))
+  low_bare f u = no-escape u (λ q. unless_next q (paired h) 0x5c (λ b e. rw (e, move_at)) (drop at (marked s)) (sym x.is ∙ not-true t f))
 
   module _ {t₂ : Bool} (f : not t ≡ false) (x₂ : Peeked s (at + 1) 0x75 t₂) where
     low_first : (q : ℕ) → unquote q (paired h) (drop at (marked s)) ≡ unquote q (escape (high_surrogate h)) (drop (at + 1) (marked s))
     unfolding move_at
     low_first q =
-        ap (unquote q (paired h)) (peeked-yes x (not-false t f))
+        ap (unquote q (paired h)) (peeked_yes x (not-false t f))
         ∙ (unquote-next q (paired h) 0x5c (drop (at + 1) (marked s)) ∙ onward-on q (escape (high_surrogate h)) (drop (at + 1) (marked s)))
 
     pub low-letter : {r : ReadEscape} → not t₂ ≡ true → r ≡ record { good = false; next = 0; point = 0 } → Escapes s (paired h) at r
     unfolding move_at
     low-letter g u =
-        no-escape u (λ q. low_first q ∙ unless-next q (escape (high_surrogate h)) 0x75 (λ b e. rw (e, move_at)) (drop (at + 1) (marked s)) (sym x₂.is ∙ not-true t₂ g))
+        no-escape u (λ q. low_first q ∙ unless_next q (escape (high_surrogate h)) 0x75 (λ b e. rw (e, move_at)) (drop (at + 1) (marked s)) (sym x₂.is ∙ not-true t₂ g))
 
     module _ {c : ℕ} (g : not t₂ ≡ false) (y : UnitAt s (at + 2) c) where
       low_second : (q : ℕ) → unquote q (paired h) (drop at (marked s)) ≡ unquote q (unicode 4 0 (high_surrogate h)) (drop (at + 2) (marked s))
       unfolding move_at
       low_second q =
           let e : at + 1 + 1 ≡ at + 2 = omega arith in
-          let d : drop (at + 1) (marked s) ≡ 0x75 ∷ drop (at + 2) (marked s) = rw e at (peeked-yes x₂ (not-false t₂ g)) in
+          let d : drop (at + 1) (marked s) ≡ 0x75 ∷ drop (at + 2) (marked s) = rw e at (peeked_yes x₂ (not-false t₂ g)) in
           low_first q
           ∙ (ap (unquote q (escape (high_surrogate h))) d
           ∙ (unquote-next q (escape (high_surrogate h)) 0x75 (drop (at + 2) (marked s)) ∙ onward-on q (unicode 4 0 (high_surrogate h)) (drop (at + 2) (marked s))))
@@ -250,7 +250,7 @@ module _ (s : List ℕ) (at h : ℕ) {t : Bool} (x : Peeked s at 0x5c t) where
 
       pub low_below : {r : ReadEscape} → c < 0xdc00 → r ≡ record { good = false; next = 0; point = 0 } → Escapes s (paired h) at r
       unfolding whole_unit onward
-      low_below l u = no-escape u (λ q. low-unit {m = wrong} q (omega arith) (rw (below-range 0xdc00 0xdfff c l, whole_unit)))
+      low_below l u = no-escape u (λ q. low-unit {m = wrong} q (omega arith) (rw (below_range 0xdc00 0xdfff c l, whole_unit)))
 
       pub low-above : {r : ReadEscape} → 0xdc00 ≤ c → 0xe000 ≤ c → r ≡ record { good = false; next = 0; point = 0 } → Escapes s (paired h) at r
       unfolding whole_unit onward
@@ -260,16 +260,16 @@ module _ (s : List ℕ) (at h : ℕ) {t : Bool} (x : Peeked s at 0x5c t) where
           l₂ = omega arith
 
           go : (q : ℕ) (v : Bool) → ltb c 0x10000 ≡ v → unquote q (paired h) (drop at (marked s)) ≡ fault no_token
-          go q true e = low-unit {m = wrong} q (ltb-true c 0x10000 e) (rw (above-range 0xdc00 0xdfff c l l₂, whole_unit))
+          go q true e = low-unit {m = wrong} q (ltb-true c 0x10000 e) (rw (above_range 0xdc00 0xdfff c l l₂, whole_unit))
           go q false e = low_second q ∙ y.none (ltb-false c 0x10000 e) q (high_surrogate h)
 
       pub low-pair : {r : ReadEscape} → Surrogate h → 0xdc00 ≤ c → c < 0xe000 → r ≡ record { good = true; next = at + 6; point = 0x10000 + (h - 0xd800) * 0x400 + (c - 0xdc00) } → Escapes s (paired h) at r
       unfolding whole_unit
       low-pair v l g u =
           let l₂ : c ≤ 0xdfff = omega arith in
-          an-escape u (λ q. low-unit q (omega arith) (rw (in-range 0xdc00 0xdfff c l l₂, whole_unit))) (omega (arith, v.top)) (omega (arith, y.inside (omega arith))) (omega arith)
+          an_escape u (λ q. low-unit q (omega arith) (rw (in_range 0xdc00 0xdfff c l l₂, whole_unit))) (omega (arith, v.top)) (omega (arith, y.inside (omega arith))) (omega arith)
 
-pub ruleset low-ways = (low-bare, low-letter, low_below, low-above, low-pair)
+pub ruleset low_ways = (low_bare, low-letter, low_below, low-above, low-pair)
 
 -- behind `\u`
 module _ {s : List ℕ} {at c : ℕ} (y : UnitAt s at c) where
@@ -280,12 +280,12 @@ module _ {s : List ℕ} {at c : ℕ} (y : UnitAt s at c) where
     unicode-by : {m : Move} (q : ℕ) → whole_unit no_surrogate c ≡ m → unquote q (unicode 4 0 no_surrogate) (drop at (marked s)) ≡ onward q m (drop (at + 4) (marked s))
     unicode-by q e = y.some l q no_surrogate ∙ ap (λ (m : Move). onward q m (drop (at + 4) (marked s))) e
 
-    unicode-as : {r : ReadEscape} → r ≡ record { good = true; next = at + 4; point = c } → whole_unit no_surrogate c ≡ gives (utf8_of c) character → Escapes s (unicode 4 0 no_surrogate) at r
-    unicode-as u e = an-escape u (λ q. unicode-by q e) (omega arith) (y.inside l) (omega arith)
+    unicode_as : {r : ReadEscape} → r ≡ record { good = true; next = at + 4; point = c } → whole_unit no_surrogate c ≡ gives (utf8_of c) character → Escapes s (unicode 4 0 no_surrogate) at r
+    unicode_as u e = an_escape u (λ q. unicode-by q e) (omega arith) (y.inside l) (omega arith)
 
     pub unicode-low : {r : ReadEscape} → c < 0xd800 → r ≡ record { good = true; next = at + 4; point = c } → Escapes s (unicode 4 0 no_surrogate) at r
     unfolding whole_by
-    unicode-low a u = let a₂ : c < 0xdc00 = omega arith in unicode-as u (whole-zero c false false (below-range 0xd800 0xdbff c a) (below-range 0xdc00 0xdfff c a₂))
+    unicode-low a u = let a₂ : c < 0xdc00 = omega arith in unicode_as u (whole-zero c false false (below_range 0xd800 0xdbff c a) (below_range 0xdc00 0xdfff c a₂))
 
     module _ (g : 0xd800 ≤ c) where
       pub unicode-pair : {r : ReadEscape} → c < 0xdc00 → Escapes s (paired c) (at + 4) r → Escapes s (unicode 4 0 no_surrogate) at r
@@ -293,7 +293,7 @@ module _ {s : List ℕ} {at c : ℕ} (y : UnitAt s at c) where
       unicode-pair a x =
           let a₂ : c ≤ 0xdbff = omega arith in
           let e : (q : ℕ) → unquote q (unicode 4 0 no_surrogate) (drop at (marked s)) ≡ unquote q (paired c) (drop (at + 4) (marked s)) = λ q.
-          unicode-by q (whole-zero c true _ (in-range 0xd800 0xdbff c g a₂) refl) ∙ onward-on q (paired c) (drop (at + 4) (marked s)) in
+          unicode-by q (whole-zero c true _ (in_range 0xd800 0xdbff c g a₂) refl) ∙ onward-on q (paired c) (drop (at + 4) (marked s)) in
           record {
             reads = λ q. record { good = λ z. e q ∙ (x.reads q).good z; bad = λ z. e q ∙ (x.reads q).bad z };
             place = record { point = x.place.point; inside = x.place.inside; short = λ z. omega (arith, x.place.short z) };
@@ -301,17 +301,17 @@ module _ {s : List ℕ} {at c : ℕ} (y : UnitAt s at c) where
 
       module _ (a : 0xdc00 ≤ c) where
         not_first : is_in (0xd800 to 0xdbff) c ≡ false
-        not_first = let a₂ : 0xdbff < c = omega arith in above-range 0xd800 0xdbff c g a₂
+        not_first = let a₂ : 0xdbff < c = omega arith in above_range 0xd800 0xdbff c g a₂
 
-        pub unicode-lone : {r : ReadEscape} → c < 0xe000 → r ≡ record { good = false; next = 0; point = 0 } → Escapes s (unicode 4 0 no_surrogate) at r
+        pub unicode_lone : {r : ReadEscape} → c < 0xe000 → r ≡ record { good = false; next = 0; point = 0 } → Escapes s (unicode 4 0 no_surrogate) at r
         unfolding whole_by onward
-        unicode-lone a₂ u = let a₃ : c ≤ 0xdfff = omega arith in no-escape u (λ q. unicode-by q (whole-zero c false true not_first (in-range 0xdc00 0xdfff c a a₃)))
+        unicode_lone a₂ u = let a₃ : c ≤ 0xdfff = omega arith in no-escape u (λ q. unicode-by q (whole-zero c false true not_first (in_range 0xdc00 0xdfff c a a₃)))
 
         pub unicode-top : {r : ReadEscape} → 0xe000 ≤ c → r ≡ record { good = true; next = at + 4; point = c } → Escapes s (unicode 4 0 no_surrogate) at r
         unfolding whole_by
-        unicode-top a₂ u = let a₃ : 0xdfff < c = omega arith in unicode-as u (whole-zero c false false not_first (above-range 0xdc00 0xdfff c a a₃))
+        unicode-top a₂ u = let a₃ : 0xdfff < c = omega arith in unicode_as u (whole-zero c false false not_first (above_range 0xdc00 0xdfff c a a₃))
 
-pub ruleset unicode-ways = (unicode-none, unicode-low, unicode-pair, unicode-lone, unicode-top)
+pub ruleset unicode_ways = (unicode-none, unicode-low, unicode-pair, unicode_lone, unicode-top)
 
 -- behind a backslash
 pub escape-past : {s : List ℕ} {at : ℕ} {r : ReadEscape} → length s ≤ at → r ≡ record { good = false; next = 0; point = 0 } → EscapesUnquoted s at r
@@ -319,7 +319,7 @@ unfolding move_at escaped_in escapes
 escape-past {s} {at} {r} h u =
     subst⁻¹ (EscapesUnquoted s at) u
     (record {
-      reads = λ q l f. unescapes-none (unquote-end q (escape no_surrogate) s at h (let n : 256 ≡ q → ⊥ = omega arith in rw (ne_eqb 256 q n, move_at)));
+      reads = λ q l f. unescapes_none (unquote-end q (escape no_surrogate) s at h (let n : 256 ≡ q → ⊥ = omega arith in rw (ne_eqb 256 q n, move_at)));
       place = behind-none;
     })
 
@@ -348,7 +348,7 @@ module _ (s : List ℕ) (at : ℕ) (h : at < length s) where
 
     pub escape-wrong : {r : ReadEscape} → v ≡ 0 → r ≡ record { good = false; next = 0; point = 0 } → EscapesUnquoted s at r
     unfolding escaped_as onward
-    escape-wrong e u = subst⁻¹ (EscapesUnquoted s at) u (record { reads = λ q l f. unescapes-none (rw (e) at (letter q f)); place = behind-none })
+    escape-wrong e u = subst⁻¹ (EscapesUnquoted s at) u (record { reads = λ q l f. unescapes_none (rw (e) at (letter q f)); place = behind-none })
 
     pub escape-letter : {r : ReadEscape} → (v ≡ 0 → ⊥) → r ≡ record { good = true; next = at + 1; point = v } → EscapesUnquoted s at r
     unfolding escaped_as
@@ -356,8 +356,8 @@ module _ (s : List ℕ) (at : ℕ) (h : at < length s) where
         let w = utf8-one v y.low in
         subst⁻¹ (EscapesUnquoted s at) u
         (record {
-          reads = λ q l f. unescapes-as (letter q f ∙ ap (λ (m : Move). onward q m (drop (at + 1) (marked s))) ((rw (ne_eqb v 0 e, escaped_as)) ∙ ap (λ (x : List ℕ). gives x character) (sym w)));
+          reads = λ q l f. unescapes_as (letter q f ∙ ap (λ (m : Move). onward q m (drop (at + 1) (marked s))) ((rw (ne_eqb v 0 e, escaped_as)) ∙ ap (λ (x : List ℕ). gives x character) (sym w)));
           place = record { point = omega (arith, y.low); inside = λ z. omega arith; short = λ z. omega (arith, ap length w) };
         })
 
-pub ruleset escape-ways = (escape-past, escape_unicode, escape-wrong, escape-letter)
+pub ruleset escape_ways = (escape-past, escape_unicode, escape-wrong, escape-letter)

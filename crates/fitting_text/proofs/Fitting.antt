@@ -31,7 +31,7 @@ module _ {s : List ℕ} (b : List ℕ) {n : ℕ} (t : TextSize s n) {v : Bool} (
         rw w (laid-yes b f (print_text xs) z h);
   }
 
-  pub lay-refused : {r : Answer} → v ≡ false → Refuses NoRoom 0 r → Lays s b b r
-  lay-refused h x = record { is = λ xs d. laid-no b f (print_text xs) (t.size xs d) h x }
+  pub lay_refused : {r : Answer} → v ≡ false → Refuses NoRoom 0 r → Lays s b b r
+  lay_refused h x = record { is = λ xs d. laid-no b f (print_text xs) (t.size xs d) h x }
 
-pub ruleset lay-ways = (lay_done, lay-refused)
+pub ruleset lay_ways = (lay_done, lay_refused)

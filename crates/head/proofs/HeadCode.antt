@@ -22,10 +22,10 @@ use Rattle.head.specs.HeadAnswers.{HeadTold, head_found as told_head, head_refus
 use Rattle.head.specs.declared.HeadRead.TheVariants as HeadRead
 use Rattle.refusal.specs.declared.RefusalKind.{RefusalKind}
 use Rattle.refusal.specs.declared.RefusalKind.TheVariants.{Float, EndsInside, NotWellFormed}
-use Rattle.cbor.proofs.Arguments.{length-big}
+use Rattle.cbor.proofs.Arguments.{length_big}
 use Rattle.memory.proofs.Lists.{front}
 use Rattle.cbor.proofs.Table.{both, byte}
-use Rattle.memory.proofs.Buffer.{over-nil, over-set, written-fits, written-not, length-written, written_behind}
+use Rattle.memory.proofs.Buffer.{over_nil, over-set, written-fits, written_not, length-written, written_behind}
 
 -- THE INITIAL BYTE: its facts are one test, computed at every byte
 
@@ -131,11 +131,11 @@ module _ (b : ℕ) (u : Fits bits8 b) where
         unfolding form_code
         form-tag h e = formed 16 (sym (simp (form_code, lt-leb (b % 32) 24 a, lt-leb (b % 32) 27 a₂, lt-leb (b % 32) 30 a₃, lt-leb (b / 32) 1 h, eq-eqb (b / 32) 6 e)))
 
-        pub form-open : 1 < b / 32 → (b / 32 ≡ 6 → ⊥) → Formed b 31
+        pub form_open : 1 < b / 32 → (b / 32 ≡ 6 → ⊥) → Formed b 31
         unfolding form_code
-        form-open h n = formed 31 (sym (simp (form_code, lt-leb (b % 32) 24 a, lt-leb (b % 32) 27 a₂, lt-leb (b % 32) 30 a₃, lt-leb (b / 32) 1 h, ne_eqb (b / 32) 6 n)))
+        form_open h n = formed 31 (sym (simp (form_code, lt-leb (b % 32) 24 a, lt-leb (b % 32) 27 a₂, lt-leb (b % 32) 30 a₃, lt-leb (b / 32) 1 h, ne_eqb (b / 32) 6 n)))
 
-pub ruleset form-ways = (form_small, form-float, form-wide, form-reserved, form-integer, form-tag, form-open)
+pub ruleset form_ways = (form_small, form-float, form-wide, form-reserved, form-integer, form-tag, form_open)
 
 -- SIZES, AND THE SHORTEST HEAD
 
@@ -144,23 +144,23 @@ module _ (i : ℕ) where
   unfolding argument_size
   size-one e = rw e
 
-  pub size-two : i ≡ 25 → 2 ≡ argument_size i
+  pub size_two : i ≡ 25 → 2 ≡ argument_size i
   unfolding argument_size
-  size-two e = rw e
+  size_two e = rw e
 
   pub size-four : i ≡ 26 → 4 ≡ argument_size i
   unfolding argument_size
   size-four e = rw e
 
-  pub size-eight : i ≡ 27 → 8 ≡ argument_size i
+  pub size_eight : i ≡ 27 → 8 ≡ argument_size i
   unfolding argument_size
-  size-eight e = rw e
+  size_eight e = rw e
 
   pub size_none : (i ≡ 24 → ⊥) → (i ≡ 25 → ⊥) → (i ≡ 26 → ⊥) → (i ≡ 27 → ⊥) → 0 ≡ argument_size i
   unfolding argument_size
   size_none n₁ n₂ n₃ n₄ = sym (simp (argument_size, ne_eqb i 24 n₁, ne_eqb i 25 n₂, ne_eqb i 26 n₃, ne_eqb i 27 n₄))
 
-pub ruleset size-ways = (size-one, size-two, size-four, size-eight, size_none)
+pub ruleset size_ways = (size-one, size_two, size-four, size_eight, size_none)
 
 pub size-most : (i : ℕ) → argument_size i ≤ 8
 unfolding argument_size
@@ -184,20 +184,20 @@ module _ (n : ℕ) where
     shortest-one h = sym (simp (shortest, lt-leb n 23 a, le-leb n 0xff h))
 
     module _ (a₂ : 0xff < n) where
-      pub shortest-two : n ≤ 0xffff → 25 ≡ information (shortest n) n
+      pub shortest_two : n ≤ 0xffff → 25 ≡ information (shortest n) n
       unfolding information shortest fits limit
-      shortest-two h = sym (simp (shortest, lt-leb n 23 a, lt-leb n 0xff a₂, le-leb n 0xffff h))
+      shortest_two h = sym (simp (shortest, lt-leb n 23 a, lt-leb n 0xff a₂, le-leb n 0xffff h))
 
       module _ (a₃ : 0xffff < n) where
         pub shortest-four : n ≤ 0xffff_ffff → 26 ≡ information (shortest n) n
         unfolding information shortest fits limit
         shortest-four h = sym (simp (shortest, lt-leb n 23 a, lt-leb n 0xff a₂, lt-leb n 0xffff a₃, le-leb n 0xffff_ffff h))
 
-        pub shortest-eight : 0xffff_ffff < n → 27 ≡ information (shortest n) n
+        pub shortest_eight : 0xffff_ffff < n → 27 ≡ information (shortest n) n
         unfolding information shortest fits limit
-        shortest-eight h = sym (simp (shortest, lt-leb n 23 a, lt-leb n 0xff a₂, lt-leb n 0xffff a₃, lt-leb n 0xffff_ffff h))
+        shortest_eight h = sym (simp (shortest, lt-leb n 23 a, lt-leb n 0xff a₂, lt-leb n 0xffff a₃, lt-leb n 0xffff_ffff h))
 
-pub ruleset shortest-ways = (shortest-none, shortest-one, shortest-two, shortest-four, shortest-eight)
+pub ruleset shortest_ways = (shortest-none, shortest-one, shortest_two, shortest-four, shortest_eight)
 
 pub least-some : (b : ℕ) → b ≡ 0xf8 → 32 ≡ least_argument b
 unfolding least_argument
@@ -207,7 +207,7 @@ pub least-none : (b : ℕ) → (b ≡ 0xf8 → ⊥) → 0 ≡ least_argument b
 unfolding least_argument
 least-none b n = sym (simp (least_argument, ne_eqb b 0xf8 n))
 
-pub ruleset least-ways = (least-some, least-none)
+pub ruleset least_ways = (least-some, least-none)
 
 -- NUMBERS, READ
 
@@ -232,11 +232,11 @@ module _ {s : List ℕ} {from size : ℕ} where
   number-start h = record { room = h; most = omega arith; small = omega arith; same = rw (add-zero, sub-zero) }
 
   module _ {i v : ℕ} (inv : Reading s from size i v) where
-    pub number-mul : i < size → Fits bits64 (v * 256)
-    number-mul h = record { fits = omega (arith, below i v 0 (omega (arith, inv.room.short)) inv.small (omega arith)) }
+    pub number_mul : i < size → Fits bits64 (v * 256)
+    number_mul h = record { fits = omega (arith, below i v 0 (omega (arith, inv.room.short)) inv.small (omega arith)) }
 
-    pub number-add : {x b : ℕ} → i < size → Widened b x → Fits bits64 (v * 256 + x)
-    number-add {x} h w = record { fits = omega (arith, below i v x (omega (arith, inv.room.short)) inv.small w.byte) }
+    pub number_add : {x b : ℕ} → i < size → Widened b x → Fits bits64 (v * 256 + x)
+    number_add {x} h w = record { fits = omega (arith, below i v x (omega (arith, inv.room.short)) inv.small w.byte) }
 
     pub number_step : {x : ℕ} → i < size → Widened (get_or s (from + i) 0) x → Reading s from size (i + 1) (v * 256 + x)
     unfolding value_from
@@ -268,7 +268,7 @@ pub argument-some : {x : ℕ} (size b : ℕ) (bs : List ℕ) → (size ≡ 0 →
 unfolding argument_by
 argument-some size b bs n e = e ∙ sym (simp (argument_by, ne_eqb size 0 n))
 
-pub ruleset argument-ways = (argument-none, argument-some)
+pub ruleset argument_ways = (argument-none, argument-some)
 
 -- HEADS, READ
 
@@ -418,9 +418,9 @@ module _ (s : List ℕ) (at : ℕ) (h : at < length s) where
         let a : get_or s at 0 / 32 ≡ major_number m = sym (ap major_number em ∙ facts.number) in
         cc (ap (head_from (length s)) (next ∙ e))
 
-    pub head-open : {t : HeadTold} → f ≡ 31 → t ≡ told_head (get_or s at 0 / 32) (get_or s at 0 % 32) 0 (at + 1) → t ≡ head_at s at
+    pub head_open : {t : HeadTold} → f ≡ 31 → t ≡ told_head (get_or s at 0 / 32) (get_or s at 0 % 32) 0 (at + 1) → t ≡ head_at s at
     unfolding form_of here head_here head_by size_information info_by
-    head-open {t} e q = go (form_view (major_at s at) (says_at s at))
+    head_open {t} e q = go (form_view (major_at s at) (says_at s at))
       where
         go : Form (major_at s at) (says_at s at) (form_by (major_at s at) (says_at s at)) → t ≡ head_at s at
         go (is_argument w x y z) = absurd (omega (arith, k.is))
@@ -432,9 +432,9 @@ module _ (s : List ℕ) (at : ℕ) (h : at < length s) where
             q ∙ telling (major_at s at) indefinite 0 (drop (at + 1) s) r refl i (at + 1) p
         go (is_refused c y z l' u' o) = absurd (omega (arith, k.is))
 
-    open-low : f ≡ 31 → low_at s at ≡ 31
+    open_low : f ≡ 31 → low_at s at ≡ 31
     unfolding form_of info_by
-    open-low e = go (form_view (major_at s at) (says_at s at))
+    open_low e = go (form_view (major_at s at) (says_at s at))
       where
         go : Form (major_at s at) (says_at s at) (form_by (major_at s at) (says_at s at)) → low_at s at ≡ 31
         go (is_argument w x y z) = absurd (omega (arith, k.is))
@@ -475,9 +475,9 @@ module _ (s : List ℕ) (at : ℕ) (h : at < length s) where
           q ∙ refusal ends_inside (g.reads ∙ short (major_at s at) g.width (low_at s at) (length s - at) (drop (at + 1) s) g.exact b)
 
       module _ (l : size < length s - at) {n : ℕ} (en : n ≡ argument_by size (get_or s at 0 % 32) (take size (drop (at + 1) s))) where
-        pub head-little : {t : HeadTold} {x : ℕ} → x ≡ least_argument (get_or s at 0) → n < x → t ≡ head_refused (kind_number NotWellFormed) at → t ≡ head_at s at
+        pub head_little : {t : HeadTold} {x : ℕ} → x ≡ least_argument (get_or s at 0) → n < x → t ≡ head_refused (kind_number NotWellFormed) at → t ≡ head_at s at
         unfolding kind_number head_here
-        head-little ex lt q =
+        head_little ex lt q =
             let g = given in
             let b : argument_bytes g.width ≤ length (drop (at + 1) s) = rw (length-drop (at + 1) s) (omega (arith, g.sized)) in
             let e : n ≡ argument_by (argument_bytes g.width) (low_at s at) (take (argument_bytes g.width) (drop (at + 1) s)) = rw g.sized at en in
@@ -496,7 +496,7 @@ module _ (s : List ℕ) (at : ℕ) (h : at < length s) where
             let p : at + 1 + size ≡ length s - length (drop (argument_bytes g.width) (drop (at + 1) s)) = simp length-drop (omega (arith, g.sized)) in
             q ∙ telling (major_at s at) (definite g.width) n (drop (argument_bytes g.width) (drop (at + 1) s)) (g.reads ∙ w) refl i (at + 1 + size) p
 
-pub ruleset head-ways = (head-end, head-float, head-bad, head-open, head-short, head-little, head-found)
+pub ruleset head_ways = (head-end, head-float, head-bad, head_open, head-short, head_little, head-found)
 
 -- the bytes of the argument stand there
 pub argument-room : {s : List ℕ} {at : ℕ} (size i : ℕ) → at < length s → size ≡ argument_size i → size < length s - at → Inside s (at + 1) size
@@ -504,17 +504,17 @@ argument-room size i h e l = record { inside = omega arith; short = omega (arith
 
 -- `head_end` and `head_argument`: the same ways
 module _ {s : List ℕ} {from b size : ℕ} where
-  pub little-no : (b ≡ 0xf8 → ⊥) → Little s from b size false
-  little-no h = record { is = sym (le-ltb (argument_by size (b % 32) (take size (drop from s))) (least_argument b) (omega (arith, least-none b h))) }
+  pub little_no : (b ≡ 0xf8 → ⊥) → Little s from b size false
+  little_no h = record { is = sym (le-ltb (argument_by size (b % 32) (take size (drop from s))) (least_argument b) (omega (arith, least-none b h))) }
 
-  pub little-some : {x : ℕ} → b ≡ 0xf8 → x ≡ argument_by size (b % 32) (take size (drop from s)) → Little s from b size (ltb x 32)
-  little-some e h = record { is = λ j. ltb (h j) (least-some b e j) }
+  pub little_some : {x : ℕ} → b ≡ 0xf8 → x ≡ argument_by size (b % 32) (take size (drop from s)) → Little s from b size (ltb x 32)
+  little_some e h = record { is = λ j. ltb (h j) (least-some b e j) }
 
-pub ruleset little-ways = (little-no, little-some)
+pub ruleset little_ways = (little_no, little_some)
 
-pub argument-open : (s : List ℕ) (at : ℕ) {f : ℕ} → Formed (get_or s at 0) f → f ≡ 31 → 0 ≡ argument_at s at
+pub argument_open : (s : List ℕ) (at : ℕ) {f : ℕ} → Formed (get_or s at 0) f → f ≡ 31 → 0 ≡ argument_at s at
 unfolding argument_at
-argument-open s at k e = sym (rw (eq-eqb (form_of (get_or s at 0)) 31 (sym k.is ∙ e), argument_at))
+argument_open s at k e = sym (rw (eq-eqb (form_of (get_or s at 0)) 31 (sym k.is ∙ e), argument_at))
 
 pub argument-wide : (s : List ℕ) (at : ℕ) {f size n : ℕ} → Formed (get_or s at 0) f → (f ≡ 31 → ⊥) → size ≡ argument_size (get_or s at 0 % 32) → n ≡ argument_by size (get_or s at 0 % 32) (take size (drop (at + 1) s))
     → n ≡ argument_at s at
@@ -525,14 +525,14 @@ argument-wide s at {f} {size} {n} k x e h =
 low-size : (i : ℕ) → i < 24 → 0 ≡ argument_size i
 low-size i h = size_none i (omega arith) (omega arith) (omega arith) (omega arith)
 
-low-formed : (b : ℕ) {t : Bool} → Short b t → t ≡ true → Formed b 0
-low-formed b k e = form_small b (record { fits = k.byte }) (omega (arith, k.is e))
+low_formed : (b : ℕ) {t : Bool} → Short b t → t ≡ true → Formed b 0
+low_formed b k e = form_small b (record { fits = k.byte }) (omega (arith, k.is e))
 
 pub argument-low : (s : List ℕ) (at : ℕ) {t : Bool} {n : ℕ} → Short (get_or s at 0) t → t ≡ true → Widened (get_or s at 0 % 32) n → n ≡ argument_at s at
 argument-low s at k e w =
-    argument-wide s at (low-formed (get_or s at 0) k e) (omega arith) (low-size (get_or s at 0 % 32) (k.is e)) (argument-none 0 (take 0 (drop (at + 1) s)) refl w)
+    argument-wide s at (low_formed (get_or s at 0) k e) (omega arith) (low-size (get_or s at 0 % 32) (k.is e)) (argument-none 0 (take 0 (drop (at + 1) s)) refl w)
 
-pub ruleset argued-ways = (argument-low, argument-open, argument-wide)
+pub ruleset argued_ways = (argument-low, argument_open, argument-wide)
 
 pub argued-room : (s : List ℕ) (at : ℕ) {size : ℕ} → HeadRoom s at → size ≡ argument_size (get_or s at 0 % 32) → Inside s (at + 1) size
 argued-room s at h e = record { inside = omega (arith, h.inside); short = omega (arith, size-most (get_or s at 0 % 32)) }
@@ -562,7 +562,7 @@ module _ {s : List ℕ} {at : ℕ} where
       let p : at + 1 + 0 ≡ at + 1 = omega arith in
       let z = low-size (get_or s at 0 % 32) l in
       ends_at (omega arith) (record { inside = omega arith })
-      (head-found s at h 0 (low-formed (get_or s at 0) k e) (omega arith) (omega arith) (omega arith) z (omega arith) n (least-none (get_or s at 0) x) (omega arith)
+      (head-found s at h 0 (low_formed (get_or s at 0) k e) (omega arith) (omega arith) (omega arith) z (omega arith) n (least-none (get_or s at 0) x) (omega arith)
       (ap (told_head (get_or s at 0 / 32) (get_or s at 0 % 32) (argument_at s at)) (sym p)))
 
   module _ (h : at < length s) {f : ℕ} (k : Formed (get_or s at 0) f) where
@@ -575,17 +575,17 @@ module _ {s : List ℕ} {at : ℕ} where
     pub ends_open : f ≡ 31 → HeadEnd s at (at + 1)
     unfolding argument_size
     ends_open e =
-        let z : 0 ≡ argument_size (get_or s at 0 % 32) = rw (open-low s at h f k e) in
+        let z : 0 ≡ argument_size (get_or s at 0 % 32) = rw (open_low s at h f k e) in
         ends_at (omega arith) (record { inside = omega arith })
-        (head-open s at h f k e (ap (λ (n : ℕ). told_head (get_or s at 0 / 32) (get_or s at 0 % 32) n (at + 1)) (sym (argument-open s at k e))))
+        (head_open s at h f k e (ap (λ (n : ℕ). told_head (get_or s at 0 / 32) (get_or s at 0 % 32) n (at + 1)) (sym (argument_open s at k e))))
 
     module _ (n₁ : f ≡ 6 → ⊥) (n₂ : f ≡ 16 → ⊥) (n₃ : f ≡ 31 → ⊥) {size : ℕ} (es : size ≡ argument_size (get_or s at 0 % 32)) where
       pub ends-cut : length s - at ≤ size → HeadEnd s at 0
       ends-cut l = ends-lost _ _ (head-short s at h f k n₁ n₂ n₃ es l refl)
 
       module _ (l : size < length s - at) {t : Bool} (lt : Little s (at + 1) (get_or s at 0) size t) where
-        pub ends-little : t ≡ true → HeadEnd s at 0
-        ends-little y = ends-lost _ _ (head-little s at h f k n₁ n₂ n₃ es l refl refl (ltb-true _ _ (sym lt.is ∙ y)) refl)
+        pub ends_little : t ≡ true → HeadEnd s at 0
+        ends_little y = ends-lost _ _ (head_little s at h f k n₁ n₂ n₃ es l refl refl (ltb-true _ _ (sym lt.is ∙ y)) refl)
 
         pub ends_found : t ≡ false → HeadEnd s at (at + 1 + size)
         ends_found y =
@@ -594,14 +594,14 @@ module _ {s : List ℕ} {at : ℕ} where
             ends_at (omega arith) (record { inside = omega arith }) (head-found s at h f k n₁ n₂ n₃ es l (sym n) refl (omega (arith, n)) refl)
 
 -- a head of a number or of a short argument, whose bytes are there
-pub ends-plain : {s : List ℕ} {at : ℕ} → get_or s at 0 < 256 → get_or s at 0 % 32 < 28 → (get_or s at 0 / 32 ≡ 7 → get_or s at 0 % 32 < 24) → at + argument_size (get_or s at 0 % 32) < length s
+pub ends_plain : {s : List ℕ} {at : ℕ} → get_or s at 0 < 256 → get_or s at 0 % 32 < 28 → (get_or s at 0 / 32 ≡ 7 → get_or s at 0 % 32 < 24) → at + argument_size (get_or s at 0 % 32) < length s
     → HeadEnd s at (at + 1 + argument_size (get_or s at 0 % 32))
-ends-plain {s} {at} u l z h =
+ends_plain {s} {at} u l z h =
     let x : get_or s at 0 ≡ 0xf8 → ⊥ = λ e.
     let m : get_or s at 0 / 32 ≡ 7 = ap (λ (b : ℕ). b / 32) e in
     let i : get_or s at 0 % 32 ≡ 24 = ap (λ (b : ℕ). b % 32) e in
     omega (arith, z m) in
-    ends_found (omega arith) (by (leb (get_or s at 0 % 32) 24) refl) (omega arith) (omega arith) (omega arith) refl (omega arith) (little-no x) refl
+    ends_found (omega arith) (by (leb (get_or s at 0 % 32) 24) refl) (omega arith) (omega arith) (omega arith) refl (omega arith) (little_no x) refl
   where
     by : (t : Bool) → leb (get_or s at 0 % 32) 24 ≡ t → Formed (get_or s at 0) 0
     by true e = form_small (get_or s at 0) (record { fits = u }) (leb-true (get_or s at 0 % 32) 24 e)
@@ -609,9 +609,9 @@ ends-plain {s} {at} u l z h =
         let a = leb-false (get_or s at 0 % 32) 24 e in
         form-wide (get_or s at 0) (record { fits = u }) a (omega arith) (λ m. omega (arith, z m))
 
-pub ruleset ends-ways = (ends-none, ends-short)
+pub ruleset ends_ways = (ends-none, ends-short)
 
-pub ruleset long-ways = (ends-float, ends-bad, ends_open, ends-cut, ends-little, ends_found)
+pub ruleset long_ways = (ends-float, ends-bad, ends_open, ends-cut, ends_little, ends_found)
 
 -- NUMBERS AND HEADS, WRITTEN
 
@@ -639,7 +639,7 @@ module _ {b : List ℕ} {from size n : ℕ} where
         room = omega arith;
         same = refl;
         sized = add-zero size;
-        is = sym (over-nil b (from + size));
+        is = sym (over_nil b (from + size));
         split = sym (append-nil (big_endian size n));
       }
 
@@ -667,36 +667,36 @@ module _ {b : List ℕ} {from size n : ℕ} where
       let f : from + length inv.done ≤ length b = omega (arith, inv.room, inv.sized) in
       inv.is ∙ ap (λ (x : ℕ). over b x inv.done) p ∙ sym (written-fits b from inv.done f) ∙ ap (over_if_fits b from) (sym q)
 
-pub fill-long : (b : List ℕ) (from size n : ℕ) → length b < size → b ≡ over_if_fits b from (big_endian size n)
-fill-long b from size n h = sym (written-not b from (big_endian size n) (rw (length-big size n) (omega arith)))
+pub fill_long : (b : List ℕ) (from size n : ℕ) → length b < size → b ≡ over_if_fits b from (big_endian size n)
+fill_long b from size n h = sym (written_not b from (big_endian size n) (rw (length_big size n) (omega arith)))
 
-pub fill-late : (b : List ℕ) (from size n : ℕ) → size ≤ length b → length b - size < from → b ≡ over_if_fits b from (big_endian size n)
-fill-late b from size n h g = sym (written-not b from (big_endian size n) (rw (length-big size n) (omega arith)))
+pub fill_late : (b : List ℕ) (from size n : ℕ) → size ≤ length b → length b - size < from → b ≡ over_if_fits b from (big_endian size n)
+fill_late b from size n h g = sym (written_not b from (big_endian size n) (rw (length_big size n) (omega arith)))
 
-pub ruleset fill-ways = (fill-long, fill-late, fill_end)
+pub ruleset fill_ways = (fill_long, fill_late, fill_end)
 
 pub length-head_bytes : (i n : ℕ) → length (head_bytes i n) ≡ suc (argument_size (i % 32))
 unfolding head_bytes
-length-head_bytes i n = ap suc (length-big (argument_size (i % 32)) n)
+length-head_bytes i n = ap suc (length_big (argument_size (i % 32)) n)
 
 module _ (b : List ℕ) (at i n : ℕ) where
-  pub write-past : length b ≤ at → b ≡ over_if_fits b at (head_bytes i n)
-  write-past h = sym (written-not b at (head_bytes i n) (omega (arith, length-head_bytes i n)))
+  pub write_past : length b ≤ at → b ≡ over_if_fits b at (head_bytes i n)
+  write_past h = sym (written_not b at (head_bytes i n) (omega (arith, length-head_bytes i n)))
 
   module _ {size : ℕ} (e : size ≡ argument_size (i % 32)) (h : at < length b) where
-    pub write-late : length b - at ≤ size → b ≡ over_if_fits b at (head_bytes i n)
-    write-late g = sym (written-not b at (head_bytes i n) (omega (arith, length-head_bytes i n)))
+    pub write_late : length b - at ≤ size → b ≡ over_if_fits b at (head_bytes i n)
+    write_late g = sym (written_not b at (head_bytes i n) (omega (arith, length-head_bytes i n)))
 
     pub write_done : {l : List ℕ} → size < length b - at → l ≡ over_if_fits (set b at i) (at + 1) (big_endian size n) → l ≡ over_if_fits b at (head_bytes i n)
     unfolding head_bytes
     write_done g q =
-        let f : at + suc (length (big_endian size n)) ≤ length b = rw (length-big size n) (omega arith) in
+        let f : at + suc (length (big_endian size n)) ≤ length b = rw (length_big size n) (omega arith) in
         q ∙ written_behind b at i (big_endian size n) f ∙ ap (λ (k : ℕ). over_if_fits b at (i ∷ big_endian k n)) e
 
 pub write_same : {l : List ℕ} (b ws : List ℕ) (at v p : ℕ) → l ≡ over_if_fits (set b at v) p ws → length l ≡ length b
 write_same b ws at v p e = ap length e ∙ length-written (set b at v) p ws ∙ length-set b at v
 
-pub ruleset write-ways = (write-past, write-late, write_done)
+pub ruleset write_ways = (write_past, write_late, write_done)
 
 -- THE HEAD OF A DEFINITION, BY ITS INITIAL BYTE
 

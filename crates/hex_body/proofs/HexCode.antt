@@ -21,18 +21,18 @@ use Rattle.hex_body.specs.HexAnswers.{ByteRead}
 use Rattle.hex_weight.specs.Weights.{pair_weight, PairThere}
 use Rattle.hex_pairs.specs.PairAnswers.{HexDigits, PairsPut}
 use Rattle.hex_body.specs.declared.HexByte.{HexByte}
-use Rattle.literal_body.proofs.LiteralCode.{put-none, true-false, digit-yes, digit-no, digit-number}
-use Rattle.literal_body.proofs.ReadingCode.{span-step, span-over, yields_none, progress_start, progress-more, progress-append, decodes-good, decodes-bad}
+use Rattle.literal_body.proofs.LiteralCode.{put-none, true_false, digit-yes, digit-no, digit-number}
+use Rattle.literal_body.proofs.ReadingCode.{span-step, span-over, yields_none, progress_start, progress_more, progress_append, decodes-good, decodes-bad}
 use Rattle.hex_pairs.proofs.DigitCode.{digit-front, two_digits, pair-yields}
 use Rattle.hex_pairs.proofs.PairsCode.{run-within}
-use Rattle.hex_weight.proofs.WeightCode.{weight-digit}
+use Rattle.hex_weight.proofs.WeightCode.{weight_digit}
 
 -- PAIRS
 
 word-yields : (s : List ℕ) (at stop w : ℕ) → at + 2 ≤ stop → stop ≤ length s → w ≡ pair_weight (get_or s at 0) * 16 + pair_weight (get_or s (at + 1) 0) → w < 256 → Yields hex_content s stop at (at + 2) (w ∷ [])
 word-yields s at stop w h l e g =
-    let a = weight-digit (get_or s at 0) (omega arith) in
-    let b = weight-digit (get_or s (at + 1) 0) (omega arith) in
+    let a = weight_digit (get_or s at 0) (omega arith) in
+    let b = weight_digit (get_or s (at + 1) 0) (omega arith) in
     let f : w ≡ digit_value (get_or s at 0) * 16 + digit_value (get_or s (at + 1) 0) = e ∙ (λ i. a.1 i * 16 + b.1 i) in
     rw f (pair-yields s at stop h l a.0 b.0)
 
@@ -44,17 +44,17 @@ yields-blank {ws = ws} x y =
 
 -- the loop over pairs
 module _ {s : List ℕ} {stop from : ℕ} {b b₁ : List ℕ} {pos at p size : ℕ} (i : Within s from stop) (inv : Progressed hex_content s stop from b b₁ pos (record { next = at; pos = p; size = size })) where
-  pub close-on : {b₂ : List ℕ} {w p' r : ℕ} → 2 ≤ stop - at → PairThere s at w → w < 256 → Put b₁ b₂ p p' (w ∷ []) → Blank s stop (at + 2) r
+  pub close_on : {b₂ : List ℕ} {w p' r : ℕ} → 2 ≤ stop - at → PairThere s at w → w < 256 → Put b₁ b₂ p p' (w ∷ []) → Blank s stop (at + 2) r
       → Progressed hex_content s stop from b b₂ pos (record { next = r; pos = p'; size = size + 1 })
-  close-on {b₂} {w} {p'} {r} h e g x y = progress-more inv (yields-blank (word-yields s at stop w (omega arith) i.inside (e.is g) g) y) x refl
+  close_on {b₂} {w} {p'} {r} h e g x y = progress_more inv (yields-blank (word-yields s at stop w (omega arith) i.inside (e.is g) g) y) x refl
 
 -- a blank or a comment between them
 module _ {s : List ℕ} {stop from : ℕ} {b b₁ : List ℕ} {pos at p size r : ℕ} (y : Gap s stop at r) where
-  pub close-gap : Progressed hex_content s stop from b b₁ pos (record { next = at; pos = p; size = size }) → Progressed hex_content s stop from b b₁ pos (record { next = r; pos = p; size = size })
-  close-gap inv = let k : size + 0 ≡ size = omega arith in rw k at (progress-more {n = 0} inv (yields-blank yields_none y.blank) (put-none b₁ p) refl)
+  pub close_gap : Progressed hex_content s stop from b b₁ pos (record { next = at; pos = p; size = size }) → Progressed hex_content s stop from b b₁ pos (record { next = r; pos = p; size = size })
+  close_gap inv = let k : size + 0 ≡ size = omega arith in rw k at (progress_more {n = 0} inv (yields-blank yields_none y.blank) (put-none b₁ p) refl)
 
-pub close-less : {s : List ℕ} {stop at r : ℕ} → Gap s stop at r → 2 ≤ stop - at → (r ≡ at → ⊥) → stop - r < stop - at
-close-less y l n = omega (arith, y.blank.ahead)
+pub close_less : {s : List ℕ} {stop at r : ℕ} → Gap s stop at r → 2 ≤ stop - at → (r ≡ at → ⊥) → stop - r < stop - at
+close_less y l n = omega (arith, y.blank.ahead)
 
 -- A BYTE
 
@@ -72,7 +72,7 @@ module _ {s : List ℕ} {stop from i : ℕ} (l : stop ≤ length s) (w : from �
       let f : hex_content (span from stop s) ≡ bad = x.blank.is no_half ∙ e in
       rw p
       (record {
-        some = λ z. absurd (true-false z);
+        some = λ z. absurd (true_false z);
         whole = λ z g. absurd (omega arith);
         wrong = λ z g. f;
         ahead = x.blank.ahead;
@@ -85,7 +85,7 @@ module _ {s : List ℕ} {stop from i : ℕ} (l : stop ≤ length s) (w : from �
       let f : hex_content (span from stop s) ≡ stands_for [] = x.blank.is no_half ∙ nothing_left s stop i h in
       rw p
       (record {
-        some = λ z. absurd (true-false z);
+        some = λ z. absurd (true_false z);
         whole = λ z g. f;
         wrong = λ z g. absurd (omega arith);
         ahead = x.blank.ahead;
@@ -107,13 +107,13 @@ module _ {s : List ℕ} {stop from i : ℕ} (l : stop ≤ length s) (w : from �
       unfolding hex_content hex_digit
       after-high = ap hex_content (span-step s i stop h l) ∙ digit-front (get_or s i 0) no_half (span (i + 1) stop s) is_it ∙ y.blank.is (high (digit_value (get_or s i 0)))
 
-      pub byte-half : {r : HexByte} → stop ≤ j → r ≡ record { missing = true; byte = 0; next = i } → ByteRead s stop from r
+      pub byte_half : {r : HexByte} → stop ≤ j → r ≡ record { missing = true; byte = 0; next = i } → ByteRead s stop from r
       unfolding hex_from half_end
-      byte-half k p = wrong-by (after-high ∙ ap (hex_from no_comment (high (digit_value (get_or s i 0)))) (span-over s j stop k)) h p
+      byte_half k p = wrong-by (after-high ∙ ap (hex_from no_comment (high (digit_value (get_or s i 0)))) (span-over s j stop k)) h p
 
       module _ (k : j < stop) {u : ℕ} (f : u ≡ digit_number (get_or s j 0)) where
-        pub byte-odd : {r : HexByte} → 16 ≤ u → r ≡ record { missing = true; byte = 0; next = i } → ByteRead s stop from r
-        byte-odd m p =
+        pub byte_odd : {r : HexByte} → 16 ≤ u → r ≡ record { missing = true; byte = 0; next = i } → ByteRead s stop from r
+        byte_odd m p =
             let d : is_digit 16 (get_or s j 0) ≡ false = digit-no 16 (get_or s j 0) (omega arith) in
             wrong-by (after-high ∙ y.none k d (high (digit_value (get_or s i 0)))) h p
 
@@ -131,13 +131,13 @@ module _ {s : List ℕ} {stop from i : ℕ} (l : stop ≤ length s) (w : from �
             let o' = y.blank.ahead in
             record {
               some = λ z. record { is = x.blank.is no_half ∙ c; ahead = omega arith; inside = omega arith; short = omega arith };
-              whole = λ z. absurd (true-false (sym z));
-              wrong = λ z. absurd (true-false (sym z));
+              whole = λ z. absurd (true_false (sym z));
+              wrong = λ z. absurd (true_false (sym z));
               ahead = omega arith;
               inside = omega arith;
             }
 
-pub ruleset byte-ways = (byte-none, byte-wrong, byte-half, byte-odd, byte-whole)
+pub ruleset byte_ways = (byte-none, byte-wrong, byte_half, byte_odd, byte-whole)
 
 -- THE FRONT
 
@@ -153,19 +153,19 @@ module _ {s : List ℕ} {stop at e r : ℕ} (i : Before s at stop) (x : HexDigit
       let h = i.before in
       let l = i.inside in
       let k : 0 + n ≡ n = omega arith in
-      rw k at (progress-more {n = n} progress_start (yields-blank (y.yields stop (omega arith) l) z) y.put (sym y.count))
+      rw k at (progress_more {n = n} progress_start (yields-blank (y.yields stop (omega arith) l) z) y.put (sym y.count))
 
 module _ {s : List ℕ} {stop at : ℕ} {b b₁ b₂ : List ℕ} {pos : ℕ} {f g : Progress} (x : Progressed hex_content s stop at b b₁ pos f) (y : Progressed hex_content s stop f.next b₁ b₂ f.pos g) where
-  pub stretch-size : Before s at stop → Fits bits64 stop → Fits bits64 (f.size + g.size)
-  stretch-size i k =
+  pub stretch_size : Before s at stop → Fits bits64 stop → Fits bits64 (f.size + g.size)
+  stretch_size i k =
       let h = k.fits in
       let l = i.before in
       let m : f.next ≤ stop = omega (arith, x.inside) in
       let n : g.next ≤ stop = omega (arith, y.inside) in
       record { fits = omega (arith, x.short, x.ahead, y.short, y.ahead) }
 
-  pub stretch-on : Progressed hex_content s stop at b b₂ pos (record { next = g.next; pos = g.pos; size = f.size + g.size })
-  stretch-on = progress-append x y
+  pub stretch_on : Progressed hex_content s stop at b b₂ pos (record { next = g.next; pos = g.pos; size = f.size + g.size })
+  stretch_on = progress_append x y
 
 -- THE LOOP
 
@@ -190,12 +190,12 @@ module _ {s : List ℕ} {at stop : ℕ} {b b₀ : List ℕ} {pos i p size : ℕ}
       read_out {end} e h = go (leb stop m.next) refl
         where
           go : (t : Bool) → leb stop m.next ≡ t → DecodesInto b b₁ pos (record { good = t; next = end; size = size + f.size }) (hex_content (take (end - at) (drop at s)))
-          go true q = decodes-good e (progress-append inv x) (z.whole h (leb-true stop m.next q))
-          go false q = decodes-bad e (progress-append inv x) (z.wrong h (leb-false stop m.next q))
+          go true q = decodes-good e (progress_append inv x) (z.whole h (leb-true stop m.next q))
+          go false q = decodes-bad e (progress_append inv x) (z.wrong h (leb-false stop m.next q))
 
       module _ {t : ℕ} (h : m.missing ≡ false) (w : Blank s stop m.next t) where
-        pub read-less : i < stop → stop - t < stop - i
-        read-less l = omega (arith, x.ahead, (z.some h).short, w.ahead)
+        pub read_less : i < stop → stop - t < stop - i
+        read_less l = omega (arith, x.ahead, (z.some h).short, w.ahead)
 
         pub read-on : {b₂ : List ℕ} {p' : ℕ} → Put b₁ b₂ f.pos p' (m.byte ∷ []) → Progressed hex_content s stop at b b₂ pos (record { next = t; pos = p'; size = size + f.size + 1 })
-        read-on k = progress-more (progress-append inv x) (yields-blank (z.some h) w) k refl
+        read-on k = progress_more (progress_append inv x) (yields-blank (z.some h) w) k refl

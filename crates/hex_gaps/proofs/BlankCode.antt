@@ -18,16 +18,16 @@ use Rattle.literal_body.proofs.ReadingCode.{span-step, span-over}
 
 -- COMMENTS
 
-pub closing-slash : Closing 0x2f
-closing-slash = record { is = λ n. absurd (n refl) }
+pub closing_slash : Closing 0x2f
+closing_slash = record { is = λ n. absurd (n refl) }
 
-pub closing-line : Closing 0x0a
-closing-line = record { is = λ n. refl }
+pub closing_line : Closing 0x0a
+closing_line = record { is = λ n. refl }
 
-comment-step : {last : ℕ} → Closing last → (b : ℕ) → b < 256 → (h : Half) (t : List ℕ)
+comment_step : {last : ℕ} → Closing last → (b : ℕ) → b < 256 → (h : Half) (t : List ℕ)
     → hex_from (comment_by last) h (b ∷ t) ≡ elim (eqb b last) [ true ↦ hex_from no_comment h t | false ↦ hex_from (comment_by last) h t ]
 unfolding comment_by hex_from
-comment-step {last} x b u h t = go (eqb last 0x2f) refl
+comment_step {last} x b u h t = go (eqb last 0x2f) refl
   where
     by : Content → Bool → Content
     by c v = elim v [ true ↦ hex_from no_comment h t | false ↦ c ]
@@ -43,16 +43,16 @@ pub record InComment (s : List ℕ) (stop at last i : ℕ) : Type 0 where
   pub ahead : at < i
   pub inside : i ≤ stop
 
-pub comment-start : {s : List ℕ} {stop at last : ℕ} → Before s at stop → InComment s stop at last (at + 1)
-comment-start x = record { is = λ h. refl; ahead = omega arith; inside = omega (arith, x.before) }
+pub comment_start : {s : List ℕ} {stop at last : ℕ} → Before s at stop → InComment s stop at last (at + 1)
+comment_start x = record { is = λ h. refl; ahead = omega arith; inside = omega (arith, x.before) }
 
 module _ {s : List ℕ} {stop at last i : ℕ} (inv : InComment s stop at last i) (p : Before s at stop) where
   module _ (x : Closing last) (u : get_or s i 0 < 256) (l : i < stop) where
     here : (h : Half) → hex_from (comment_by last) h (span (at + 1) stop s) ≡ elim (eqb (get_or s i 0) last) [ true ↦ hex_from no_comment h (span (i + 1) stop s) | false ↦ hex_from (comment_by last) h (span (i + 1) stop s) ]
-    here h = inv.is h ∙ ap (hex_from (comment_by last) h) (span-step s i stop l p.inside) ∙ comment-step x (get_or s i 0) u h (span (i + 1) stop s)
+    here h = inv.is h ∙ ap (hex_from (comment_by last) h) (span-step s i stop l p.inside) ∙ comment_step x (get_or s i 0) u h (span (i + 1) stop s)
 
-    pub comment-ends : get_or s i 0 ≡ last → Commented s stop at last (i + 1)
-    comment-ends e =
+    pub comment_ends : get_or s i 0 ≡ last → Commented s stop at last (i + 1)
+    comment_ends e =
         record {
           ended = λ g h. rw (eq-eqb (get_or s i 0) last e) at (here h);
           unended = λ z. absurd (omega (arith, inv.ahead));
@@ -60,12 +60,12 @@ module _ {s : List ℕ} {stop at last i : ℕ} (inv : InComment s stop at last i
           inside = omega arith;
         }
 
-    pub comment-goes : (get_or s i 0 ≡ last → ⊥) → InComment s stop at last (i + 1)
-    comment-goes n = record { is = λ h. rw (ne_eqb (get_or s i 0) last n) at (here h); ahead = omega (arith, inv.ahead); inside = omega arith }
+    pub comment_goes : (get_or s i 0 ≡ last → ⊥) → InComment s stop at last (i + 1)
+    comment_goes n = record { is = λ h. rw (ne_eqb (get_or s i 0) last n) at (here h); ahead = omega (arith, inv.ahead); inside = omega arith }
 
-  pub comment-none : stop ≤ i → Commented s stop at last at
+  pub comment_none : stop ≤ i → Commented s stop at last at
   unfolding comment_by hex_from
-  comment-none l =
+  comment_none l =
       record {
         ended = λ g. absurd (omega arith);
         unended = λ z h. inv.is h ∙ ap (hex_from (comment_by last) h) (span-over s i stop l) ∙ go (eqb last 0x2f) h;
@@ -93,8 +93,8 @@ module _ {s : List ℕ} {stop at : ℕ} (p : Before s at stop) {t : Bool} (x : t
   unfolding hex_from
   blank-one e = record { is = λ h. front h ∙ rw (sym x ∙ e, hex_from); ahead = omega arith; inside = omega (arith, p.before) }
 
-  pub gap-blank : t ≡ true → Gap s stop at (at + 1)
-  gap-blank e = record { blank = blank-one e; none = λ z. absurd (omega arith) }
+  pub gap_blank : t ≡ true → Gap s stop at (at + 1)
+  gap_blank e = record { blank = blank-one e; none = λ z. absurd (omega arith) }
 
   module _ (q : t ≡ false) (u : get_or s at 0 < 256) where
     opens : (h : Half) → get_or s at 0 ≡ 0x2f → hex_from no_comment h (span at stop s) ≡ hex_from in_slash h (span (at + 1) stop s)
@@ -105,9 +105,9 @@ module _ {s : List ℕ} {stop at : ℕ} (p : Before s at stop) {t : Bool} (x : t
     unfolding hex_from
     opens' h n e = front h ∙ rw (sym x ∙ q, slash-is (get_or s at 0) u ∙ ne_eqb (get_or s at 0) 0x2f n, hash-is (get_or s at 0) u ∙ eq-eqb (get_or s at 0) 0x23 e, hex_from)
 
-    pub gap-none : (get_or s at 0 ≡ 0x2f → ⊥) → (get_or s at 0 ≡ 0x23 → ⊥) → Gap s stop at at
+    pub gap_none : (get_or s at 0 ≡ 0x2f → ⊥) → (get_or s at 0 ≡ 0x23 → ⊥) → Gap s stop at at
     unfolding hex_from
-    gap-none n n' =
+    gap_none n n' =
         record {
           blank = blank_none;
           none = λ z d h. front h ∙ rw (sym x ∙ q, slash-is (get_or s at 0) u ∙ ne_eqb (get_or s at 0) 0x2f n, hash-is (get_or s at 0) u ∙ ne_eqb (get_or s at 0) 0x23 n', d, hex_from);
@@ -129,30 +129,30 @@ gap_by {s} {stop} {at} {last} {r} f y =
         go false e = let n = eqb-false r at e in f h ∙ y.ended (omega (arith, y.ahead)) h
 
 module _ {s : List ℕ} {stop at : ℕ} (p : Before s at stop) {t : Bool} (x : t ≡ is blank (get_or s at 0)) (q : t ≡ false) (u : get_or s at 0 < 256) where
-  pub gap-slash : {r : ℕ} → get_or s at 0 ≡ 0x2f → Commented s stop at 0x2f r → Gap s stop at r
+  pub gap_slash : {r : ℕ} → get_or s at 0 ≡ 0x2f → Commented s stop at 0x2f r → Gap s stop at r
   unfolding comment_by
-  gap-slash e y = gap_by (λ h. opens p x q u h e) y
+  gap_slash e y = gap_by (λ h. opens p x q u h e) y
 
-  pub gap-hash : {r : ℕ} → (get_or s at 0 ≡ 0x2f → ⊥) → get_or s at 0 ≡ 0x23 → Commented s stop at 0x0a r → Gap s stop at r
+  pub gap_hash : {r : ℕ} → (get_or s at 0 ≡ 0x2f → ⊥) → get_or s at 0 ≡ 0x23 → Commented s stop at 0x0a r → Gap s stop at r
   unfolding comment_by
-  gap-hash n e y = gap_by (λ h. opens' p x q u h n e) y
+  gap_hash n e y = gap_by (λ h. opens' p x q u h n e) y
 
-pub ruleset gap-ways = (gap-blank, gap-slash, gap-hash, gap-none)
+pub ruleset gap_ways = (gap_blank, gap_slash, gap_hash, gap_none)
 
 -- ALL OF THEM
 
-pub gaps-start : {s : List ℕ} {stop from : ℕ} → Blank s stop from from
-gaps-start = blank_none
+pub gaps_start : {s : List ℕ} {stop from : ℕ} → Blank s stop from from
+gaps_start = blank_none
 
 module _ {s : List ℕ} {stop from at : ℕ} (x : Blank s stop from at) where
-  pub gaps-on : {r : ℕ} → Gap s stop at r → Blank s stop from r
-  gaps-on y = blank-more x y.blank
+  pub gaps_on : {r : ℕ} → Gap s stop at r → Blank s stop from r
+  gaps_on y = blank-more x y.blank
 
-  pub gaps-stop : {r : ℕ} → Gap s stop at r → r ≡ at → Gaps s stop from at
-  gaps-stop y e = record { blank = x; none = λ l d h. y.none e d h }
+  pub gaps_stop : {r : ℕ} → Gap s stop at r → r ≡ at → Gaps s stop from at
+  gaps_stop y e = record { blank = x; none = λ l d h. y.none e d h }
 
-  pub gaps-end : stop ≤ at → Gaps s stop from at
-  gaps-end l = record { blank = x; none = λ k. absurd (omega arith) }
+  pub gaps_end : stop ≤ at → Gaps s stop from at
+  gaps_end l = record { blank = x; none = λ k. absurd (omega arith) }
 
 -- ONE BLANK
 
@@ -162,4 +162,4 @@ after_none = blank_none
 pub after_one : {s : List ℕ} {stop at : ℕ} {t : Bool} → stop ≤ length s → at < stop → t ≡ is blank (get_or s at 0) → t ≡ true → Blank s stop at (at + 1)
 after_one l h x e = blank-one (record { before = h; inside = l }) x e
 
-pub ruleset after-ways = (after_one, after_none)
+pub ruleset after_ways = (after_one, after_none)

@@ -13,23 +13,23 @@ use borrow.Author.Tests.{lt-ltb, le-ltb}
 use Rattle.notation.specs.Printing.{hex_digit_of, hex_byte_of, hex_of}
 use Rattle.text_output.specs.PrintParts.{Prints, content_of}
 use Rattle.hex_output.specs.HexLetters.{letters_at}
-use Rattle.text_output.proofs.PrintLeaves.{prints-more, prints-as, prints-none, put_in, take_next, take_whole}
+use Rattle.text_output.proofs.PrintLeaves.{prints-more, prints_as, prints-none, put_in, take_next, take_whole}
 
 -- DIGITS
 
-pub letters-none : {v : ℕ} → v < 10 → 0 ≡ letters_at v
+pub letters_none : {v : ℕ} → v < 10 → 0 ≡ letters_at v
 unfolding letters_at
-letters-none {v} h = sym (rw (lt-ltb v 10 h, letters_at))
+letters_none {v} h = sym (rw (lt-ltb v 10 h, letters_at))
 
-pub letters-some : {v : ℕ} → 10 ≤ v → 39 ≡ letters_at v
+pub letters_some : {v : ℕ} → 10 ≤ v → 39 ≡ letters_at v
 unfolding letters_at
-letters-some {v} h = sym (rw (le-ltb v 10 h, letters_at))
+letters_some {v} h = sym (rw (le-ltb v 10 h, letters_at))
 
-pub ruleset letters-ways = (letters-none, letters-some)
+pub ruleset letters_ways = (letters_none, letters_some)
 
-letters-few : (v : ℕ) → letters_at v ≤ 39
+letters_few : (v : ℕ) → letters_at v ≤ 39
 unfolding letters_at
-letters-few v = go (ltb v 10)
+letters_few v = go (ltb v 10)
   where
     go : (t : Bool) → elim t [ true ↦ 0 | false ↦ 39 ] ≤ 39
     go true = omega arith
@@ -37,7 +37,7 @@ letters-few v = go (ltb v 10)
 
 module _ (v : ℕ) {x : ℕ} (e : x ≡ letters_at v) where
   pub hex-fits : v < 16 → Fits bits8 (0x30 + v + x)
-  hex-fits h = record { fits = omega (arith, letters-few v) }
+  hex-fits h = record { fits = omega (arith, letters_few v) }
 
   pub hex-is : 0x30 + v + x ≡ hex_digit_of v
   unfolding hex_digit_of letters_at
@@ -48,9 +48,9 @@ module _ (v : ℕ) {x : ℕ} (e : x ≡ letters_at v) where
       go false f = omega arith
 
 module _ {b b₁ b₂ : List ℕ} {pos p q : ℕ} where
-  pub hex-two : (c : ℕ) {v w : ℕ} → v ≡ hex_digit_of (c / 16) → w ≡ hex_digit_of (c % 16) → Prints b b₁ pos (v ∷ []) p → Prints b₁ b₂ p (w ∷ []) q → Prints b b₂ pos (hex_byte_of c) q
+  pub hex_two : (c : ℕ) {v w : ℕ} → v ≡ hex_digit_of (c / 16) → w ≡ hex_digit_of (c % 16) → Prints b b₁ pos (v ∷ []) p → Prints b₁ b₂ p (w ∷ []) q → Prints b b₂ pos (hex_byte_of c) q
   unfolding hex_byte_of
-  hex-two c e h f g = prints-as (λ j. e j ∷ h j ∷ []) (prints-more f g)
+  hex_two c e h f g = prints_as (λ j. e j ∷ h j ∷ []) (prints-more f g)
 
 pub hex-append : (x y : List ℕ) → hex_of (x ++ y) ≡ hex_of x ++ hex_of y
 unfolding hex_of
@@ -91,9 +91,9 @@ module _ {s b : List ℕ} {pos : ℕ} where
         let z : pos + 2 * i + 1 + 1 ≡ pos + 2 * (i + 1) = omega arith in
         let q = length-set b' (pos + 2 * i) v in
         let two : Prints b' (set (set b' (pos + 2 * i) v) (pos + 2 * i + 1) w) (pos + 2 * i) (hex_byte_of (get_or s i 0)) (pos + 2 * i + 1 + 1)
-        = prints-as (λ j. ev j ∷ ew j ∷ []) (prints-more (put_in (omega arith) (omega arith)) (put_in (omega arith) (omega arith))) in
-        record { done = rw z at (prints-as (sym (hex-next s i k)) (prints-more inv.done two)) }
+        = prints_as (λ j. ev j ∷ ew j ∷ []) (prints-more (put_in (omega arith) (omega arith)) (put_in (omega arith) (omega arith))) in
+        record { done = rw z at (prints_as (sym (hex-next s i k)) (prints-more inv.done two)) }
 
     pub pairs_end : length s ≤ i → Prints b b' pos (content_of false s) (pos + 2 * i)
     unfolding content_of
-    pairs_end h = prints-as (ap hex_of (take_whole s i h)) inv.done
+    pairs_end h = prints_as (ap hex_of (take_whole s i h)) inv.done

@@ -15,8 +15,8 @@ use Rattle.notation.specs.Numbers.{Digit, worth, no_digit, digit_at, is_digit, d
 use Rattle.notation.specs.Literals.{Content, after, bad, no_comment, in_slash, in_hash, Half, no_half, high, hex_digit, hex_from, hex_content}
 use Rattle.scanning.specs.Stands.{span}
 use Rattle.literal_body.specs.LiteralReading.{Yields}
-use Rattle.literal_body.proofs.LiteralCode.{true-false}
-use Rattle.literal_body.proofs.MatchCode.{range-above}
+use Rattle.literal_body.proofs.LiteralCode.{true_false}
+use Rattle.literal_body.proofs.MatchCode.{range_above}
 use Rattle.literal_body.proofs.ReadingCode.{span-step}
 
 not_none : (t : Bool) → T (elim t [ true ↦ false | false ↦ true ]) → t ≡ false
@@ -30,14 +30,14 @@ module _ (b : ℕ) where
     where
       go : (d : Digit) → ◌≡◌ {A = Bool} (elim d [ worth v ↦ ltb v 16 | no_digit ↦ false ]) true → elim d [ worth v ↦ v | no_digit ↦ 0 ] < 16
       go (worth v) e = ltb-true v 16 e
-      go no_digit e = absurd (true-false (sym e))
+      go no_digit e = absurd (true_false (sym e))
 
   digit-above : 0x66 < b → is_digit 16 b ≡ false
   unfolding is_digit
   digit-above h =
-      let e₁ = range-above 0x30 0x39 b (omega arith) in
-      let e₂ = range-above 0x61 0x66 b h in
-      let e₃ = range-above 0x41 0x46 b (omega arith) in
+      let e₁ = range_above 0x30 0x39 b (omega arith) in
+      let e₂ = range_above 0x61 0x66 b h in
+      let e₃ = range_above 0x41 0x46 b (omega arith) in
       λ j. by (e₁ j) (e₂ j) (e₃ j)
     where
       by : Bool → Bool → Bool → Bool
@@ -50,7 +50,7 @@ module _ (b : ℕ) where
     where
       go : (t : Bool) → leb b 0x66 ≡ t → b < 256
       go true q = let l = leb-true b 0x66 q in omega arith
-      go false q = absurd (true-false (sym e ∙ digit-above (leb-false b 0x66 q)))
+      go false q = absurd (true_false (sym e ∙ digit-above (leb-false b 0x66 q)))
 
   -- a test that passes at each digit
   at-digit : (f : ℕ → Bool) → T (every (λ k x. elim (is_digit 16 k) [ true ↦ f k | false ↦ true ]) 0 (replicate 256 0)) → is_digit 16 b ≡ true → T (f b)
@@ -75,11 +75,11 @@ module _ (b : ℕ) where
             | false ↦ elim u [ true ↦ hex_from in_slash h s | false ↦ elim v [ true ↦ hex_from in_hash h s | false ↦ elim w [ true ↦ hex_digit h (digit_value b) (λ h'. hex_from no_comment h' s) | false ↦ bad ] ] ]
           ])
           (hex_digit h (digit_value b) (λ h'. hex_from no_comment h' s))
-      go true u v w e₁ e₂ = absurd (true-false e₁)
-      go false true v w e₁ e₂ = absurd (true-false e₁)
-      go false false true w e₁ e₂ = absurd (true-false e₁)
+      go true u v w e₁ e₂ = absurd (true_false e₁)
+      go false true v w e₁ e₂ = absurd (true_false e₁)
+      go false false true w e₁ e₂ = absurd (true_false e₁)
       go false false false true e₁ e₂ = refl
-      go false false false false e₁ e₂ = absurd (true-false (sym e₂))
+      go false false false false e₁ e₂ = absurd (true_false (sym e₂))
 
 -- a digit, then perhaps blanks, then another
 pub two_digits : (a b : ℕ) (s t : List ℕ) → is_digit 16 a ≡ true → is_digit 16 b ≡ true → ((h : Half) → hex_from no_comment h s ≡ hex_from no_comment h (b ∷ t))

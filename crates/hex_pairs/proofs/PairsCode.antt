@@ -14,53 +14,53 @@ use mir.Val.{Fits}
 use borrow.Author.Count.{below_more}
 use borrow.Author.Tests.{le-leb, lt-leb, ltb-true, ltb-false}
 use Rattle.cbor.specs.Utf8.{◌to◌, is_in}
-use Rattle.cbor.proofs.Utf8Laws.{is-in}
+use Rattle.cbor.proofs.Utf8Laws.{is_in_lem}
 use Rattle.notation.specs.Numbers.{is_digit, digit_value}
 use Rattle.notation.specs.Literals.{stands_for, after, hex_content, hex_from, half_end}
 use Rattle.scanning.specs.Stands.{span}
 use Rattle.literal_body.specs.LiteralAnswers.{digit_number, Put}
 use Rattle.literal_body.specs.LiteralReading.{Yields}
 use Rattle.hex_pairs.specs.PairAnswers.{DigitStop, DigitBlock, HexDigits, BlockValues, pair_bytes, PairsPut}
-use Rattle.literal_body.proofs.LiteralCode.{digit-decimal, digit-upper, digit-lower, digit-yes, put-none, put_one, put-more}
+use Rattle.literal_body.proofs.LiteralCode.{digit-decimal, digit_upper, digit_lower, digit-yes, put-none, put_one, put-more}
 use Rattle.literal_body.proofs.ReadingCode.{span-over, yields_none, yields_more}
 use Rattle.hex_pairs.proofs.DigitCode.{digit-small, pair-yields}
 
 -- A BYTE
 
 module _ (low high b : ℕ) where
-  pub range-below : b < low → false ≡ is_in (low to high) b
+  pub range_below : b < low → false ≡ is_in (low to high) b
   unfolding is_in
-  range-below h = sym (rw (lt-leb low b h))
+  range_below h = sym (rw (lt-leb low b h))
 
-  pub range-from : low ≤ b → leb b high ≡ is_in (low to high) b
+  pub range_from : low ≤ b → leb b high ≡ is_in (low to high) b
   unfolding is_in
-  range-from h = sym (rw (le-leb low b h))
+  range_from h = sym (rw (le-leb low b h))
 
-pub ruleset range-ways = (range-below, range-from)
+pub ruleset range_ways = (range_below, range_from)
 
-pub stop-here : {b i : ℕ} → DigitStop b i i
-stop-here = record { is = λ h. absurd (omega arith) }
+pub stop_here : {b i : ℕ} → DigitStop b i i
+stop_here = record { is = λ h. absurd (omega arith) }
 
 module _ {b i : ℕ} {t : Bool} (q : t ≡ true) where
-  pub stop-decimal : t ≡ is_in (0x30 to 0x39) b → DigitStop b i 32
-  stop-decimal e =
-      let l = is-in (0x30 to 0x39) b (sym e ∙ q) in
+  pub stop_decimal : t ≡ is_in (0x30 to 0x39) b → DigitStop b i 32
+  stop_decimal e =
+      let l = is_in_lem (0x30 to 0x39) b (sym e ∙ q) in
       let n = digit-decimal {b = b} l.0 (omega (arith, l.1)) in
       record { is = λ h. digit-yes 16 b (omega (arith, l.1)) (omega arith) }
 
-  pub stop-upper : t ≡ is_in (0x41 to 0x46) b → DigitStop b i 32
-  stop-upper e =
-      let l = is-in (0x41 to 0x46) b (sym e ∙ q) in
-      let n = digit-upper {b = b} l.0 (omega (arith, l.1)) in
+  pub stop_upper : t ≡ is_in (0x41 to 0x46) b → DigitStop b i 32
+  stop_upper e =
+      let l = is_in_lem (0x41 to 0x46) b (sym e ∙ q) in
+      let n = digit_upper {b = b} l.0 (omega (arith, l.1)) in
       record { is = λ h. digit-yes 16 b (omega (arith, l.1)) (omega arith) }
 
-  pub stop-lower : t ≡ is_in (0x61 to 0x66) b → DigitStop b i 32
-  stop-lower e =
-      let l = is-in (0x61 to 0x66) b (sym e ∙ q) in
-      let n = digit-lower {b = b} l.0 (omega (arith, l.1)) in
+  pub stop_lower : t ≡ is_in (0x61 to 0x66) b → DigitStop b i 32
+  stop_lower e =
+      let l = is_in_lem (0x61 to 0x66) b (sym e ∙ q) in
+      let n = digit_lower {b = b} l.0 (omega (arith, l.1)) in
       record { is = λ h. digit-yes 16 b (omega (arith, l.1)) (omega arith) }
 
-pub ruleset stop-ways = (stop-decimal, stop-upper, stop-lower, stop-here)
+pub ruleset stop_ways = (stop_decimal, stop_upper, stop_lower, stop_here)
 
 -- A BLOCK: of the first i bytes, those before f are digits
 
@@ -68,19 +68,19 @@ pub record Firsts (s : List ℕ) (at i f : ℕ) : Type 0 where
   pub is : (j : ℕ) → j < i → j < f → is_digit 16 (get_or s (at + j) 0) ≡ true
   pub most : f ≤ 32
 
-pub firsts-start : {s : List ℕ} {at : ℕ} → Firsts s at 0 32
-firsts-start = record { is = λ j h g. absurd (omega arith); most = omega arith }
+pub firsts_start : {s : List ℕ} {at : ℕ} → Firsts s at 0 32
+firsts_start = record { is = λ j h g. absurd (omega arith); most = omega arith }
 
 module _ {s : List ℕ} {at i f : ℕ} (inv : Firsts s at i f) where
-  pub firsts-on : {r n : ℕ} → DigitStop (get_or s (at + i) 0) i r → n ≡ min f r → Firsts s at (i + 1) n
-  firsts-on {r} {n} x e =
+  pub firsts_on : {r n : ℕ} → DigitStop (get_or s (at + i) 0) i r → n ≡ min f r → Firsts s at (i + 1) n
+  firsts_on {r} {n} x e =
       record {
         is = below_more (λ j. j < n → is_digit 16 (get_or s (at + j) 0) ≡ true) i (λ j h g. inv.is j h (omega arith)) (λ g. x.is (omega arith));
         most = omega (arith, inv.most);
       }
 
-  pub firsts-end : 32 ≤ i → DigitBlock s at f
-  firsts-end l = record { is = λ j h. inv.is j (omega (arith, inv.most)) h; most = inv.most }
+  pub firsts_end : 32 ≤ i → DigitBlock s at f
+  firsts_end l = record { is = λ j h. inv.is j (omega (arith, inv.most)) h; most = inv.most }
 
 -- A RUN
 
@@ -155,9 +155,9 @@ module _ {s : List ℕ} {from i : ℕ} {t : List ℕ} (inv : Values s from i t) 
 abbrev pair_at : List ℕ → ℕ → ℕ
 pair_at s i = digit_value (get_or s i 0) * 16 + digit_value (get_or s (i + 1) 0)
 
-pairs-snoc : (s : List ℕ) (from n : ℕ) → pair_bytes s from (n + 1) ≡ pair_bytes s from n ++ (pair_at s (from + 2 * n) ∷ [])
+pairs_snoc : (s : List ℕ) (from n : ℕ) → pair_bytes s from (n + 1) ≡ pair_bytes s from n ++ (pair_at s (from + 2 * n) ∷ [])
 unfolding pair_bytes
-pairs-snoc s from n = rw (add-one n)
+pairs_snoc s from n = rw (add-one n)
 
 pub length_pairs : (s : List ℕ) (from n : ℕ) → length (pair_bytes s from n) ≡ n
 unfolding pair_bytes
@@ -225,7 +225,7 @@ module _ {s : List ℕ} {from : ℕ} {t : List ℕ} (x : BlockValues s from t) {
       let l : p + j < length b' = omega (arith, y.fits, y.same) in
       let w : Put b' (set b' (p + j) v) (p + j) (p + (j + 1)) (v ∷ []) = rw z at (put_one b' (p + j) v l) in
       let u : v ≡ pair_at s (from + 2 * j) = λ i. e i * 16 + f i in
-      let k : Put b (set b' (p + j) v) p (p + (j + 1)) (pair_bytes s from (j + 1)) = rw (pairs-snoc s from j, ← u) (put-more y.put w) in
+      let k : Put b (set b' (p + j) v) p (p + (j + 1)) (pair_bytes s from (j + 1)) = rw (pairs_snoc s from j, ← u) (put-more y.put w) in
       record { put = k; most = omega arith; fits = y.fits; same = k.same }
 
 module _ (s : List ℕ) (from : ℕ) {b : List ℕ} {p : ℕ} where
@@ -238,7 +238,7 @@ module _ (s : List ℕ) (from : ℕ) {b : List ℕ} {p : ℕ} where
 pub block-end : {s : List ℕ} {from : ℕ} {b b' : List ℕ} {p j : ℕ} → BlockPut s from b p j b' → 16 ≤ j → Put b b' p (p + 16) (pair_bytes s from 16)
 block-end {j = j} y l = let e : j ≡ 16 = omega (arith, y.most) in rw e at y.put
 
-pub ruleset block-ways = (block-past, block-short, block-end)
+pub ruleset block_ways = (block-past, block-short, block-end)
 
 -- ALL OF THEM: i eights, or i pairs, are written
 
@@ -249,9 +249,9 @@ pub blocks_start : (s : List ℕ) (from : ℕ) (b : List ℕ) (p : ℕ) → Put 
 unfolding pair_bytes
 blocks_start s from b p = put-none b p
 
-pub blocks-on : (s : List ℕ) (from i : ℕ) {b b₁ b₂ : List ℕ} {p q r : ℕ} → Put b b₁ p q (pair_bytes s from (16 * i)) → Put b₁ b₂ q r (pair_bytes s (from + 32 * i) 16)
+pub blocks_on : (s : List ℕ) (from i : ℕ) {b b₁ b₂ : List ℕ} {p q r : ℕ} → Put b b₁ p q (pair_bytes s from (16 * i)) → Put b₁ b₂ q r (pair_bytes s (from + 32 * i) 16)
     → Put b b₂ p r (pair_bytes s from (16 * (i + 1)))
-blocks-on s from i x y =
+blocks_on s from i x y =
     let z : 16 * (i + 1) ≡ 16 * i + 16 = omega arith in
     let w : from + 32 * i ≡ from + 2 * (16 * i) = omega arith in
     rw (z, pairs-append s from (16 * i) 16, ← w) (put-more x y)
@@ -267,8 +267,8 @@ module _ {s : List ℕ} {from : ℕ} where
   pub pair-digits : {n i : ℕ} → HexDigits s from (from + 2 * n) → i < n → HexDigits s (from + 2 * i) (from + 2 * i + 2)
   pair-digits {n} {i} x h = run-within (from + 2 * i) (from + 2 * i + 2) x (omega arith) (omega arith) (omega arith)
 
-  pub blocks-digits : (n : ℕ) → HexDigits s from (from + 2 * n) → HexDigits s from (from + 32 * (n / 16))
-  blocks-digits n x = run-within from (from + 32 * (n / 16)) x (omega arith) (omega arith) (omega arith)
+  pub blocks_digits : (n : ℕ) → HexDigits s from (from + 2 * n) → HexDigits s from (from + 32 * (n / 16))
+  blocks_digits n x = run-within from (from + 32 * (n / 16)) x (omega arith) (omega arith) (omega arith)
 
 -- what they stand for
 pairs-yields : (s : List ℕ) (from n stop : ℕ) → HexDigits s from (from + 2 * n) → from + 2 * n ≤ stop → stop ≤ length s → Yields hex_content s stop from (from + 2 * n) (pair_bytes s from n)
@@ -281,12 +281,12 @@ pairs-yields s from (suc n) stop x h l =
     let b = x.is (from + 2 * n + 1) (omega arith) (omega arith) in
     yields_more y (rw z at (pair-yields s (from + 2 * n) stop (omega arith) l a b))
 
-pub singly-start : (s : List ℕ) (from : ℕ) (b : List ℕ) (p : ℕ) → Put b b p p (pair_bytes s from 0)
+pub singly_start : (s : List ℕ) (from : ℕ) (b : List ℕ) (p : ℕ) → Put b b p p (pair_bytes s from 0)
 unfolding pair_bytes
-singly-start s from b p = put-none b p
+singly_start s from b p = put-none b p
 
-pub singly-end : (s : List ℕ) (from : ℕ) {i n : ℕ} {b b' : List ℕ} {p q : ℕ} → i ≤ n → n ≤ i → Put b b' p q (pair_bytes s from i) → Put b b' p q (pair_bytes s from n)
-singly-end s from {i} {n} h g x = let e : i ≡ n = omega arith in rw e at x
+pub singly_end : (s : List ℕ) (from : ℕ) {i n : ℕ} {b b' : List ℕ} {p q : ℕ} → i ≤ n → n ≤ i → Put b b' p q (pair_bytes s from i) → Put b b' p q (pair_bytes s from n)
+singly_end s from {i} {n} h g x = let e : i ≡ n = omega arith in rw e at x
 
 pub rest-digits : {s : List ℕ} {from : ℕ} (n : ℕ) → HexDigits s from (from + 2 * n) → HexDigits s (from + 32 * (n / 16)) (from + 32 * (n / 16) + 2 * (n % 16))
 rest-digits {s} {from} n x = run-within (from + 32 * (n / 16)) (from + 32 * (n / 16) + 2 * (n % 16)) x (omega arith) (omega arith) (omega arith)

@@ -17,21 +17,21 @@ use Rattle.literal_body.proofs.MatchCode.{arm}
 unfoldable pub weighs : ℕ → ℕ → Bool
 weighs k x = eqb x (pair_weight k)
 
-pub weight-key : {b r k : ℕ} → b ≡ k → T (weighs k r) → T (leb r 15) → Weighs b r
+pub weight_key : {b r k : ℕ} → b ≡ k → T (weighs k r) → T (leb r 15) → Weighs b r
 unfolding weighs
-weight-key {r = r} e t l = let m = leb→le r 15 l in record { is = λ h. arm pair_weight e t; most = omega arith }
+weight_key {r = r} e t l = let m = leb→le r 15 l in record { is = λ h. arm pair_weight e t; most = omega arith }
 
-pub weight-none : {b : ℕ} → Weighs b 512
-weight-none = record { is = λ h. absurd (omega arith); most = omega arith }
+pub weight_none : {b : ℕ} → Weighs b 512
+weight_none = record { is = λ h. absurd (omega arith); most = omega arith }
 
-pub weight-rest : {b : ℕ} → Weighs b 256
-weight-rest = record { is = λ h. absurd (omega arith); most = omega arith }
+pub weight_rest : {b : ℕ} → Weighs b 256
+weight_rest = record { is = λ h. absurd (omega arith); most = omega arith }
 
-pub ruleset weight-ways = (weight-key, weight-none, weight-rest)
+pub ruleset weight_ways = (weight_key, weight_none, weight_rest)
 
-pub weight-digit : (b : ℕ) → pair_weight b < 256 → (is_digit 16 b ≡ true) × (pair_weight b ≡ digit_value b)
+pub weight_digit : (b : ℕ) → pair_weight b < 256 → (is_digit 16 b ≡ true) × (pair_weight b ≡ digit_value b)
 unfolding pair_weight
-weight-digit b = go (is_digit 16 b) refl
+weight_digit b = go (is_digit 16 b) refl
   where
     go : (t : Bool) → is_digit 16 b ≡ t → elim t [ true ↦ digit_value b | false ↦ 256 ] < 256 → (is_digit 16 b ≡ true) × (◌≡◌ {A = ℕ} (elim t [ true ↦ digit_value b | false ↦ 256 ]) (digit_value b))
     go true e h = (e, refl)
@@ -46,35 +46,35 @@ pub record Weighed (s : List ℕ) (at k w : ℕ) : Type 0 where
   pub most : k ≤ 2
   pub small : k < 2 → w ≤ 512 * k
 
-pub weighed-start : (s : List ℕ) (at : ℕ) → Weighed s at 0 0
+pub weighed_start : (s : List ℕ) (at : ℕ) → Weighed s at 0 0
 unfolding weighed
-weighed-start s at = record { is = λ h. refl; most = omega arith; small = λ h. omega arith }
+weighed_start s at = record { is = λ h. refl; most = omega arith; small = λ h. omega arith }
 
 module _ {s : List ℕ} {at k w : ℕ} (inv : Weighed s at k w) where
   module _ (h : k < 2) where
-    weighed-most : w ≤ 512
-    weighed-most = omega (arith, inv.small h)
+    weighed_most : w ≤ 512
+    weighed_most = omega (arith, inv.small h)
 
-    pub weighed-high : Fits bits32 (w * 16)
-    weighed-high = record { fits = omega (arith, weighed-most) }
+    pub weighed_high : Fits bits32 (w * 16)
+    weighed_high = record { fits = omega (arith, weighed_most) }
 
     module _ {v : ℕ} (x : Weighs (get_or s (at + k) 0) v) where
-      pub weighed-sum : Fits bits32 (w * 16 + v)
-      weighed-sum = record { fits = omega (arith, weighed-most, x.most) }
+      pub weighed_sum : Fits bits32 (w * 16 + v)
+      weighed_sum = record { fits = omega (arith, weighed_most, x.most) }
 
       next_is : w * 16 + v < 256 → w * 16 + v ≡ weighed s at (suc k)
       unfolding weighed
       next_is l = let a = inv.is (omega arith) in let b = x.is (omega arith) in λ i. a i * 16 + b i
 
-      pub weighed-on : Weighed s at (k + 1) (w * 16 + v)
-      weighed-on = record { is = rw (add-one k) next_is; most = omega arith; small = grows }
+      pub weighed_on : Weighed s at (k + 1) (w * 16 + v)
+      weighed_on = record { is = rw (add-one k) next_is; most = omega arith; small = grows }
         where
           grows : k + 1 < 2 → w * 16 + v ≤ 512 * (k + 1)
           grows l = omega (arith, inv.small h, x.most)
 
-  pub weighed-end : 2 ≤ k → PairThere s at w
+  pub weighed_end : 2 ≤ k → PairThere s at w
   unfolding weighed
-  weighed-end l =
+  weighed_end l =
       let e : k ≡ 2 = omega (arith, inv.most) in
       let z : at + 0 ≡ at = omega arith in
       let f : weighed s at k ≡ (0 * 16 + pair_weight (get_or s (at + 0) 0)) * 16 + pair_weight (get_or s (at + 1) 0) = ap (weighed s at) e in

@@ -17,17 +17,17 @@ use Rattle.leaf_answer.specs.declared.LeafRead.{LeafRead as LeafS}
 use Rattle.leaf_answer.specs.declared.Found.{Found}
 use Rattle.leaf_answer.specs.declared.Found.TheVariants.{Leaf, Tag, Odd, Nothing}
 
-never-leaf : {A : Type 0} (f : Found) → f ≡ Nothing → f ≡ Leaf → A
-never-leaf f e g = let z : ◌≡◌ {A = ℕ} 0 1 = cc in absurd (omega arith)
+never_leaf : {A : Type 0} (f : Found) → f ≡ Nothing → f ≡ Leaf → A
+never_leaf f e g = let z : ◌≡◌ {A = ℕ} 0 1 = cc in absurd (omega arith)
 
-odd-leaf : {A : Type 0} (f : Found) → f ≡ Odd → f ≡ Leaf → A
-odd-leaf f e g = let z : ◌≡◌ {A = ℕ} 0 1 = cc in absurd (omega arith)
+odd_leaf : {A : Type 0} (f : Found) → f ≡ Odd → f ≡ Leaf → A
+odd_leaf f e g = let z : ◌≡◌ {A = ℕ} 0 1 = cc in absurd (omega arith)
 
-odd-tag : {A : Type 0} (f : Found) → f ≡ Odd → f ≡ Tag → A
-odd-tag f e g = let z : ◌≡◌ {A = ℕ} 0 1 = cc in absurd (omega arith)
+odd_tag : {A : Type 0} (f : Found) → f ≡ Odd → f ≡ Tag → A
+odd_tag f e g = let z : ◌≡◌ {A = ℕ} 0 1 = cc in absurd (omega arith)
 
-never-tag : {A : Type 0} (f : Found) → f ≡ Nothing → f ≡ Tag → A
-never-tag f e g = let z : ◌≡◌ {A = ℕ} 0 1 = cc in absurd (omega arith)
+never_tag : {A : Type 0} (f : Found) → f ≡ Nothing → f ≡ Tag → A
+never_tag f e g = let z : ◌≡◌ {A = ℕ} 0 1 = cc in absurd (omega arith)
 
 no-leaf : {A : Type 0} → Tag ≡ Leaf → A
 no-leaf g = let z : ◌≡◌ {A = ℕ} 0 1 = cc in absurd (omega arith)
@@ -36,14 +36,14 @@ no-tag : {A : Type 0} → Leaf ≡ Tag → A
 no-tag g = let z : ◌≡◌ {A = ℕ} 0 1 = cc in absurd (omega arith)
 
 -- nothing was found, and what stands before pos is kept
-pub leaf-still : {s b b' : List ℕ} {at pos : ℕ} {q : LeafS} → length b' ≡ length b → take pos b' ≡ take pos b → q.found ≡ Nothing → LeafTold s b b' at pos q
-leaf-still {q = q} z k e = record { same = z; kept = k; leaf = λ f. never-leaf q.found e f; tag = λ f. never-tag q.found e f }
+pub leaf_still : {s b b' : List ℕ} {at pos : ℕ} {q : LeafS} → length b' ≡ length b → take pos b' ≡ take pos b → q.found ≡ Nothing → LeafTold s b b' at pos q
+leaf_still {q = q} z k e = record { same = z; kept = k; leaf = λ f. never_leaf q.found e f; tag = λ f. never_tag q.found e f }
 
 pub leaf-none : {s b : List ℕ} {at pos : ℕ} {q : LeafS} → q.found ≡ Nothing → LeafTold s b b at pos q
-leaf-none e = leaf-still refl refl e
+leaf-none e = leaf_still refl refl e
 
-pub leaf-odd : {s b : List ℕ} {at pos : ℕ} {q : LeafS} → q.found ≡ Odd → LeafTold s b b at pos q
-leaf-odd {q = q} e = record { same = refl; kept = refl; leaf = λ f. odd-leaf q.found e f; tag = λ f. odd-tag q.found e f }
+pub leaf_odd : {s b : List ℕ} {at pos : ℕ} {q : LeafS} → q.found ≡ Odd → LeafTold s b b at pos q
+leaf_odd {q = q} e = record { same = refl; kept = refl; leaf = λ f. odd_leaf q.found e f; tag = λ f. odd_tag q.found e f }
 
 pub leaf-made : {s b b' : List ℕ} {at pos next size length' : ℕ} {binary : Bool} {q : LeafS} → q ≡ record { found = Leaf; next = next; size = size; binary = binary; length = length'; number = 0 }
     → LeafMade s b b' at pos (record { found = Leaf; next = next; size = size; binary = binary; length = length'; number = 0 }) → take pos b' ≡ take pos b → LeafTold s b b' at pos q
@@ -53,8 +53,8 @@ pub tag-opened : {s b : List ℕ} {at pos next number : ℕ} {q : LeafS} → q �
     → CutAt s at next (begins (opens (tagging (shortest number) number))) → LeafTold s b b at pos q
 tag-opened {s} {b} {at} {pos} e m = subst⁻¹ (LeafTold s b b at pos) e (record { same = refl; kept = refl; leaf = λ f. no-leaf f; tag = λ f. m })
 
-pub leaf-again : {s b b' : List ℕ} {at pos : ℕ} {q r : LeafS} → q ≡ r → LeafTold s b b' at pos r → LeafTold s b b' at pos q
-leaf-again {s} {b} {b'} {at} {pos} e t = subst⁻¹ (LeafTold s b b' at pos) e t
+pub leaf_again : {s b b' : List ℕ} {at pos : ℕ} {q r : LeafS} → q ≡ r → LeafTold s b b' at pos r → LeafTold s b b' at pos q
+leaf_again {s} {b} {b'} {at} {pos} e t = subst⁻¹ (LeafTold s b b' at pos) e t
 
 -- a token that is a leaf is all of an item
 pub leaf-whole : {s : List ℕ} {at next : ℕ} {x : Item} → levels x ≡ 0 → CutAt s at next (begins (leaf x)) → Whole s at next x

@@ -20,14 +20,14 @@ use Rattle.memory.proofs.Buffer.{take-written}
 use Rattle.head.specs.HeadAnswers.{argument_size, head_bytes}
 use Rattle.head.proofs.HeadCode.{head_bytes_lem}
 use Rattle.encoding.specs.ReadAnswers.{HeadSize, Wrote}
-use Rattle.encoding.proofs.ReadSmall.{info-0, head-short, head-some}
+use Rattle.encoding.proofs.ReadSmall.{info_0, head-short, head-some}
 use Rattle.encoding.proofs.Wrote.{wrote-written, wrote-more}
-use Rattle.cbor.proofs.Arguments.{length-big}
+use Rattle.cbor.proofs.Arguments.{length_big}
 use Rattle.leaf_head.specs.HeadParts.{short_head, HeadMade, Above, steps, StepBytes, Fronted, Scales}
 
-info-small : (n : ℕ) → n ≤ 23 → information (shortest n) n ≡ n
+info_small : (n : ℕ) → n ≤ 23 → information (shortest n) n ≡ n
 unfolding shortest fits limit information
-info-small n h = rw (le-leb n 23 h, shortest)
+info_small n h = rw (le-leb n 23 h, shortest)
 
 -- a head of one byte
 small : (i n : ℕ) → i % 32 ≤ 23 → head_bytes i n ≡ i ∷ []
@@ -38,7 +38,7 @@ small i n h =
 
 pub single : (major n : ℕ) → n ≤ 23 → short_head major n ≡ (major * 32 + n) ∷ []
 unfolding short_head
-single major n h = ap (λ (x : ℕ). head_bytes (major * 32 + x) n) (info-small n h) ∙ small (major * 32 + n) n (omega arith)
+single major n h = ap (λ (x : ℕ). head_bytes (major * 32 + x) n) (info_small n h) ∙ small (major * 32 + n) n (omega arith)
 
 pub short-head : (major n : ℕ) → length (short_head major n) ≤ 9
 unfolding short_head
@@ -57,7 +57,7 @@ module _ {b b' : List ℕ} {pos major n : ℕ} where
       written major n (w ∙ ap (λ (x : ℕ). over_if_fits b pos (head_bytes (major * 32 + x) n)) e) (z.is n ∙ ap (λ (x : ℕ). length (head_bytes (major * 32 + x) n)) e) (omega arith)
 
 pub head_first : {major i : ℕ} (n : ℕ) → major ≤ 7 → i ≡ information (shortest n) n → Fits bits8 (major * 32 + i)
-head_first n h e = record { fits = omega (arith, (info-0 {k = 0} {n = n} refl e).most) }
+head_first n h e = record { fits = omega (arith, (info_0 {k = 0} {n = n} refl e).most) }
 
 -- the head of the definitions
 pub head-is : (m : Major) (n : ℕ) → n ≤ limit w8 → short_head (major_number m) n ≡ head m (shortest n) n
@@ -76,7 +76,7 @@ above-yes h = record { no = λ l. absurd (omega arith); yes = λ l. refl; small 
 pub above-no : {n most : ℕ} → n ≤ most → Above n most 0
 above-no h = record { no = λ l. refl; yes = λ l. absurd (omega arith); small = omega arith }
 
-pub ruleset above-ways = (above-yes, above-no)
+pub ruleset above_ways = (above-yes, above-no)
 
 pub step_is : (n : ℕ) {a b c d : ℕ} → Above n 23 a → Above n 0xff b → Above n 0xffff c → Above n 0xffff_ffff d → a + b + c + d ≡ steps (shortest n)
 unfolding steps shortest fits limit
@@ -107,17 +107,17 @@ by_step (suc (suc zero)) = w2
 by_step (suc (suc (suc zero))) = w4
 by_step (suc (suc (suc (suc s)))) = w8
 
-of-step : (P : Width → Type 0) (w : Width) → P (by_step (steps w)) → P w
+of_step : (P : Width → Type 0) (w : Width) → P (by_step (steps w)) → P w
 unfolding steps
-of-step P w0 p = p
-of-step P w1 p = p
-of-step P w2 p = p
-of-step P w4 p = p
-of-step P w8 p = p
+of_step P w0 p = p
+of_step P w1 p = p
+of_step P w2 p = p
+of_step P w4 p = p
+of_step P w8 p = p
 
 -- what is so of the width of a step
 at-step : {s : ℕ} (P : Width → Type 0) (k : ℕ) → s ≡ k → P (by_step k) → (w : Width) → s ≡ steps w → P w
-at-step P k e p w f = of-step P w (rw (sym f ∙ e) p)
+at-step P k e p w f = of_step P w (rw (sym f ∙ e) p)
 
 at_last : {s : ℕ} (P : Width → Type 0) → (s ≡ 0 → ⊥) → (s ≡ 1 → ⊥) → (s ≡ 2 → ⊥) → (s ≡ 3 → ⊥) → P w8 → (w : Width) → s ≡ steps w → P w
 at_last P n₀ n₁ n₂ n₃ p w f = at-step P 4 (omega (arith, step-most w)) p w f
@@ -125,16 +125,16 @@ at_last P n₀ n₁ n₂ n₃ p w f = at-step P 4 (omega (arith, step-most w)) p
 -- ADDITIONAL INFORMATION
 
 module _ {s : ℕ} (n : ℕ) (e : s ≡ steps (shortest n)) where
-  pub info-none : s ≡ 0 → n ≡ information (shortest n) n
+  pub info_none : s ≡ 0 → n ≡ information (shortest n) n
   unfolding information
-  info-none z = at-step (λ w. n ≡ information w n) 0 z refl (shortest n) e
+  info_none z = at-step (λ w. n ≡ information w n) 0 z refl (shortest n) e
 
-  pub info-cast : s ≡ 0 → Fits bits8 n
-  info-cast z = record { fits = omega (arith, (info-0 {k = 0} {n = n} refl (info-none z)).most) }
+  pub info_cast : s ≡ 0 → Fits bits8 n
+  info_cast z = record { fits = omega (arith, (info_0 {k = 0} {n = n} refl (info_none z)).most) }
 
-  pub info-some : (s ≡ 0 → ⊥) → 23 + s ≡ information (shortest n) n
+  pub info_some : (s ≡ 0 → ⊥) → 23 + s ≡ information (shortest n) n
   unfolding information
-  info-some z = go s refl
+  info_some z = go s refl
     where
       go : (k : ℕ) → s ≡ k → 23 + s ≡ information (shortest n) n
       go zero f = absurd (z f)
@@ -143,26 +143,26 @@ module _ {s : ℕ} (n : ℕ) (e : s ≡ steps (shortest n)) where
       go (suc (suc (suc zero))) f = at-step (λ w. 23 + s ≡ information w n) 3 f (omega arith) (shortest n) e
       go (suc (suc (suc (suc k)))) f = at-step (λ w. 23 + s ≡ information w n) 4 (omega (arith, step-most (shortest n))) (omega (arith, step-most (shortest n))) (shortest n) e
 
-  pub info-step : Fits bits8 s
-  info-step = record { fits = omega (arith, step-most (shortest n)) }
+  pub info_step : Fits bits8 s
+  info_step = record { fits = omega (arith, step-most (shortest n)) }
 
-  pub info-sum : Fits bits8 (23 + s)
-  info-sum = record { fits = omega (arith, step-most (shortest n)) }
+  pub info_sum : Fits bits8 (23 + s)
+  info_sum = record { fits = omega (arith, step-most (shortest n)) }
 
-pub ruleset info-ways = (info-none, info-some)
+pub ruleset info_ways = (info_none, info_some)
 
-pub ruleset info-fits = (info-cast, info-step, info-sum)
+pub ruleset info_fits = (info_cast, info_step, info_sum)
 
 -- BYTES AND THEIR SCALE
 
 module _ {s : ℕ} where
-  pub bytes-0 : s ≡ 0 → StepBytes s 0
+  pub bytes_0 : s ≡ 0 → StepBytes s 0
   unfolding argument_bytes
-  bytes-0 e = record { is = at-step (λ w. 0 ≡ argument_bytes w) 0 e refl; most = omega arith }
+  bytes_0 e = record { is = at-step (λ w. 0 ≡ argument_bytes w) 0 e refl; most = omega arith }
 
-  pub bytes-1 : s ≡ 1 → StepBytes s 1
+  pub bytes_1 : s ≡ 1 → StepBytes s 1
   unfolding argument_bytes
-  bytes-1 e = record { is = at-step (λ w. 1 ≡ argument_bytes w) 1 e refl; most = omega arith }
+  bytes_1 e = record { is = at-step (λ w. 1 ≡ argument_bytes w) 1 e refl; most = omega arith }
 
   pub bytes_2 : s ≡ 2 → StepBytes s 2
   unfolding argument_bytes
@@ -176,7 +176,7 @@ module _ {s : ℕ} where
   unfolding argument_bytes
   bytes_8 n₀ n₁ n₂ n₃ = record { is = at_last (λ w. 8 ≡ argument_bytes w) n₀ n₁ n₂ n₃ refl; most = omega arith }
 
-pub ruleset bytes-ways = (bytes-0, bytes-1, bytes_2, bytes_4, bytes_8)
+pub ruleset bytes_ways = (bytes_0, bytes_1, bytes_2, bytes_4, bytes_8)
 
 -- n with j bytes behind it
 last-zero : (m x y : ℕ) → y ≡ x * 256 → big_endian (suc m) y ≡ big_endian m x ++ (0 ∷ [])
@@ -205,38 +205,38 @@ fronts : (k j n : ℕ) → j + k ≡ 8 → Fronted k n (n * 256 ^ j)
 fronts k j n e = let i = fronted k j n in record { rest = i.rest; is = rw e at i.is }
 
 -- the additional information alone: all eight bytes are behind it
-scaled-0 : (n r : ℕ) → Fronted 0 n (n * r)
+scaled_0 : (n r : ℕ) → Fronted 0 n (n * r)
 unfolding big_endian
-scaled-0 n r = record { rest = big_endian 8 (n * r); is = refl }
+scaled_0 n r = record { rest = big_endian 8 (n * r); is = refl }
 
 module _ {s : ℕ} where
-  pub scale-0 : s ≡ 0 → Scales s 0x100_0000_0000_0000
+  pub scale_0 : s ≡ 0 → Scales s 0x100_0000_0000_0000
   unfolding limit argument_bytes
-  scale-0 e = record { fits = at-step (λ w. (n : ℕ) → n ≤ limit w → n * 0x100_0000_0000_0000 < 0x1_0000_0000_0000_0000) 0 e (λ n l. omega arith); fronts = at-step (λ w. (n : ℕ) → Fronted (argument_bytes w) n (n * 0x100_0000_0000_0000)) 0 e (λ n. scaled-0 n 0x100_0000_0000_0000) }
+  scale_0 e = record { fits = at-step (λ w. (n : ℕ) → n ≤ limit w → n * 0x100_0000_0000_0000 < 0x1_0000_0000_0000_0000) 0 e (λ n l. omega arith); fronts = at-step (λ w. (n : ℕ) → Fronted (argument_bytes w) n (n * 0x100_0000_0000_0000)) 0 e (λ n. scaled_0 n 0x100_0000_0000_0000) }
 
-  pub scale-1 : s ≡ 1 → Scales s 0x100_0000_0000_0000
+  pub scale_1 : s ≡ 1 → Scales s 0x100_0000_0000_0000
   unfolding limit argument_bytes
-  scale-1 e = record { fits = at-step (λ w. (n : ℕ) → n ≤ limit w → n * 0x100_0000_0000_0000 < 0x1_0000_0000_0000_0000) 1 e (λ n l. omega arith); fronts = at-step (λ w. (n : ℕ) → Fronted (argument_bytes w) n (n * 0x100_0000_0000_0000)) 1 e (λ n. fronts 1 7 n refl) }
+  scale_1 e = record { fits = at-step (λ w. (n : ℕ) → n ≤ limit w → n * 0x100_0000_0000_0000 < 0x1_0000_0000_0000_0000) 1 e (λ n l. omega arith); fronts = at-step (λ w. (n : ℕ) → Fronted (argument_bytes w) n (n * 0x100_0000_0000_0000)) 1 e (λ n. fronts 1 7 n refl) }
 
-  pub scale-2 : s ≡ 2 → Scales s 0x1_0000_0000_0000
+  pub scale_2 : s ≡ 2 → Scales s 0x1_0000_0000_0000
   unfolding limit argument_bytes
-  scale-2 e = record { fits = at-step (λ w. (n : ℕ) → n ≤ limit w → n * 0x1_0000_0000_0000 < 0x1_0000_0000_0000_0000) 2 e (λ n l. omega arith); fronts = at-step (λ w. (n : ℕ) → Fronted (argument_bytes w) n (n * 0x1_0000_0000_0000)) 2 e (λ n. fronts 2 6 n refl) }
+  scale_2 e = record { fits = at-step (λ w. (n : ℕ) → n ≤ limit w → n * 0x1_0000_0000_0000 < 0x1_0000_0000_0000_0000) 2 e (λ n l. omega arith); fronts = at-step (λ w. (n : ℕ) → Fronted (argument_bytes w) n (n * 0x1_0000_0000_0000)) 2 e (λ n. fronts 2 6 n refl) }
 
-  pub scale-4 : s ≡ 3 → Scales s 0x1_0000_0000
+  pub scale_4 : s ≡ 3 → Scales s 0x1_0000_0000
   unfolding limit argument_bytes
-  scale-4 e = record { fits = at-step (λ w. (n : ℕ) → n ≤ limit w → n * 0x1_0000_0000 < 0x1_0000_0000_0000_0000) 3 e (λ n l. omega arith); fronts = at-step (λ w. (n : ℕ) → Fronted (argument_bytes w) n (n * 0x1_0000_0000)) 3 e (λ n. fronts 4 4 n refl) }
+  scale_4 e = record { fits = at-step (λ w. (n : ℕ) → n ≤ limit w → n * 0x1_0000_0000 < 0x1_0000_0000_0000_0000) 3 e (λ n l. omega arith); fronts = at-step (λ w. (n : ℕ) → Fronted (argument_bytes w) n (n * 0x1_0000_0000)) 3 e (λ n. fronts 4 4 n refl) }
 
-  pub scale-8 : (s ≡ 0 → ⊥) → (s ≡ 1 → ⊥) → (s ≡ 2 → ⊥) → (s ≡ 3 → ⊥) → Scales s 1
+  pub scale_8 : (s ≡ 0 → ⊥) → (s ≡ 1 → ⊥) → (s ≡ 2 → ⊥) → (s ≡ 3 → ⊥) → Scales s 1
   unfolding limit argument_bytes
-  scale-8 n₀ n₁ n₂ n₃ = record { fits = at_last (λ w. (n : ℕ) → n ≤ limit w → n * 1 < 0x1_0000_0000_0000_0000) n₀ n₁ n₂ n₃ (λ n l. omega arith); fronts = at_last (λ w. (n : ℕ) → Fronted (argument_bytes w) n (n * 1)) n₀ n₁ n₂ n₃ (λ n. fronts 8 0 n refl) }
+  scale_8 n₀ n₁ n₂ n₃ = record { fits = at_last (λ w. (n : ℕ) → n ≤ limit w → n * 1 < 0x1_0000_0000_0000_0000) n₀ n₁ n₂ n₃ (λ n l. omega arith); fronts = at_last (λ w. (n : ℕ) → Fronted (argument_bytes w) n (n * 1)) n₀ n₁ n₂ n₃ (λ n. fronts 8 0 n refl) }
 
-pub ruleset scale-ways = (scale-0, scale-1, scale-2, scale-4, scale-8)
+pub ruleset scale_ways = (scale_0, scale_1, scale_2, scale_4, scale_8)
 
 -- THE HEAD, with more bytes behind it
 
 -- of what was written, the front alone
-pub wrote-front-of : {b b' : List ℕ} {p : ℕ} (ws vs : List ℕ) → Wrote b b' p (ws ++ vs) → p + length (ws ++ vs) ≤ length b → Wrote b b' p ws
-wrote-front-of {b} {b'} {p} ws vs h f = record { same = h.same; behind = vs ++ h.behind; is = λ g. h.is f ∙ ap (λ (l : List ℕ). take p b ++ l) (append_assoc ws vs h.behind) }
+pub wrote-front_of : {b b' : List ℕ} {p : ℕ} (ws vs : List ℕ) → Wrote b b' p (ws ++ vs) → p + length (ws ++ vs) ≤ length b → Wrote b b' p ws
+wrote-front_of {b} {b'} {p} ws vs h f = record { same = h.same; behind = vs ++ h.behind; is = λ g. h.is f ∙ ap (λ (l : List ℕ). take p b ++ l) (append_assoc ws vs h.behind) }
 
 size-by : (w : Width) (n : ℕ) → n ≤ limit w → argument_size (information w n) ≡ argument_bytes w
 unfolding argument_size information argument_bytes limit
@@ -252,8 +252,8 @@ module _ {n step : ℕ} (l : n < 0x1_0000_0000_0000_0000) (s : step ≡ steps (s
   unfolding choose limit
   fit = choose-fits absent n (omega arith)
 
-  pub head-scaled : {r : ℕ} → Scales step r → Fits bits64 (n * r)
-  head-scaled x = record { fits = x.fits (shortest n) s n fit }
+  pub head_scaled : {r : ℕ} → Scales step r → Fits bits64 (n * r)
+  head_scaled x = record { fits = x.fits (shortest n) s n fit }
 
   pub head-wide : {b b₁ b₂ : List ℕ} {pos major info k r : ℕ} → 9 ≤ length b → pos ≤ length b - 9 → info ≡ information (shortest n) n → b₁ ≡ over_if_fits b pos ((major * 32 + info) ∷ []) → Scales step r
       → b₂ ≡ over_if_fits b₁ (pos + 1) (big_endian 8 (n * r)) → StepBytes step k → HeadMade b b₂ pos major n (1 + k)
@@ -262,16 +262,16 @@ module _ {n step : ℕ} (l : n < 0x1_0000_0000_0000_0000) (s : step ≡ steps (s
       let w = shortest n in
       let v = major * 32 + info in
       let c = x.fronts w s n in
-      let m : info ≤ 31 = (info-0 {k = 0} {n = n} refl i).most in
+      let m : info ≤ 31 = (info_0 {k = 0} {n = n} refl i).most in
       let z : v % 32 ≡ info = omega arith in
       let t : short_head major n ≡ v ∷ big_endian (argument_bytes w) n = ap (λ (a : ℕ). head_bytes (major * 32 + a) n) (sym i) ∙ ap (λ (a : ℕ). v ∷ big_endian a n) (ap argument_size (z ∙ i) ∙ size-by w n fit) in
       let u : Wrote b b₂ pos (v ∷ big_endian 8 (n * r)) = wrote-more (wrote-written e) (wrote-written f) refl in
-      let g : length (v ∷ big_endian 8 (n * r)) ≡ 9 = ap suc (length-big 8 (n * r)) in
+      let g : length (v ∷ big_endian 8 (n * r)) ≡ 9 = ap suc (length_big 8 (n * r)) in
       let j : pos + length ((v ∷ big_endian (argument_bytes w) n) ++ c.rest) ≤ length b = rw (← c.is) (omega (arith, g)) in
       record {
-        wrote = rw t (wrote-front-of (v ∷ big_endian (argument_bytes w) n) c.rest (rw c.is at u) j);
-        sized = omega (arith, ap length t, length-big (argument_bytes w) n, y.is w s);
-        short = omega (arith, ap length t, length-big (argument_bytes w) n, y.is w s, short-head major n);
+        wrote = rw t (wrote-front_of (v ∷ big_endian (argument_bytes w) n) c.rest (rw c.is at u) j);
+        sized = omega (arith, ap length t, length_big (argument_bytes w) n, y.is w s);
+        short = omega (arith, ap length t, length_big (argument_bytes w) n, y.is w s, short-head major n);
         kept = ap (take pos) f ∙ (take-written b₁ (pos + 1) (big_endian 8 (n * r)) pos (omega arith) ∙ (ap (take pos) e ∙ take-written b pos (v ∷ []) pos (omega arith)));
         most = omega arith;
       }

@@ -53,33 +53,33 @@ front-more q = by (eqb q 0) refl
         front-none q z ∙ sym (front-none (q / 10) (omega arith)) ∙ sym (append-nil (front_of (q / 10))) ∙ ap (λ (x : List ℕ). front_of (q / 10) ++ x) (sym (digit-none q z))
     by false e = let z = eqb-false q 0 e in front-some q z ∙ decimal-front q ∙ ap (λ (x : List ℕ). front_of (q / 10) ++ x) (sym (digit-some q z))
 
-ten-more : (n k : ℕ) → k ≤ 8 → n / 10 ^ suc k / 10 ≡ n / 10 ^ suc (suc k)
-ten-more n zero h = omega arith
-ten-more n (suc zero) h = omega arith
-ten-more n (suc (suc zero)) h = omega arith
-ten-more n (suc (suc (suc zero))) h = omega arith
-ten-more n (suc (suc (suc (suc zero)))) h = omega arith
-ten-more n (suc (suc (suc (suc (suc zero))))) h = omega arith
-ten-more n (suc (suc (suc (suc (suc (suc zero)))))) h = omega arith
-ten-more n (suc (suc (suc (suc (suc (suc (suc zero))))))) h = omega arith
-ten-more n (suc (suc (suc (suc (suc (suc (suc (suc zero)))))))) h = omega arith
-ten-more n (suc (suc (suc (suc (suc (suc (suc (suc (suc k))))))))) h = absurd (omega arith)
+ten_more : (n k : ℕ) → k ≤ 8 → n / 10 ^ suc k / 10 ≡ n / 10 ^ suc (suc k)
+ten_more n zero h = omega arith
+ten_more n (suc zero) h = omega arith
+ten_more n (suc (suc zero)) h = omega arith
+ten_more n (suc (suc (suc zero))) h = omega arith
+ten_more n (suc (suc (suc (suc zero)))) h = omega arith
+ten_more n (suc (suc (suc (suc (suc zero))))) h = omega arith
+ten_more n (suc (suc (suc (suc (suc (suc zero)))))) h = omega arith
+ten_more n (suc (suc (suc (suc (suc (suc (suc zero))))))) h = omega arith
+ten_more n (suc (suc (suc (suc (suc (suc (suc (suc zero)))))))) h = omega arith
+ten_more n (suc (suc (suc (suc (suc (suc (suc (suc (suc k))))))))) h = absurd (omega arith)
 
-front-tail : (k n : ℕ) → k ≤ 9 → decimal_of n ≡ front_of (n / 10 ^ suc k) ++ tail_of k n
+front_tail : (k n : ℕ) → k ≤ 9 → decimal_of n ≡ front_of (n / 10 ^ suc k) ++ tail_of k n
 unfolding tail_of
-front-tail zero n h = decimal-front n
-front-tail (suc k) n h =
-    front-tail k n (omega arith) ∙ ap (λ (x : List ℕ). x ++ tail_of k n) (front-more (n / 10 ^ suc k) ∙ ap (λ (q : ℕ). front_of q ++ digit_of (n / 10 ^ suc k)) (ten-more n k (omega arith)))
+front_tail zero n h = decimal-front n
+front_tail (suc k) n h =
+    front_tail k n (omega arith) ∙ ap (λ (x : List ℕ). x ++ tail_of k n) (front-more (n / 10 ^ suc k) ∙ ap (λ (q : ℕ). front_of q ++ digit_of (n / 10 ^ suc k)) (ten_more n k (omega arith)))
     ∙ append_assoc (front_of (n / 10 ^ suc (suc k))) (digit_of (n / 10 ^ suc k)) (tail_of k n)
 
 -- a number of at most k + 1 digits
-pub decimal-tail : (k n : ℕ) → k ≤ 9 → n / 10 ^ suc k ≡ 0 → tail_of k n ≡ decimal_of n
-decimal-tail k n h e = sym (front-tail k n h ∙ ap (λ (x : List ℕ). x ++ tail_of k n) (front-none (n / 10 ^ suc k) e))
+pub decimal_tail : (k n : ℕ) → k ≤ 9 → n / 10 ^ suc k ≡ 0 → tail_of k n ≡ decimal_of n
+decimal_tail k n h e = sym (front_tail k n h ∙ ap (λ (x : List ℕ). x ++ tail_of k n) (front-none (n / 10 ^ suc k) e))
 
 module _ (b : List ℕ) (pos : ℕ) (h : pos < length b) where
-  pub units-laid : (n : ℕ) → Laid b (set b pos (0x30 + n % 10)) pos (tail_of 0 n) (pos + 1)
+  pub units_laid : (n : ℕ) → Laid b (set b pos (0x30 + n % 10)) pos (tail_of 0 n) (pos + 1)
   unfolding tail_of
-  units-laid n = laid-set b pos (0x30 + n % 10) h
+  units_laid n = laid-set b pos (0x30 + n % 10) h
 
   pub digit-laid : (q : ℕ) → (q ≡ 0 → ⊥) → Laid b (set b pos (0x30 + q % 10)) pos (digit_of q) (pos + 1)
   digit-laid q e = laid_as (laid-set b pos (0x30 + q % 10) h) (sym (digit-some q e))
@@ -87,7 +87,7 @@ module _ (b : List ℕ) (pos : ℕ) (h : pos < length b) where
   pub digit_not : (q : ℕ) → q ≡ 0 → Laid b (set b pos (0x30 + q % 10)) pos (digit_of q) pos
   digit_not q e = laid_as (laid-drop b pos (0x30 + q % 10) h) (sym (digit-none q e))
 
-pub ruleset digit-ways = (digit-laid, digit_not)
+pub ruleset digit_ways = (digit-laid, digit_not)
 
 -- one digit before others
 pub tail_more : (k n : ℕ) {b b₁ b₂ : List ℕ} {pos p r : ℕ} → Laid b b₁ pos (digit_of (n / 10 ^ suc k)) p → Laid b₁ b₂ p (tail_of k n) r → Laid b b₂ pos (tail_of (suc k) n) r

@@ -16,7 +16,7 @@ use Rattle.cbor.specs.Items.{int, definite}
 use Rattle.cbor.specs.Flags.{sign_of}
 use Rattle.cbor.specs.Heads.{Major, integers, major_of, argument, information_of, is_float, is_allowed, started}
 use Rattle.cbor.specs.Decode.{item_by, item}
-use Rattle.cbor.proofs.Arguments.{value-snoc}
+use Rattle.cbor.proofs.Arguments.{value_snoc}
 use Rattle.cbor.proofs.DecodeEncode.{enter_at}
 use Rattle.notation.specs.Printing.{decimal_of, print_int, print_item}
 use Rattle.leaf_kind.specs.LeafKinds.{KindOf}
@@ -26,17 +26,17 @@ use Rattle.leaf_written.specs.Laying.{Laid}
 use Rattle.leaf_written.specs.LeafTexts.{Room, LeafTold}
 use Rattle.leaf_written.specs.declared.Written.{Written}
 use Rattle.leaf_written.proofs.LayCode.{laid-set, laid_more, laid_as, laid-drop}
-use Rattle.leaf_written.proofs.LeafCode.{low-information, indicator-none, shortest-0, shortest-1, shortest-2, shortest-4, argument_in, item-plain, told-leaf}
+use Rattle.leaf_written.proofs.LeafCode.{low-information, indicator-none, shortest_0, shortest_1, shortest_2, shortest_4, argument_in, item_plain, told-leaf}
 use Rattle.leaf_integer.specs.Digits.{tail_of}
-use Rattle.leaf_integer.proofs.DigitCode.{decimal-tail}
+use Rattle.leaf_integer.proofs.DigitCode.{decimal_tail}
 use Rattle.leaf_integer.specs.IntegerParts.{minus_of, More, Valued}
 
 -- THE SIGN
 
 module _ (b : List ℕ) (pos major : ℕ) (h : pos < length b) (l : major ≤ 1) where
-  pub sign-laid : Laid b (set b pos 0x2d) pos (minus_of major) (pos + major)
+  pub sign_laid : Laid b (set b pos 0x2d) pos (minus_of major) (pos + major)
   unfolding minus_of
-  sign-laid = by (eqb major 0) refl
+  sign_laid = by (eqb major 0) refl
     where
       by : (t : Bool) → eqb major 0 ≡ t → Laid b (set b pos 0x2d) pos (elim t [ true ↦ [] | false ↦ 0x2d ∷ [] ]) (pos + major)
       by true e = let z : pos + major ≡ pos = omega (arith, eqb-true major 0 e) in rw z (laid-drop b pos 0x2d h)
@@ -55,7 +55,7 @@ value-more k {s} {from} {n} {r} h v m =
     let l : k < length t = omega (arith, length-drop from s) in
     let e : take (suc k) t ≡ take k t ++ b ∷ [] = take-suc t k 0 l ∙ ap (λ (x : ℕ). take k t ++ x ∷ []) (get_or-drop from s k 0) in
     record {
-      is = m.is ∙ ap (λ (x : ℕ). x * 256 + b) v.is ∙ sym (value-snoc 0 (take k t) b) ∙ ap (value_from 0) (sym e);
+      is = m.is ∙ ap (λ (x : ℕ). x * 256 + b) v.is ∙ sym (value_snoc 0 (take k t) b) ∙ ap (value_from 0) (sym e);
       small = let p = pow-suc 256 k in omega (arith, m.is, m.byte, v.small);
     }
 
@@ -89,10 +89,10 @@ module _ {s : List ℕ} {at : ℕ} {b b₁ b₂ : List ℕ} {pos p q : ℕ} wher
       let u : m ≤ 1 = omega arith in
       let g = int-major m u in
       let r : (d : ℕ) → item d (drop at s) ≡ ok (int (sign_of (eqb m 1)) w n) (drop e s) = λ d.
-      item-plain s at w (omega arith) i (ap (λ (z : Major). is_float z w) g) (ap (λ (z : Major). is_allowed z w (argument_in w (get_or s at 0) (drop (at + 1) s))) g) d
+      item_plain s at w (omega arith) i (ap (λ (z : Major). is_float z w) g) (ap (λ (z : Major). is_allowed z w (argument_in w (get_or s at 0) (drop (at + 1) s))) g) d
       ∙ ap (λ (z : Major). item_by (enter_at d) z (definite w) (argument_in w (get_or s at 0) (drop (at + 1) s)) (length (drop at s)) (drop (at + 1 + argument_bytes w) s)) g
       ∙ (λ j. ok (int (sign_of (eqb m 1)) w (sym a j)) (drop (sym ee j) s)) in
-      told-leaf (int (sign_of (eqb m 1)) w n) r l (laid_as (laid_more x y) (ap (λ (z : List ℕ). minus_of m ++ z) (decimal-tail k (n + m) kk dd) ∙ int-text m u w n sh))
+      told-leaf (int (sign_of (eqb m 1)) w n) r l (laid_as (laid_more x y) (ap (λ (z : List ℕ). minus_of m ++ z) (decimal_tail k (n + m) kk dd) ∙ int-text m u w n sh))
 
 -- the major type of an integer
 module _ {b : ℕ} where
@@ -102,8 +102,8 @@ module _ {b : ℕ} where
   pub one-most : KindOf b One → b / 32 ≤ 1
   one-most k = let f = (one-is k).0 in omega arith
 
-  pub two-most : KindOf b Two → b / 32 ≤ 1
-  two-most k = let f = (two_is k).0 in omega arith
+  pub two_most : KindOf b Two → b / 32 ≤ 1
+  two_most k = let f = (two_is k).0 in omega arith
 
   pub four-most : KindOf b Four → b / 32 ≤ 1
   four-most k = let f = (four_is k).0 in omega arith
@@ -115,7 +115,7 @@ module _ {s : List ℕ} {at : ℕ} {b b₁ b₂ : List ℕ} {pos p q : ℕ} (rm 
   small-told k x y e =
       let f = small_is k in
       let n = get_or s at 0 % 32 in
-      rw e (int-told w0 1 n (at + 1) f.0 (low-information n f.1) refl (shortest-0 n f.1) (omega arith) (omega (arith, rm.block)) (omega arith) (omega arith) x y)
+      rw e (int-told w0 1 n (at + 1) f.0 (low-information n f.1) refl (shortest_0 n f.1) (omega arith) (omega (arith, rm.block)) (omega arith) (omega arith) x y)
 
   module _ {n : ℕ} where
     pub one_told : KindOf (get_or s at 0) One → Valued s (at + 1) 1 n → 24 ≤ n → Laid b b₁ pos (minus_of (get_or s at 0 / 32)) p → Laid b₁ b₂ p (tail_of 2 (n + get_or s at 0 / 32)) q → {r : Written}
@@ -124,15 +124,15 @@ module _ {s : List ℕ} {at : ℕ} {b b₁ b₂ : List ℕ} {pos p q : ℕ} (rm 
     one_told k v h x y e =
         let f = one-is k in
         let l = v.small in
-        rw e (int-told w1 2 n (at + 2) f.0 (ap information_of f.1) v.is (shortest-1 n h (omega arith)) (omega arith) (omega (arith, rm.block)) (omega arith) (omega arith) x y)
+        rw e (int-told w1 2 n (at + 2) f.0 (ap information_of f.1) v.is (shortest_1 n h (omega arith)) (omega arith) (omega (arith, rm.block)) (omega arith) (omega arith) x y)
 
-    pub two-told : KindOf (get_or s at 0) Two → Valued s (at + 1) 2 n → 0x100 ≤ n → Laid b b₁ pos (minus_of (get_or s at 0 / 32)) p → Laid b₁ b₂ p (tail_of 4 (n + get_or s at 0 / 32)) q → {r : Written}
+    pub two_told : KindOf (get_or s at 0) Two → Valued s (at + 1) 2 n → 0x100 ≤ n → Laid b b₁ pos (minus_of (get_or s at 0 / 32)) p → Laid b₁ b₂ p (tail_of 4 (n + get_or s at 0 / 32)) q → {r : Written}
         → r ≡ record { end = at + 3; pos = q } → LeafTold s at b b₂ pos r
     unfolding argument_bytes started information_of
-    two-told k v h x y e =
+    two_told k v h x y e =
         let f = two_is k in
         let l = v.small in
-        rw e (int-told w2 4 n (at + 3) f.0 (ap information_of f.1) v.is (shortest-2 n h (omega arith)) (omega arith) (omega (arith, rm.block)) (omega arith) (omega arith) x y)
+        rw e (int-told w2 4 n (at + 3) f.0 (ap information_of f.1) v.is (shortest_2 n h (omega arith)) (omega arith) (omega (arith, rm.block)) (omega arith) (omega arith) x y)
 
     pub four-told : KindOf (get_or s at 0) Four → Valued s (at + 1) 4 n → 0x1_0000 ≤ n → Laid b b₁ pos (minus_of (get_or s at 0 / 32)) p → Laid b₁ b₂ p (tail_of 9 (n + get_or s at 0 / 32)) q → {r : Written}
         → r ≡ record { end = at + 5; pos = q } → LeafTold s at b b₂ pos r
@@ -140,4 +140,4 @@ module _ {s : List ℕ} {at : ℕ} {b b₁ b₂ : List ℕ} {pos p q : ℕ} (rm 
     four-told k v h x y e =
         let f = four_is k in
         let l = v.small in
-        rw e (int-told w4 9 n (at + 5) f.0 (ap information_of f.1) v.is (shortest-4 n h (omega arith)) (omega arith) (omega (arith, rm.block)) (omega arith) (omega arith) x y)
+        rw e (int-told w4 9 n (at + 5) f.0 (ap information_of f.1) v.is (shortest_4 n h (omega arith)) (omega arith) (omega (arith, rm.block)) (omega arith) (omega arith) x y)

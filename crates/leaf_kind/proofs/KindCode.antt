@@ -12,8 +12,8 @@ use Rattle.leaf_kind.specs.LeafKinds.{begins, KindOf}
 use Rattle.leaf_kind.specs.declared.Kind.{Kind}
 use Rattle.leaf_kind.specs.declared.Kind.TheVariants.{Small, One, Two, Four, Bytes, Text, False, True, Null, Other}
 
-pub kind-keys : (ks : List ℕ) (k : Kind) {b : ℕ} → OneOf ks b → T (all (λ j. begins j k) ks) → b < 256 → KindOf b k
-kind-keys ks k {b} o t h = record { is = yes (begins b k) (each (λ j. begins j k) ks b o t); byte = h }
+pub kind_keys : (ks : List ℕ) (k : Kind) {b : ℕ} → OneOf ks b → T (all (λ j. begins j k) ks) → b < 256 → KindOf b k
+kind_keys ks k {b} o t h = record { is = yes (begins b k) (each (λ j. begins j k) ks b o t); byte = h }
 
 pub kind-other : {b : ℕ} → b < 256 → KindOf b Other
 unfolding begins
@@ -21,8 +21,8 @@ kind-other h = record { is = refl; byte = h }
 
 -- WHAT A KIND SAYS
 
-pub kind-as : {b : ℕ} {k j : Kind} → KindOf b k → k ≡ j → KindOf b j
-kind-as x e = rw e at x
+pub kind_as : {b : ℕ} {k j : Kind} → KindOf b k → k ≡ j → KindOf b j
+kind_as x e = rw e at x
 
 and-true : (p q : Bool) → p && q ≡ true → (p ≡ true) × (q ≡ true)
 and-true true q e = (refl, e)
@@ -53,13 +53,13 @@ module _ {b : ℕ} where
   unfolding begins
   text-is k = let p = and-true (eqb (b / 32) 3) (ltb (b % 32) 24) k.is in (eqb-true (b / 32) 3 p.0, ltb-true (b % 32) 24 p.1)
 
-  pub false-is : KindOf b False → b ≡ 0xf4
+  pub false_is : KindOf b False → b ≡ 0xf4
   unfolding begins
-  false-is k = eqb-true b 0xf4 k.is
+  false_is k = eqb-true b 0xf4 k.is
 
-  pub true-is : KindOf b True → b ≡ 0xf5
+  pub true_is : KindOf b True → b ≡ 0xf5
   unfolding begins
-  true-is k = eqb-true b 0xf5 k.is
+  true_is k = eqb-true b 0xf5 k.is
 
   pub null_is : KindOf b Null → b ≡ 0xf6
   unfolding begins

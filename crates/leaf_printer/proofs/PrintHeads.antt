@@ -17,7 +17,7 @@ use Rattle.head.specs.HeadAnswers.{argument_size}
 use Rattle.notation.specs.Printing.{decimal_of, width_name, indicator_of, blank_behind, size_of, print_simple, print_int, print_string, print_chunked}
 use Rattle.cbor.specs.Flags.{kind_of, sign_of}
 use Rattle.text_output.specs.PrintParts.{Prints, content_of, width_by, size_by, quote_of, open_quote, other_simple}
-use Rattle.text_output.proofs.PrintLeaves.{prints-more, prints-as, prints-none}
+use Rattle.text_output.proofs.PrintLeaves.{prints-more, prints_as, prints-none}
 
 -- WIDTHS
 
@@ -64,37 +64,37 @@ shortest-back n = go (leb n 23) refl (leb n 0xff) (leb n 0xffff) (leb n 0xffff_f
     go false e false false true = refl
     go false e false false false = refl
 
-pub shortest-test : (i n : ℕ) {x y z : ℕ} → x ≡ argument_size i → y ≡ information (shortest n) n → z ≡ argument_size y
+pub shortest_test : (i n : ℕ) {x y z : ℕ} → x ≡ argument_size i → y ≡ information (shortest n) n → z ≡ argument_size y
     → eqb x z ≡ eqb (argument_bytes (width_by i)) (argument_bytes (shortest n))
-shortest-test i n {x} {y} {z} e f g =
+shortest_test i n {x} {y} {z} e f g =
     let a : x ≡ argument_bytes (width_by i) = e ∙ size-by i in
     let b : z ≡ argument_bytes (shortest n) = g ∙ size-by y ∙ ap (λ (k : ℕ). argument_bytes (width_by k)) f ∙ ap argument_bytes (shortest-back n) in
     λ j. eqb (a j) (b j)
 
 module _ (i : ℕ) where
-  pub name-one : i ≡ 24 → 0x30 ≡ width_name (width_by i)
+  pub name_one : i ≡ 24 → 0x30 ≡ width_name (width_by i)
   unfolding width_name width_by
-  name-one e = rw e
+  name_one e = rw e
 
-  pub name-two : i ≡ 25 → 0x31 ≡ width_name (width_by i)
+  pub name_two : i ≡ 25 → 0x31 ≡ width_name (width_by i)
   unfolding width_name width_by
-  name-two e = rw e
+  name_two e = rw e
 
-  pub name-four : i ≡ 26 → 0x32 ≡ width_name (width_by i)
+  pub name_four : i ≡ 26 → 0x32 ≡ width_name (width_by i)
   unfolding width_name width_by
-  name-four e = rw e
+  name_four e = rw e
 
-  pub name-eight : i ≡ 27 → 0x33 ≡ width_name (width_by i)
+  pub name_eight : i ≡ 27 → 0x33 ≡ width_name (width_by i)
   unfolding width_name width_by
-  name-eight e = rw e
+  name_eight e = rw e
 
-  pub name-none : (i ≡ 24 → ⊥) → (i ≡ 25 → ⊥) → (i ≡ 26 → ⊥) → (i ≡ 27 → ⊥) → 0x69 ≡ width_name (width_by i)
+  pub name_none : (i ≡ 24 → ⊥) → (i ≡ 25 → ⊥) → (i ≡ 26 → ⊥) → (i ≡ 27 → ⊥) → 0x69 ≡ width_name (width_by i)
   unfolding width_name width_by
-  name-none a b c d =
+  name_none a b c d =
       let e : width_by i ≡ w0 = simp (width_by, ne_eqb i 24 a, ne_eqb i 25 b, ne_eqb i 26 c, ne_eqb i 27 d) in
       sym (ap width_name e)
 
-pub ruleset name-ways = (name-one, name-two, name-four, name-eight, name-none)
+pub ruleset name_ways = (name_one, name_two, name_four, name_eight, name_none)
 
 -- INDICATORS
 
@@ -104,37 +104,37 @@ indicator-by w n t e = rw (sym e, indicator_of)
 
 module _ (i n : ℕ) {b : List ℕ} {pos : ℕ} {t : Bool} (e : t ≡ eqb (argument_bytes (width_by i)) (argument_bytes (shortest n))) where
   pub mark-none : length b * 1 < 2 ^ 63 → Fits bits64 pos → t ≡ true → Prints b b pos (indicator_of (width_by i) n) pos
-  mark-none h u f = prints-as (sym (indicator-by (width_by i) n true (sym f ∙ e))) (prints-none h u)
+  mark-none h u f = prints_as (sym (indicator-by (width_by i) n true (sym f ∙ e))) (prints-none h u)
 
   module _ {b₁ b₂ : List ℕ} {v p q : ℕ} where
     pub mark-some : t ≡ false → v ≡ width_name (width_by i) → Prints b b₁ pos (0x5f ∷ []) p → Prints b₁ b₂ p (v ∷ []) q → Prints b b₂ pos (indicator_of (width_by i) n) q
-    mark-some f g x y = prints-as (ap (λ (k : ℕ). 0x5f ∷ k ∷ []) g ∙ sym (indicator-by (width_by i) n false (sym f ∙ e))) (prints-more x y)
+    mark-some f g x y = prints_as (ap (λ (k : ℕ). 0x5f ∷ k ∷ []) g ∙ sym (indicator-by (width_by i) n false (sym f ∙ e))) (prints-more x y)
 
 -- behind a bracket
-pub size-open : (i n : ℕ) → i ≡ 31 → size_of (size_by i) n ≡ ascii "_ "
+pub size_open : (i n : ℕ) → i ≡ 31 → size_of (size_by i) n ≡ ascii "_ "
 unfolding size_of size_by
-size-open i n e = rw e
+size_open i n e = rw e
 
-pub size-shut : (i n : ℕ) → (i ≡ 31 → ⊥) → size_of (size_by i) n ≡ blank_behind (indicator_of (width_by i) n)
+pub size_shut : (i n : ℕ) → (i ≡ 31 → ⊥) → size_of (size_by i) n ≡ blank_behind (indicator_of (width_by i) n)
 unfolding size_of size_by
-size-shut i n e = let z : size_by i ≡ definite (width_by i) = rw (ne_eqb i 31 e, size_by) in ap (λ (x : Size). size_of x n) z
+size_shut i n e = let z : size_by i ≡ definite (width_by i) = rw (ne_eqb i 31 e, size_by) in ap (λ (x : Size). size_of x n) z
 
 module _ (i n : ℕ) {b : List ℕ} {pos : ℕ} where
   pub size-indefinite : {b₁ : List ℕ} {p : ℕ} → i ≡ 31 → Prints b b₁ pos (ascii "_ ") p → Prints b b₁ pos (size_of (size_by i) n) p
-  size-indefinite e f = prints-as (sym (size-open i n e)) f
+  size-indefinite e f = prints_as (sym (size_open i n e)) f
 
   module _ {t : Bool} (m : i ≡ 31 → ⊥) (e : t ≡ eqb (argument_bytes (width_by i)) (argument_bytes (shortest n))) where
     pub size_none : length b * 1 < 2 ^ 63 → Fits bits64 pos → t ≡ true → Prints b b pos (size_of (size_by i) n) pos
     unfolding blank_behind
-    size_none h u f = prints-as (sym (size-shut i n m ∙ ap blank_behind (indicator-by (width_by i) n true (sym f ∙ e)))) (prints-none h u)
+    size_none h u f = prints_as (sym (size_shut i n m ∙ ap blank_behind (indicator-by (width_by i) n true (sym f ∙ e)))) (prints-none h u)
 
     pub size-some : {b₁ b₂ : List ℕ} {p q : ℕ} → t ≡ false → Prints b b₁ pos (indicator_of (width_by i) n) p → Prints b₁ b₂ p (0x20 ∷ []) q → Prints b b₂ pos (size_of (size_by i) n) q
     unfolding blank_behind
     size-some f x y =
         let k = indicator-by (width_by i) n false (sym f ∙ e) in
-        prints-as (ap (λ (v : List ℕ). v ++ 0x20 ∷ []) k ∙ sym (size-shut i n m ∙ ap blank_behind k)) (prints-more x y)
+        prints_as (ap (λ (v : List ℕ). v ++ 0x20 ∷ []) k ∙ sym (size_shut i n m ∙ ap blank_behind k)) (prints-more x y)
 
-pub ruleset size-ways = (size-indefinite, size_none, size-some)
+pub ruleset size_ways = (size-indefinite, size_none, size-some)
 
 -- INTEGERS AND SIMPLE VALUES
 
@@ -143,12 +143,12 @@ module _ (i n : ℕ) {g : Bool} {b b₁ b₂ : List ℕ} {pos p q : ℕ} where
   unfolding sign_of print_int
   int-unsigned e x y = rw e (prints-more x y)
 
-  pub int-negative : {b₃ : List ℕ} {r : ℕ} → g ≡ true → Prints b b₁ pos (0x2d ∷ []) p → Prints b₁ b₂ p (decimal_of (suc n)) q
+  pub int_negative : {b₃ : List ℕ} {r : ℕ} → g ≡ true → Prints b b₁ pos (0x2d ∷ []) p → Prints b₁ b₂ p (decimal_of (suc n)) q
       → Prints b₂ b₃ q (indicator_of (width_by i) n) r → Prints b b₃ pos (print_int (sign_of g) (width_by i) n) r
   unfolding sign_of print_int
-  int-negative e x y z = rw e (prints-more x (prints-more y z))
+  int_negative e x y z = rw e (prints-more x (prints-more y z))
 
-pub ruleset int-ways = (int-unsigned, int-negative)
+pub ruleset int_ways = (int-unsigned, int_negative)
 
 pub simple-other : (n : ℕ) {b b₁ b₂ b₃ : List ℕ} {pos p q r : ℕ} → Prints b b₁ pos (ascii "simple(") p → Prints b₁ b₂ p (decimal_of n) q → Prints b₂ b₃ q (0x29 ∷ []) r
     → Prints b b₃ pos (other_simple n) r
@@ -156,27 +156,27 @@ unfolding other_simple
 simple-other n x y z = prints-more x (prints-more y z)
 
 module _ (n : ℕ) {b b₁ : List ℕ} {pos p : ℕ} where
-  pub simple-false : n ≡ 20 → Prints b b₁ pos (ascii "false") p → Prints b b₁ pos (print_simple n) p
+  pub simple_false : n ≡ 20 → Prints b b₁ pos (ascii "false") p → Prints b b₁ pos (print_simple n) p
   unfolding print_simple
-  simple-false e f = rw e f
+  simple_false e f = rw e f
 
-  pub simple-true : n ≡ 21 → Prints b b₁ pos (ascii "true") p → Prints b b₁ pos (print_simple n) p
+  pub simple_true : n ≡ 21 → Prints b b₁ pos (ascii "true") p → Prints b b₁ pos (print_simple n) p
   unfolding print_simple
-  simple-true e f = rw e f
+  simple_true e f = rw e f
 
-  pub simple-null : n ≡ 22 → Prints b b₁ pos (ascii "null") p → Prints b b₁ pos (print_simple n) p
+  pub simple_null : n ≡ 22 → Prints b b₁ pos (ascii "null") p → Prints b b₁ pos (print_simple n) p
   unfolding print_simple
-  simple-null e f = rw e f
+  simple_null e f = rw e f
 
-  pub simple-undefined : n ≡ 23 → Prints b b₁ pos (ascii "undefined") p → Prints b b₁ pos (print_simple n) p
+  pub simple_undefined : n ≡ 23 → Prints b b₁ pos (ascii "undefined") p → Prints b b₁ pos (print_simple n) p
   unfolding print_simple
-  simple-undefined e f = rw e f
+  simple_undefined e f = rw e f
 
   pub simple-number : (n ≡ 20 → ⊥) → (n ≡ 21 → ⊥) → (n ≡ 22 → ⊥) → (n ≡ 23 → ⊥) → Prints b b₁ pos (other_simple n) p → Prints b b₁ pos (print_simple n) p
   unfolding print_simple other_simple
-  simple-number x y z u f = prints-as (sym (simp (print_simple, ne_eqb n 20 x, ne_eqb n 21 y, ne_eqb n 22 z, ne_eqb n 23 u))) f
+  simple-number x y z u f = prints_as (sym (simp (print_simple, ne_eqb n 20 x, ne_eqb n 21 y, ne_eqb n 22 z, ne_eqb n 23 u))) f
 
-pub ruleset simple-ways = (simple-false, simple-true, simple-null, simple-undefined, simple-number)
+pub ruleset simple_ways = (simple_false, simple_true, simple_null, simple_undefined, simple-number)
 
 -- STRINGS
 
@@ -190,13 +190,13 @@ module _ (t : Bool) where
   quote-bytes e = rw e
 
   module _ {b b₁ : List ℕ} {pos p : ℕ} where
-    pub open-text : t ≡ true → Prints b b₁ pos (0x22 ∷ []) p → Prints b b₁ pos (open_quote t) p
+    pub open_text : t ≡ true → Prints b b₁ pos (0x22 ∷ []) p → Prints b b₁ pos (open_quote t) p
     unfolding open_quote
-    open-text e f = rw e f
+    open_text e f = rw e f
 
-    pub open-bytes : t ≡ false → Prints b b₁ pos (ascii "h'") p → Prints b b₁ pos (open_quote t) p
+    pub open_bytes : t ≡ false → Prints b b₁ pos (ascii "h'") p → Prints b b₁ pos (open_quote t) p
     unfolding open_quote
-    open-bytes e f = rw e f
+    open_bytes e f = rw e f
 
     pub empty-text : t ≡ true → Prints b b₁ pos (ascii "\"\"_") p → Prints b b₁ pos (print_chunked (kind_of t) []) p
     unfolding print_chunked kind_of
@@ -206,11 +206,11 @@ module _ (t : Bool) where
     unfolding print_chunked kind_of
     empty-bytes e f = rw e f
 
-pub ruleset quote-ways = (quote-text, quote-bytes)
+pub ruleset quote_ways = (quote-text, quote-bytes)
 
-pub ruleset open-ways = (open-text, open-bytes)
+pub ruleset open_ways = (open_text, open_bytes)
 
-pub ruleset empty-ways = (empty-text, empty-bytes)
+pub ruleset empty_ways = (empty-text, empty-bytes)
 
 pub string-is : (t : Bool) (w : Width) (s : List ℕ) → open_quote t ++ (content_of t s ++ (quote_of t ∷ indicator_of w (length s))) ≡ print_string (kind_of t) w s
 unfolding open_quote content_of quote_of kind_of print_string
@@ -220,5 +220,5 @@ string-is false w s = refl
 pub string-whole : (t : Bool) (i : ℕ) (s : List ℕ) {b b₁ b₂ b₃ b₄ : List ℕ} {v pos p q e r : ℕ} → v ≡ quote_of t → Prints b b₁ pos (open_quote t) p → Prints b₁ b₂ p (content_of t s) q
     → Prints b₂ b₃ q (v ∷ []) e → Prints b₃ b₄ e (indicator_of (width_by i) (length s)) r → Prints b b₄ pos (print_string (kind_of t) (width_by i) s) r
 string-whole t i s f x y z u =
-    prints-as (ap (λ (k : ℕ). open_quote t ++ (content_of t s ++ (k ∷ indicator_of (width_by i) (length s)))) f ∙ string-is t (width_by i) s)
+    prints_as (ap (λ (k : ℕ). open_quote t ++ (content_of t s ++ (k ∷ indicator_of (width_by i) (length s)))) f ∙ string-is t (width_by i) s)
     (prints-more x (prints-more y (prints-more z u)))

@@ -30,28 +30,28 @@ use Rattle.notation.specs.Reading.{marked}
 use Rattle.notation_theorems.proofs.SoundToken.{Chose, choose-fits}
 use Rattle.scanning.specs.ScanAnswers.{Peeked}
 use Rattle.scanning.proofs.Marked.{length_marked, at_byte}
-use Rattle.scanning.proofs.ScanCode.{peeked-yes}
+use Rattle.scanning.proofs.ScanCode.{peeked_yes}
 use Rattle.head.specs.HeadAnswers.{head_bytes}
 use Rattle.head.proofs.HeadCode.{head_bytes_lem}
 use Rattle.literal_body.specs.LiteralAnswers.{Scans, Raw, Decodes, Quotes}
 use Rattle.literal_body.specs.LiteralReading.{DecodesInto}
 use Rattle.literal_body.specs.declared.LiteralScan.{LiteralScan}
-use Rattle.literal_body.proofs.LiteralViews.{scan_good, raw-good, Stood, hex-good, base64-good}
+use Rattle.literal_body.proofs.LiteralViews.{scan_good, raw_good, Stood, hex-good, base64_good}
 use Rattle.token.specs.TokenAnswers.{width_number}
 use Rattle.numbers.specs.NumberAnswers.{Indicated, choose_by, chosen_number}
 use Rattle.numbers.specs.declared.indicator.Mark.{Mark}
 use Rattle.numbers.proofs.IndicatorCode.{choose-is, chosen-some}
 use Rattle.encoding.specs.ReadAnswers.{held_of, Tells, info_by, Informed, HeadSize}
-use Rattle.encoding.proofs.ReadSmall.{head-some, before-short, before-long}
-use Rattle.encoding.proofs.ReadWriting.{info-width}
+use Rattle.encoding.proofs.ReadSmall.{head-some, before-short, before_long}
+use Rattle.encoding.proofs.ReadWriting.{info_width}
 use Rattle.leaf_answer.specs.LeafAnswers.{LeafTold}
 use Rattle.plain_string.specs.StringParts.{quoted_kind, StringMajor, QuotedAt}
 use Rattle.leaf_reader.specs.LiteralParts.{IsQuote}
 use Rattle.leaf_reader.specs.LiteralParts.{content_by, EncodedFrom, EncodedThere, ContentTold, HeadBefore, Headed}
 use Rattle.leaf_answer.specs.declared.LeafRead.{LeafRead as LeafS}
 use Rattle.leaf_answer.specs.declared.Found.TheVariants.{Leaf, Nothing}
-use Rattle.leaf_answer.proofs.LeafCode.{leaf-still, leaf-made}
-use Rattle.plain_string.proofs.StringCode.{back, lent_same, lent-kept, lent_written, string-whole, cut-hex, quote-text, quote-bytes}
+use Rattle.leaf_answer.proofs.LeafCode.{leaf_still, leaf-made}
+use Rattle.plain_string.proofs.StringCode.{back, lent_same, lent_kept, lent_written, string-whole, cut-hex, quote-text, quote-bytes}
 
 -- WHAT STANDS THERE
 
@@ -65,14 +65,14 @@ module _ {b : ℕ} where
   pub is_none : IsQuote b false
   is_none = record { is = λ t. absurd (clash (sym t)) }
 
-pub ruleset quote-ways = (is-text, is-bytes, is_none)
+pub ruleset quote_ways = (is-text, is-bytes, is_none)
 
 pub quote-at : {s : List ℕ} {place : ℕ} {t : Bool} → place < length s → IsQuote (get_or s place 0) t → t ≡ true → QuotedAt s place (get_or s place 0)
 quote-at l x e = record { here = l; is = refl; quote = x.is e }
 
-cut-base64 : (r : List ℕ) → cut (0x62 ∷ 0x36 ∷ 0x34 ∷ 0x27 ∷ r) ≡ encoded_literal base64_content r
+cut_base64 : (r : List ℕ) → cut (0x62 ∷ 0x36 ∷ 0x34 ∷ 0x27 ∷ r) ≡ encoded_literal base64_content r
 unfolding cut cut_by word run whether bind prefixed same is_word is class_number class_of class_in class_rows is_in
-cut-base64 r = refl
+cut_base64 r = refl
 
 module _ {s : List ℕ} {at : ℕ} where
   pub there-none : {to : ℕ} {base64 : Bool} → EncodedThere s at to base64 false
@@ -84,21 +84,21 @@ module _ {s : List ℕ} {at : ℕ} where
       record {
         is = λ e.
             let z : at + 1 + 1 ≡ at + 2 = omega arith in
-            record { is = ap cut (peeked-yes p (not-false t f) ∙ rw (peeked-yes q e, z)) ∙ cut-hex (drop (at + 2) (marked s)); ahead = omega arith; inside = omega (arith, q.inside e) };
+            record { is = ap cut (peeked_yes p (not-false t f) ∙ rw (peeked_yes q e, z)) ∙ cut-hex (drop (at + 2) (marked s)); ahead = omega arith; inside = omega (arith, q.inside e) };
       }
 
-  pub there-base64 : {t u v w : Bool} → Peeked s at 0x62 t → not t ≡ false → Peeked s (at + 1) 0x36 u → not u ≡ false → Peeked s (at + 2) 0x34 v → not v ≡ false → Peeked s (at + 3) 0x27 w → EncodedThere s at (at + 4) true w
+  pub there_base64 : {t u v w : Bool} → Peeked s at 0x62 t → not t ≡ false → Peeked s (at + 1) 0x36 u → not u ≡ false → Peeked s (at + 2) 0x34 v → not v ≡ false → Peeked s (at + 3) 0x27 w → EncodedThere s at (at + 4) true w
   unfolding content_by
-  there-base64 {t} {u} {v} {w} p f q g r h x =
+  there_base64 {t} {u} {v} {w} p f q g r h x =
       record {
         is = λ e.
             let z₁ : at + 1 + 1 ≡ at + 2 = omega arith in
             let z₂ : at + 2 + 1 ≡ at + 3 = omega arith in
             let z₃ : at + 3 + 1 ≡ at + 4 = omega arith in
-            record { is = ap cut (peeked-yes p (not-false t f) ∙ rw (peeked-yes q (not-false u g), z₁, peeked-yes r (not-false v h), z₂, peeked-yes x e, z₃)) ∙ cut-base64 (drop (at + 4) (marked s)); ahead = omega arith; inside = omega (arith, x.inside e) };
+            record { is = ap cut (peeked_yes p (not-false t f) ∙ rw (peeked_yes q (not-false u g), z₁, peeked_yes r (not-false v h), z₂, peeked_yes x e, z₃)) ∙ cut_base64 (drop (at + 4) (marked s)); ahead = omega arith; inside = omega (arith, x.inside e) };
       }
 
-pub ruleset there-ways = (there-none, there-hex, there-base64)
+pub ruleset there_ways = (there-none, there-hex, there_base64)
 
 pub encoded-there : {s : List ℕ} {place at : ℕ} {base64 t : Bool} → EncodedThere s place at base64 t → t ≡ true → EncodedFrom s place at base64
 encoded-there x e = x.is e
@@ -110,49 +110,49 @@ module _ {b b' : List ℕ} {pos first n r : ℕ} (h : HeadSize first r) where
   put-short e f =
       record { closes = before-short n h e f; same = ap length f ∙ length-written b pos (first ∷ []); kept = ap (take pos) f ∙ take-written b pos (first ∷ []) pos (omega arith); short = omega arith }
 
-  pub put-long : b' ≡ head_put b pos (head_bytes first n) n → HeadBefore b b' pos (head_bytes first n) n r
-  put-long f =
+  pub put_long : b' ≡ head_put b pos (head_bytes first n) n → HeadBefore b b' pos (head_bytes first n) n r
+  put_long f =
       let some = head-some first n in
-      record { closes = before-long n h f; same = ap length f ∙ length-closed b pos (head_bytes first n) n some; kept = ap (take pos) f ∙ take-closed b pos (head_bytes first n) n some pos (omega arith); short = h.most }
+      record { closes = before_long n h f; same = ap length f ∙ length-closed b pos (head_bytes first n) n some; kept = ap (take pos) f ∙ take-closed b pos (head_bytes first n) n some pos (omega arith); short = h.most }
 
-pub ruleset before-ways = (put-short, put-long)
+pub ruleset before_ways = (put-short, put_long)
 
 wide-head : (m : Major) (w : Width) (n : ℕ) → n ≤ limit w → head_bytes (major_number m * 32 + info_by (width_number w) n) n ≡ head m w n
 unfolding initial
-wide-head m w n h = rw (info-width w n h) (sym (head_bytes_lem m w n h))
+wide-head m w n h = rw (info_width w n h) (sym (head_bytes_lem m w n h))
 
 -- the width that was chosen
 record Fitted (s : List ℕ) (next n width : ℕ) (m : Mark) : Type 0 where
   ind : Indicator
-  wide-as : Width
+  wide_as : Width
   reads : indicator (drop next (marked s)) ≡ ok ind (drop m.next (marked s))
-  chose : choose ind n ≡ chosen wide-as
-  is : width ≡ width_number wide-as
-  fits : n ≤ limit wide-as
+  chose : choose ind n ≡ chosen wide_as
+  is : width ≡ width_number wide_as
+  fits : n ≤ limit wide_as
 
 fitted : {s : List ℕ} {next n width : ℕ} {m : Mark} → Indicated s next m → width ≡ choose_by m.mark n → (width ≡ 0 → ⊥) → n ≤ limit w8 → Fitted s next n width m
 fitted {n = n} {width = width} {m = m} x e z l =
     let j : width ≡ chosen_number (choose x.ind n) = e ∙ ap (λ (k : ℕ). choose_by k n) x.mark ∙ sym (choose-is x.ind n) in
     let y = chosen-some (choose x.ind n) (λ k. z (j ∙ k)) in
     let f : Chose n (chosen y.0) = rw y.1.0 at (choose-fits x.ind n l) in
-    record { ind = x.ind; wide-as = y.0; reads = x.is; chose = y.1.0; is = j ∙ y.1.1; fits = f }
+    record { ind = x.ind; wide_as = y.0; reads = x.is; chose = y.1.0; is = j ∙ y.1.1; fits = f }
 
 module _ {s b : List ℕ} {place pos major : ℕ} {binary : Bool} {r : LiteralScan} where
-  pub headed-none : {q : LeafS} → q.found ≡ Nothing → Headed s b b place pos major binary r q
-  headed-none e = record { is = λ b₀ k t m x. leaf-still t.same t.kept e }
+  pub headed_none : {q : LeafS} → q.found ≡ Nothing → Headed s b b place pos major binary r q
+  headed_none e = record { is = λ b₀ k t m x. leaf_still t.same t.kept e }
 
-  pub headed-leaf : {b' : List ℕ} {width info head' : ℕ} {m : Mark} {q : LeafS} → not r.good ≡ false → r.size ≤ 0xffff_ffff → Indicated s r.next m → width ≡ choose_by m.mark r.size → (width ≡ 0 → ⊥)
+  pub headed_leaf : {b' : List ℕ} {width info head' : ℕ} {m : Mark} {q : LeafS} → not r.good ≡ false → r.size ≤ 0xffff_ffff → Indicated s r.next m → width ≡ choose_by m.mark r.size → (width ≡ 0 → ⊥)
       → Informed width r.size info → HeadBefore b b' pos (head_bytes (major * 32 + info) r.size) r.size head'
       → q ≡ record { found = Leaf; next = m.next; size = head' + r.size; binary = binary; length = r.size; number = 0 } → Headed s b b' place pos major binary r q
   unfolding encode encode_string limit
-  headed-leaf {b'} {width} {info} {head'} {m} {q} g l x e z i h f =
+  headed_leaf {b'} {width} {info} {head'} {m} {q} g l x e z i h f =
       record {
         is = λ b₀ k t j u.
             let c = t.made (not-false r.good g) in
             let ws = c.bytes in
             let n = r.size in
             let y = fitted x e z (omega arith) in
-            let w = y.wide-as in
+            let w = y.wide_as in
             let hs = head_bytes (major * 32 + info) n in
             let a : hs ≡ head (strings k) w n = ap (λ (v : ℕ). head_bytes (major * 32 + v) n) (i.is ∙ ap (λ (v : ℕ). info_by v n) y.is) ∙ rw j (wide-head (strings k) w n y.fits) in
             let d : hs ++ ws ≡ encode (string k w ws) = ap (λ (v : List ℕ). v ++ ws) (a ∙ ap (head (strings k) w) c.count) in
@@ -172,7 +172,7 @@ module _ {s b : List ℕ} {place pos major : ℕ} {binary : Bool} {r : LiteralSc
             (h.kept ∙ t.kept);
       }
 
-pub ruleset headed-ways = (headed-none, headed-leaf)
+pub ruleset headed_ways = (headed_none, headed_leaf)
 
 -- WHAT A QUOTED STRING HOLDS
 
@@ -187,14 +187,14 @@ quoted-chosen k b indefinitely w r e = absurd (let z : ◌≡◌ {A = ℕ} 0 1 =
 quoted-chosen k b unknown w r e = literal-chosen k b unknown w r e
 quoted-chosen k b (wide v) w r e = literal-chosen k b (wide v) w r e
 
-quoted-as : (k : Kind) (q : ℕ) (u c t r : List ℕ) (i : Indicator) (w : Width) → unquote q character u ≡ ok c t → indicator t ≡ ok i r → choose i (length c) ≡ chosen w → quoted k q u ≡ ok (begins (literal k (definite w) c)) r
+quoted_as : (k : Kind) (q : ℕ) (u c t r : List ℕ) (i : Indicator) (w : Width) → unquote q character u ≡ ok c t → indicator t ≡ ok i r → choose i (length c) ≡ chosen w → quoted k q u ≡ ok (begins (literal k (definite w) c)) r
 unfolding quoted bind
-quoted-as k q u c t r i w e f g = rw e (rw f (quoted-chosen k c i w r g))
+quoted_as k q u c t r i w e f g = rw e (rw f (quoted-chosen k c i w r g))
 
-encoded-as : (read : List ℕ → Content) (u raw c t r : List ℕ) (i : Indicator) (w : Width) → body u ≡ ok raw t → read raw ≡ stands_for c → indicator t ≡ ok i r → choose i (length c) ≡ chosen w
+encoded_as : (read : List ℕ → Content) (u raw c t r : List ℕ) (i : Indicator) (w : Width) → body u ≡ ok raw t → read raw ≡ stands_for c → indicator t ≡ ok i r → choose i (length c) ≡ chosen w
     → encoded_literal read u ≡ ok (begins (literal byte_string (definite w) c)) r
 unfolding encoded_literal contained bind
-encoded-as read u raw c t r i w e d f g = rw e (rw f (rw d (literal-chosen byte_string c i w r g)))
+encoded_as read u raw c t r i w e d f g = rw e (rw f (rw d (literal-chosen byte_string c i w r g)))
 
 -- the part of the buffer behind a byte of room is lent
 behind-one : (b : List ℕ) (pos : ℕ) → pos < length b → pos + 1 ≡ min (pos + 1) (length b)
@@ -206,7 +206,7 @@ module _ {s b m m' : List ℕ} {place pos q : ℕ} {r : LiteralScan} (x : Quoted
       let u = behind-one b pos h in
       record {
         same = lent_same b m m' pos 1 (pos + 1) u z w.same;
-        kept = lent-kept b m m' pos 1 (pos + 1) u z w.same;
+        kept = lent_kept b m m' pos 1 (pos + 1) u z w.same;
         made = λ g.
             let a = scan_good (unquote q character (drop (place + 1) (marked s))) y g in
             let f = a.found in
@@ -215,7 +215,7 @@ module _ {s b m m' : List ℕ} {place pos q : ℕ} {r : LiteralScan} (x : Quoted
               is = record {
                 gives = λ i v t j c.
                     ap cut (at_byte s place x.here ∙ ap (λ (k : ℕ). k ∷ drop (place + 1) (marked s)) x.is)
-                    ∙ (x.quote.cuts (drop (place + 1) (marked s)) ∙ quoted-as (quoted_kind q) q (drop (place + 1) (marked s)) a.all (drop r.next (marked s)) t i v (a.is ∙ ap (ok a.all) (sym f.left)) j c);
+                    ∙ (x.quote.cuts (drop (place + 1) (marked s)) ∙ quoted_as (quoted_kind q) q (drop (place + 1) (marked s)) a.all (drop r.next (marked s)) t i v (a.is ∙ ap (ok a.all) (sym f.left)) j c);
                 short = omega (arith, f.short, f.size);
               };
               count = f.size;
@@ -227,7 +227,7 @@ module _ {s b m m' : List ℕ} {place pos q : ℕ} {r : LiteralScan} (x : Quoted
 
 content-good : {r : LiteralScan} (base64 : Bool) (raw : List ℕ) → Decodes r (content_by base64 raw) → r.good ≡ true → Stood r (length raw) (content_by base64 raw)
 unfolding content_by
-content-good true raw d g = base64-good raw d g
+content-good true raw d g = base64_good raw d g
 content-good false raw d g = hex-good raw d g
 
 module _ {s b : List ℕ} {place pos at : ℕ} {base64 : Bool} {r : LiteralScan} (x : EncodedFrom s place at base64) (y : Raw s at r (body (drop at (marked s)))) where
@@ -244,7 +244,7 @@ module _ {s b : List ℕ} {place pos at : ℕ} {base64 : Bool} {r : LiteralScan}
         let k = not-false r.good g in
         record {
           same = lent_same b m m' pos 1 (pos + 1) u z f.same;
-          kept = lent-kept b m m' pos 1 (pos + 1) u z f.same;
+          kept = lent_kept b m m' pos 1 (pos + 1) u z f.same;
           made = λ t.
               let a = content-good base64 raw d.decodes t in
               let n = (scan_good (body (drop at (marked s))) y.scans k).found in
@@ -252,7 +252,7 @@ module _ {s b : List ℕ} {place pos at : ℕ} {base64 : Bool} {r : LiteralScan}
               record {
                 bytes = a.all;
                 is = record {
-                  gives = λ i v t j c. x.is ∙ encoded-as (content_by base64) (drop at (marked s)) raw a.all (drop r.next (marked s)) t i v (raw-good y k) a.is j c;
+                  gives = λ i v t j c. x.is ∙ encoded_as (content_by base64) (drop at (marked s)) raw a.all (drop r.next (marked s)) t i v (raw_good y k) a.is j c;
                   short = omega (arith, a.short, a.size, l, n.ahead, x.ahead);
                 };
                 count = a.size;
@@ -260,19 +260,19 @@ module _ {s b : List ℕ} {place pos at : ℕ} {base64 : Bool} {r : LiteralScan}
               };
         }
 
-pub raw-some : {s : List ℕ} {at : ℕ} {r : LiteralScan} {res : Result (List ℕ)} → Raw s at r res → not r.good ≡ false → 1 ≤ r.next
-raw-some {r = r} x e = omega (arith, x.next (not-false r.good e))
+pub raw_some : {s : List ℕ} {at : ℕ} {r : LiteralScan} {res : Result (List ℕ)} → Raw s at r res → not r.good ≡ false → 1 ≤ r.next
+raw_some {r = r} x e = omega (arith, x.next (not-false r.good e))
 
 module _ {s b m m' : List ℕ} {place pos at : ℕ} {r c : LiteralScan} (y : Raw s at r (body (drop at (marked s)))) (h : pos < length b) (z : m ≡ take (length b - (pos + 1)) (drop (pos + 1) b)) (g : not r.good ≡ false) where
   pub hex-told : EncodedFrom s place at false → DecodesInto m m' 0 c (hex_content (take (r.next - 1 - at) (drop at s))) → ContentTold s b (back b (pos + 1) m') place pos byte_string (record { good = c.good; next = r.next; size = c.size })
   unfolding content_by
   hex-told x d = encoded-told x y h z g d
 
-  pub base64-told : EncodedFrom s place at true → DecodesInto m m' 0 c (base64_content (take (r.next - 1 - at) (drop at s))) → ContentTold s b (back b (pos + 1) m') place pos byte_string (record { good = c.good; next = r.next; size = c.size })
+  pub base64_told : EncodedFrom s place at true → DecodesInto m m' 0 c (base64_content (take (r.next - 1 - at) (drop at s))) → ContentTold s b (back b (pos + 1) m') place pos byte_string (record { good = c.good; next = r.next; size = c.size })
   unfolding content_by
-  base64-told x d = encoded-told x y h z g d
+  base64_told x d = encoded-told x y h z g d
 
-pub ruleset encoded-ways = (encoded-none, hex-told, base64-told)
+pub ruleset encoded_ways = (encoded-none, hex-told, base64_told)
 
 -- LITERALS
 

@@ -27,16 +27,16 @@ use Rattle.notation.specs.Reading.{marked}
 use Rattle.notation_theorems.proofs.Locality.{cut_below}
 use Rattle.scanning.specs.ScanAnswers.{Peeked}
 use Rattle.scanning.proofs.Marked.{at_byte}
-use Rattle.scanning.proofs.ScanCode.{peeked-yes}
+use Rattle.scanning.proofs.ScanCode.{peeked_yes}
 use Rattle.head.specs.HeadAnswers.{head_bytes}
 use Rattle.head.proofs.HeadCode.{head_bytes_lem}
 use Rattle.token.specs.TokenAnswers.{width_number, item_code, open_code, kind_code, begin_code, shape_code, code_of, item_mark, begin_mark, mark_of, item_number, begin_number, number_of, Seen, Shown, Says}
 use Rattle.token.specs.declared.Token.{Token as Cut}
 use Rattle.numbers.specs.NumberAnswers.{DigitAt}
 use Rattle.encoding.specs.ReadAnswers.{held_of, no_bytes, Tells, info_by, major_by, initial_by, HeadSize}
-use Rattle.encoding.proofs.ReadTokens.{LeafFine, Led, cut-led}
+use Rattle.encoding.proofs.ReadTokens.{LeafFine, Led, cut_led}
 use Rattle.encoding.proofs.ReadSmall.{head-some}
-use Rattle.encoding.proofs.ReadWriting.{info-width}
+use Rattle.encoding.proofs.ReadWriting.{info_width}
 use Rattle.encoding.proofs.Wrote.{wrote-written}
 use Rattle.decimals.specs.DigitParts.{DigitThere}
 use Rattle.plain_leaf.specs.LeafParts.{Four, NumberAt}
@@ -51,7 +51,7 @@ use Rattle.plain_leaf.proofs.WordCode.{spelled}
 
 int-head : (m : Major) (w : Width) (n : ℕ) → n ≤ limit w → head_bytes (major_number m * 32 + info_by (width_number w) n) n ≡ head m w n
 unfolding initial
-int-head m w n h = rw (info-width w n h) (sym (head_bytes_lem m w n h))
+int-head m w n h = rw (info_width w n h) (sym (head_bytes_lem m w n h))
 
 simple-head : (n : ℕ) → n ≤ limit (shortest n) → head_bytes (7 * 32 + info_by 0 n) n ≡ head simples (shortest n) n
 unfolding info_by initial major_number
@@ -110,7 +110,7 @@ module _ {t : Cut} {b : List ℕ} {place pos : ℕ} where
     unfolding code_of begin_code mark_of begin_mark number_of begin_number initial_by Tells
     cut-made s h tok r c x =
         let c' = ap cut (sym (at_byte s place h)) ∙ c in
-        let i = code-leaf (class_of (get_or s place 0)) (length (drop (place + 1) (marked s))) tok (length r) (cut-led (get_or s place 0) (drop (place + 1) (marked s)) r tok c') (omega (arith, x.code)) in
+        let i = code-leaf (class_of (get_or s place 0)) (length (drop (place + 1) (marked s))) tok (length r) (cut_led (get_or s place 0) (drop (place + 1) (marked s)) r tok c') (omega (arith, x.code)) in
         let v = i.item in
         let y = leaf-fine v i.fine in
         let ec : t.kind ≡ item_code v = x.code ∙ ap code_of i.is in
@@ -140,7 +140,7 @@ module _ {t : Cut} {b : List ℕ} {place pos : ℕ} where
         go s h (ok tok r) c x = cut-made s h tok r c x
         go s h (refuse k p) c x = absurd (omega (arith, x.code))
 
-pub ruleset token-ways = (token-none, token-made)
+pub ruleset token_ways = (token-none, token-made)
 
 -- INTEGERS
 
@@ -167,11 +167,11 @@ module _ {s : List ℕ} {at : ℕ} where
       let z₁ : at + 4 + 1 ≡ at + 5 = omega arith in
       let z₂ : at + 5 + 1 ≡ at + 6 = omega arith in
       record {
-        is = λ k. ap cut (d ∙ rw (peeked-yes p (not-false t g), z₁, peeked-yes q (not-false u h), z₂, peeked-yes x k)) ∙ (cut-simple (drop (at + 6 + 1) (marked s)) ∙ ap simple_token (sym (peeked-yes x k)));
+        is = λ k. ap cut (d ∙ rw (peeked_yes p (not-false t g), z₁, peeked_yes q (not-false u h), z₂, peeked_yes x k)) ∙ (cut-simple (drop (at + 6 + 1) (marked s)) ∙ ap simple_token (sym (peeked_yes x k)));
         inside = λ k. omega (arith, x.inside k);
       }
 
-pub ruleset simple-ways = (simple-no, simple-yes)
+pub ruleset simple_ways = (simple-no, simple-yes)
 
 pub simple-inside : {s : List ℕ} {at : ℕ} {t : Bool} → SimpleAt s at t → t ≡ true → at + 6 ≤ length s
 simple-inside x e = x.inside e

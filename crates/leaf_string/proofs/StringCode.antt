@@ -28,7 +28,7 @@ use Rattle.text_output.specs.PrintParts.{Prints, content_of}
 use Rattle.plain_bytes.specs.Runs.{More, AllPlain}
 use Rattle.hex_output.proofs.HexCode.{hex-append}
 use Rattle.hex_output.proofs.HexCode.{hex-length}
-use Rattle.plain_bytes.proofs.PlainRuns.{content-plain}
+use Rattle.plain_bytes.proofs.PlainRuns.{content_plain}
 use Rattle.leaf_kind.specs.LeafKinds.{KindOf}
 use Rattle.leaf_kind.specs.declared.Kind.TheVariants.{Bytes, Text}
 use Rattle.leaf_kind.proofs.KindCode.{bytes-is, text-is}
@@ -36,7 +36,7 @@ use Rattle.leaf_written.specs.Laying.{Laid}
 use Rattle.leaf_written.specs.LeafTexts.{Room, LeafTold}
 use Rattle.leaf_written.specs.declared.Written.{Written}
 use Rattle.leaf_written.proofs.LayCode.{laid-written, laid-prints, laid_more, laid_as, laid-front}
-use Rattle.leaf_written.proofs.LeafCode.{low-information, indicator-none, shortest-0, item-plain, told-leaf}
+use Rattle.leaf_written.proofs.LeafCode.{low-information, indicator-none, shortest_0, item_plain, told-leaf}
 use Rattle.leaf_string.specs.StringParts.{High, Stop, Stops, quoted_hex}
 
 -- BLOCKS
@@ -47,19 +47,19 @@ high-no h = record { is = λ e. h; small = omega arith }
 pub high-yes : {b : ℕ} → High b 1
 high-yes = record { is = λ e. absurd (omega arith); small = omega arith }
 
-pub ruleset high-ways = (high-no, high-yes)
+pub ruleset high_ways = (high-no, high-yes)
 
 module _ {b x y : ℕ} (m : More b x) (h : High b y) where
-  pub stop-fits : Fits bits8 (x + y)
-  stop-fits = record { fits = omega (arith, m.small, h.small) }
+  pub stop_fits : Fits bits8 (x + y)
+  stop_fits = record { fits = omega (arith, m.small, h.small) }
 
-  pub stop-none : {i : ℕ} → x + y ≡ 0 → Stop b i 32
-  stop-none e = record { is = λ l. (h.is (omega arith), omega (arith, m.is)); most = omega arith }
+  pub stop_none : {i : ℕ} → x + y ≡ 0 → Stop b i 32
+  stop_none e = record { is = λ l. (h.is (omega arith), omega (arith, m.is)); most = omega arith }
 
-pub stop-some : {b i : ℕ} → i ≤ 32 → Stop b i i
-stop-some h = record { is = λ l. absurd (omega arith); most = h }
+pub stop_some : {b i : ℕ} → i ≤ 32 → Stop b i i
+stop_some h = record { is = λ l. absurd (omega arith); most = h }
 
-pub ruleset stop-ways = (stop-none, stop-some)
+pub ruleset stop_ways = (stop_none, stop_some)
 
 pub stops-start : {s : List ℕ} {from : ℕ} → Stops s from 0 32
 stops-start = record { is = λ j a b. absurd (omega arith); most = omega arith }
@@ -91,7 +91,7 @@ module _ (s : List ℕ) (at : ℕ) (h : at + 33 ≤ length s) where
       let n = get_or s at 0 % 32 in
       let z : at + 1 + 0 ≡ at + 1 = omega arith in
       let i : n ≤ length (drop (at + 1) s) = omega (arith, length-drop (at + 1) s) in
-      item-plain s at w0 (omega arith) (low-information n l) (ap (λ (x : Major). is_float x w0) m) (ap (λ (x : Major). is_allowed x w0 n) m) d
+      item_plain s at w0 (omega arith) (low-information n l) (ap (λ (x : Major). is_float x w0) m) (ap (λ (x : Major). is_allowed x w0 n) m) d
       ∙ (λ j. item_by (enter_at d) (m j) (definite w0) n (length (drop at s)) (drop (z j) s))
       ∙ ap (λ (res : Result (List ℕ)). bind res (λ b r'. ok (string k w0 b) r')) (content-good k n (length (drop at s)) (drop (at + 1) s) i t) ∙ ap (λ (r : List ℕ). ok (string k w0 (take n (drop (at + 1) s))) r) (drop-drop n (at + 1) s)
 
@@ -119,8 +119,8 @@ module _ (s : List ℕ) where
       rw q at (laid-prints u (omega arith) p')
 
   -- and behind them those of the next
-  parts-laid : (j k from : ℕ) {b b₁ b₂ : List ℕ} {pos r r' : ℕ} → Laid b b₁ pos (hex_of (take j (drop from s))) r → Laid b₁ b₂ r (hex_of (take k (drop (from + j) s))) r' → Laid b b₂ pos (hex_of (take (j + k) (drop from s))) r'
-  parts-laid j k from p q =
+  parts_laid : (j k from : ℕ) {b b₁ b₂ : List ℕ} {pos r r' : ℕ} → Laid b b₁ pos (hex_of (take j (drop from s))) r → Laid b₁ b₂ r (hex_of (take k (drop (from + j) s))) r' → Laid b b₂ pos (hex_of (take (j + k) (drop from s))) r'
+  parts_laid j k from p q =
       let x = drop from s in
       laid_as (laid_more p q)
       (ap (λ (y : List ℕ). hex_of (take j x) ++ hex_of (take k y)) (sym (drop-drop j from s)) ∙ sym (hex-append (take j x) (take k (drop j x))) ∙ ap hex_of (sym (take-add j k x)))
@@ -129,15 +129,15 @@ module _ (s : List ℕ) (from : ℕ) (h : from + 32 ≤ length s) {b b₁ : List
   first-laid : Laid b b₁ pos (hex_of (take 8 (drop from s))) (pos + 16)
   first-laid = part-laid s 8 from (from + 8) u (omega arith) refl (omega arith) p
 
-  pub quarter-told : {n : ℕ} → n ≤ 8 → Laid b b₁ pos (hex_of (take n (drop from s))) (pos + 2 * n)
-  quarter-told {n} l = hex-front n 8 (drop from s) l (length_part s from n (omega arith)) first-laid
+  pub quarter_told : {n : ℕ} → n ≤ 8 → Laid b b₁ pos (hex_of (take n (drop from s))) (pos + 2 * n)
+  quarter_told {n} l = hex-front n 8 (drop from s) l (length_part s from n (omega arith)) first-laid
 
   module _ {b₂ : List ℕ} {r₂ : ℕ} (q : Prints b₁ b₂ (pos + 16) (content_of false (take (from + 16 - (from + 8)) (drop (from + 8) s))) r₂) where
     second-laid : Laid b b₂ pos (hex_of (take 16 (drop from s))) (pos + 16 + 16)
-    second-laid = let v = p.same in parts-laid s 8 8 from first-laid (part-laid s 8 (from + 8) (from + 16) (omega arith) (omega arith) (omega arith) (omega arith) q)
+    second-laid = let v = p.same in parts_laid s 8 8 from first-laid (part-laid s 8 (from + 8) (from + 16) (omega arith) (omega arith) (omega arith) (omega arith) q)
 
-    pub half-told : {n : ℕ} → n ≤ 16 → Laid b b₂ pos (hex_of (take n (drop from s))) (pos + 2 * n)
-    half-told {n} l = hex-front n 16 (drop from s) l (length_part s from n (omega arith)) second-laid
+    pub half_told : {n : ℕ} → n ≤ 16 → Laid b b₂ pos (hex_of (take n (drop from s))) (pos + 2 * n)
+    half_told {n} l = hex-front n 16 (drop from s) l (length_part s from n (omega arith)) second-laid
 
     pub whole-told : {b₃ : List ℕ} {n r₃ : ℕ} → n ≤ 32 → Prints b₂ b₃ (pos + 32) (content_of false (take (from + 32 - (from + 16)) (drop (from + 16) s))) r₃ → Laid b b₃ pos (hex_of (take n (drop from s))) (pos + 2 * n)
     whole-told {b₃} {n} l t =
@@ -145,9 +145,9 @@ module _ (s : List ℕ) (from : ℕ) (h : from + 32 ≤ length s) {b b₁ : List
         let w = q.same in
         let z : pos + 16 + 16 ≡ pos + 32 = omega arith in
         hex-front n 32 (drop from s) l (length_part s from n (omega arith))
-        (parts-laid s 16 16 from (rw z at second-laid) (part-laid s 16 (from + 16) (from + 32) (omega arith) (omega arith) (omega arith) (omega arith) t))
+        (parts_laid s 16 16 from (rw z at second-laid) (part-laid s 16 (from + 16) (from + 32) (omega arith) (omega arith) (omega arith) (omega arith) t))
 
-pub ruleset digits-ways = (quarter-told, half-told, whole-told)
+pub ruleset digits_ways = (quarter_told, half_told, whole-told)
 
 pub quoted-laid : (x : List ℕ) {b b₁ b₂ b₃ b₄ : List ℕ} {pos p q e o : ℕ} → Laid b b₁ pos (0x68 ∷ []) p → Laid b₁ b₂ p (0x27 ∷ []) q → Laid b₂ b₃ q (hex_of x) e → Laid b₃ b₄ e (0x27 ∷ []) o → Laid b b₄ pos (quoted_hex x) o
 unfolding quoted_hex
@@ -161,7 +161,7 @@ module _ {s : List ℕ} {at : ℕ} {b b₁ : List ℕ} {pos q : ℕ} (rm : Room 
       let n = get_or s at 0 % 32 in
       let c = take n (drop (at + 1) s) in
       let l = length-content s at rm.block n (omega arith) in
-      let i : indicator_of w0 (length c) ≡ [] = indicator-none w0 (length c) (shortest-0 (length c) (omega arith)) in
+      let i : indicator_of w0 (length c) ≡ [] = indicator-none w0 (length c) (shortest_0 (length c) (omega arith)) in
       rw e (told-leaf (string byte_string w0 c) (string-item s at rm.block byte_string (ap major_of f.0) f.1 refl) (omega (arith, rm.block))
       (laid_as x (ap (λ (t : List ℕ). ascii "h'" ++ (hex_of c ++ (0x27 ∷ t))) (sym i))))
 
@@ -181,10 +181,10 @@ module _ {s : List ℕ} {at : ℕ} {b b₁ : List ℕ} {pos q : ℕ} (rm : Room 
       rw ge w in
       let good = ascii-good c (λ j a. (byte j a).0) in
       let plain : AllPlain c = record { is = λ j a. (byte j a).1 } in
-      let i : indicator_of w0 (length c) ≡ [] = indicator-none w0 (length c) (shortest-0 (length c) (omega arith)) in
+      let i : indicator_of w0 (length c) ≡ [] = indicator-none w0 (length c) (shortest_0 (length c) (omega arith)) in
       let whole = laid-written b₁ p (take 32 t) (omega (arith, y.next, y.same, rm.space, length-content s at rm.block 32 (omega arith)))
       (g ∙ ap (λ (u : List ℕ). copied b₁ p u 32) tail ∙ copied-yes b₁ p t 32 (omega (arith, length-drop (at + 1) s, rm.block))) in
       let z : p + length c ≡ p + n = omega arith in
       let mid : Laid b₁ b₂ p c (p + n) = rw z at (laid-front c (drop n (take 32 t)) (laid_as whole (sym (front_of_lem n 32 t (omega arith))))) in
       rw e (told-leaf (string text_string w0 c) (string-item s at rm.block text_string (ap major_of f.0) f.1 (eq-eqb (first_bad c) (length c) (sym good))) (omega (arith, rm.block))
-      (laid_as (laid_more y (laid_more mid v)) (λ j. 0x22 ∷ (content-plain plain j ++ (0x22 ∷ sym i j)))))
+      (laid_as (laid_more y (laid_more mid v)) (λ j. 0x22 ∷ (content_plain plain j ++ (0x22 ∷ sym i j)))))

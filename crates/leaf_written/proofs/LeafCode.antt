@@ -37,7 +37,7 @@ module _ {s : List ℕ} {at : ℕ} where
   pub space-is : 82 ≤ length s → HasSpace s at (leb at (length s - 82))
   space-is h = record { is = λ e. omega (arith, leb-true at (length s - 82) e) }
 
-pub ruleset room-ways = (block_no, block-is, space-no, space-is)
+pub ruleset room_ways = (block_no, block-is, space-no, space-is)
 
 -- HEADS
 
@@ -52,21 +52,21 @@ unfolding indicator_of argument_bytes
 indicator-none w n e = rw (e, eq-eqb (argument_bytes w) (argument_bytes w) refl, indicator_of)
 
 module _ (n : ℕ) where
-  pub shortest-0 : n < 24 → shortest n ≡ w0
+  pub shortest_0 : n < 24 → shortest n ≡ w0
   unfolding shortest fits limit
-  shortest-0 h = rw (le-leb n 23 (omega arith), shortest)
+  shortest_0 h = rw (le-leb n 23 (omega arith), shortest)
 
-  pub shortest-1 : 24 ≤ n → n < 0x100 → shortest n ≡ w1
+  pub shortest_1 : 24 ≤ n → n < 0x100 → shortest n ≡ w1
   unfolding shortest fits limit
-  shortest-1 h i = rw (lt-leb n 23 h, le-leb n 255 (omega arith), shortest)
+  shortest_1 h i = rw (lt-leb n 23 h, le-leb n 255 (omega arith), shortest)
 
-  pub shortest-2 : 0x100 ≤ n → n < 0x1_0000 → shortest n ≡ w2
+  pub shortest_2 : 0x100 ≤ n → n < 0x1_0000 → shortest n ≡ w2
   unfolding shortest fits limit
-  shortest-2 h i = rw (lt-leb n 23 (omega arith), lt-leb n 255 h, le-leb n 65535 (omega arith), shortest)
+  shortest_2 h i = rw (lt-leb n 23 (omega arith), lt-leb n 255 h, le-leb n 65535 (omega arith), shortest)
 
-  pub shortest-4 : 0x1_0000 ≤ n → n < 0x1_0000_0000 → shortest n ≡ w4
+  pub shortest_4 : 0x1_0000 ≤ n → n < 0x1_0000_0000 → shortest n ≡ w4
   unfolding shortest fits limit
-  shortest-4 h i = rw (lt-leb n 23 (omega arith), lt-leb n 255 (omega arith), lt-leb n 65535 h, le-leb n 4294967295 (omega arith), shortest)
+  shortest_4 h i = rw (lt-leb n 23 (omega arith), lt-leb n 255 (omega arith), lt-leb n 65535 h, le-leb n 4294967295 (omega arith), shortest)
 
 -- the argument behind an initial byte b, of which t is left
 abbrev pub argument_in : Width → ℕ → List ℕ → ℕ
@@ -78,9 +78,9 @@ unfolding next_head head_by taking argued bind
 head_plain b t w i f a h = rw (i, head_by) (rw (f, le-leb (argument_bytes w) (length t) h, taking) (rw (a, argued)))
 
 module _ (s : List ℕ) (at : ℕ) (w : Width) (h : at + 1 + argument_bytes w ≤ length s) where
-  pub item-plain : information_of (get_or s at 0 % 32) ≡ argument w → is_float (major_of (get_or s at 0 / 32)) w ≡ false → is_allowed (major_of (get_or s at 0 / 32)) w (argument_in w (get_or s at 0) (drop (at + 1) s)) ≡ true
+  pub item_plain : information_of (get_or s at 0 % 32) ≡ argument w → is_float (major_of (get_or s at 0 / 32)) w ≡ false → is_allowed (major_of (get_or s at 0 / 32)) w (argument_in w (get_or s at 0) (drop (at + 1) s)) ≡ true
       → (d : ℕ) → item d (drop at s) ≡ item_by (enter_at d) (major_of (get_or s at 0 / 32)) (definite w) (argument_in w (get_or s at 0) (drop (at + 1) s)) (length (drop at s)) (drop (at + 1 + argument_bytes w) s)
-  item-plain i f a d =
+  item_plain i f a d =
       let b = get_or s at 0 in
       let t = drop (at + 1) s in
       let l : argument_bytes w ≤ length t = omega (arith, length-drop (at + 1) s) in

@@ -14,7 +14,7 @@ use borrow.Author.Tests.{le-leb, lt-leb, lt-ltb, le-ltb, eq-eqb, ne_eqb, eqb-tru
 use Rattle.cbor.specs.Refusals.{Result, ok, refuse, bind, no_token}
 use Rattle.cbor.specs.Utf8.{is_in}
 use Rattle.memory.specs.Buffer.{over}
-use Rattle.memory.proofs.Buffer.{over-nil, over-one, over-more}
+use Rattle.memory.proofs.Buffer.{over_nil, over-one, over-more}
 use Rattle.cbor.proofs.Table.{every, between}
 use Rattle.notation.specs.Classes.{blank, slash, hash, class_number, class_rows, class_in, class_of, is}
 use Rattle.notation.specs.Numbers.{Digit, worth, no_digit, digit_at, is_digit, digit_value}
@@ -28,8 +28,8 @@ use Rattle.literal_body.specs.declared.LiteralScan.{LiteralScan}
 
 -- BYTES
 
-pub true-false : ◌≡◌ {A = Bool} true false → ⊥
-true-false z = let w : ◌≡◌ {A = ℕ} 0 1 = cc in absurd (omega arith)
+pub true_false : ◌≡◌ {A = Bool} true false → ⊥
+true_false z = let w : ◌≡◌ {A = ℕ} 0 1 = cc in absurd (omega arith)
 
 module _ (b : ℕ) (h : b < 256) where
   pub slash-is : is slash b ≡ eqb b 0x2f
@@ -48,13 +48,13 @@ module _ {b : ℕ} where
   unfolding digit_number is_in
   digit-decimal l h = a-digit 0x30 0x3a l h 0x30 tt
 
-  pub digit-upper : 0x41 ≤ b → b < 0x47 → b - 0x37 ≡ digit_number b
+  pub digit_upper : 0x41 ≤ b → b < 0x47 → b - 0x37 ≡ digit_number b
   unfolding digit_number is_in
-  digit-upper l h = a-digit 0x41 0x47 l h 0x37 tt
+  digit_upper l h = a-digit 0x41 0x47 l h 0x37 tt
 
-  pub digit-lower : 0x61 ≤ b → b < 0x67 → b - 0x57 ≡ digit_number b
+  pub digit_lower : 0x61 ≤ b → b < 0x67 → b - 0x57 ≡ digit_number b
   unfolding digit_number is_in
-  digit-lower l h = a-digit 0x61 0x67 l h 0x57 tt
+  digit_lower l h = a-digit 0x61 0x67 l h 0x57 tt
 
 -- the value of a digit, by one rule for all of them
 unfoldable pub ruled : ℕ → Bool
@@ -66,10 +66,10 @@ hex_keys = 0x30 ∷ 0x31 ∷ 0x32 ∷ 0x33 ∷ 0x34 ∷ 0x35 ∷ 0x36 ∷ 0x37 �
 module _ {b : ℕ} where
   pub hex-key : {k : ℕ} → b ≡ k → T (ruled k) → HexThere b true
   unfolding ruled
-  hex-key {k} e t = record { some = λ u. eqb→eq (b % 16 + b / 64 * 9) (digit_number b) (rw e t); none = λ u. absurd (true-false u) }
+  hex-key {k} e t = record { some = λ u. eqb→eq (b % 16 + b / 64 * 9) (digit_number b) (rw e t); none = λ u. absurd (true_false u) }
 
   pub hex-none : 99 ≡ digit_number b → HexThere b false
-  hex-none e = record { some = λ u. absurd (true-false (sym u)); none = λ u. e }
+  hex-none e = record { some = λ u. absurd (true_false (sym u)); none = λ u. e }
 
   pub value-some : {t : Bool} → HexThere b t → t ≡ true → b % 16 + b / 64 * 9 ≡ digit_number b
   value-some x e = x.some e
@@ -77,7 +77,7 @@ module _ {b : ℕ} where
   pub value_none : {t : Bool} → HexThere b t → t ≡ false → 99 ≡ digit_number b
   value_none x e = x.none e
 
-pub ruleset digit-ways = (value-some, value_none)
+pub ruleset digit_ways = (value-some, value_none)
 
 -- a number below the radix is that of a digit, and then its value
 module _ (radix b : ℕ) where
@@ -133,7 +133,7 @@ past P s i h p q = go (eqb i (length s)) refl
         let e' : length s ≡ i = sym (eqb-true i (length s) e) in
         subst⁻¹ P (drop_at s (256 ∷ []) i e') p
     go false e =
-        let n : i ≡ length s → ⊥ = λ y. let z : ◌≡◌ {A = Bool} true false = sym (eq-eqb i (length s) y) ∙ e in true-false z in
+        let n : i ≡ length s → ⊥ = λ y. let z : ◌≡◌ {A = Bool} true false = sym (eq-eqb i (length s) y) ∙ e in true_false z in
         let l : length (s ++ 256 ∷ []) ≤ i = omega (arith, length-append s (256 ∷ [])) in
         subst⁻¹ P (drop_of_length-le (s ++ 256 ∷ []) l) q
 
@@ -161,7 +161,7 @@ part_end s i end h = go (leb end i) refl
 -- WRITES
 
 pub put-none : (b : List ℕ) (p : ℕ) → Put b b p p []
-put-none b p = record { same = refl; is = λ h. sym (over-nil b p); next = λ h. sym (add-zero p) }
+put-none b p = record { same = refl; is = λ h. sym (over_nil b p); next = λ h. sym (add-zero p) }
 
 pub put-past : (b : List ℕ) (p v : ℕ) → length b ≤ p → Put b b p p (v ∷ [])
 put-past b p v h = record { same = refl; is = λ l. absurd (omega arith); next = λ l. absurd (omega arith) }
@@ -198,34 +198,34 @@ module _ (b : ℕ) where
   unfolding body_byte
   body-quote e = record { is = rw e }
 
-  pub body-backslash : (b ≡ 0x27 → ⊥) → b ≡ 0x5c → BodyByte b 2
+  pub body_backslash : (b ≡ 0x27 → ⊥) → b ≡ 0x5c → BodyByte b 2
   unfolding body_byte
-  body-backslash n e = record { is = rw e }
+  body_backslash n e = record { is = rw e }
 
   module _ (n : b ≡ 0x27 → ⊥) (n₂ : b ≡ 0x5c → ⊥) where
     body_is : (t : Bool) → is_body b ≡ t → body_byte b ≡ elim t [ true ↦ 0 | false ↦ 2 ]
     unfolding body_byte
     body_is t e = simp (body_byte, ne_eqb b 0x27 n, ne_eqb b 0x5c n₂, e)
 
-    pub body-plain : b < 256 → 0x20 ≤ b → BodyByte b 0
+    pub body_plain : b < 256 → 0x20 ≤ b → BodyByte b 0
     unfolding is_body
-    body-plain u h =
+    body_plain u h =
         let l : b ≤ 0xff = omega arith in
-        let e : is_body b ≡ true = rw (le-leb 0x20 b h, le-leb b 0xff l) (or-true (is blank b)) in
+        let e : is_body b ≡ true = rw (le-leb 0x20 b h, le-leb b 0xff l) (or_true (is blank b)) in
         record { is = sym (body_is true e) }
       where
-        or-true : (t : Bool) → t || true ≡ true
-        or-true true = refl
-        or-true false = refl
+        or_true : (t : Bool) → t || true ≡ true
+        or_true true = refl
+        or_true false = refl
 
     module _ (h : b < 0x20) {t : Bool} (x : t ≡ is blank b) where
       body-low : is_body b ≡ t
       unfolding is_body
-      body-low = rw (lt-leb 0x20 b h, ← x) (or-false t)
+      body-low = rw (lt-leb 0x20 b h, ← x) (or_false t)
         where
-          or-false : (t : Bool) → t || false ≡ t
-          or-false true = refl
-          or-false false = refl
+          or_false : (t : Bool) → t || false ≡ t
+          or_false true = refl
+          or_false false = refl
 
       pub body-blank : t ≡ true → BodyByte b 0
       body-blank e = record { is = sym (body_is true (body-low ∙ e)) }
@@ -233,21 +233,21 @@ module _ (b : ℕ) where
       pub body-other : t ≡ false → BodyByte b 2
       body-other e = record { is = sym (body_is false (body-low ∙ e)) }
 
-pub ruleset body-ways = (body-quote, body-backslash, body-plain, body-blank, body-other)
+pub ruleset body_ways = (body-quote, body_backslash, body_plain, body-blank, body-other)
 
 -- what is read goes before what follows
 abbrev pub pre : List ℕ → Result (List ℕ) → Result (List ℕ)
 pre w res = bind res (λ c r. ok (w ++ c) r)
 
-pub pre-nil : (res : Result (List ℕ)) → pre [] res ≡ res
+pub pre_nil : (res : Result (List ℕ)) → pre [] res ≡ res
 unfolding bind
-pre-nil (ok c r) = refl
-pre-nil (refuse n q) = refl
+pre_nil (ok c r) = refl
+pre_nil (refuse n q) = refl
 
-pub pre-pre : (u w : List ℕ) (res : Result (List ℕ)) → pre u (pre w res) ≡ pre (u ++ w) res
+pub pre_pre : (u w : List ℕ) (res : Result (List ℕ)) → pre u (pre w res) ≡ pre (u ++ w) res
 unfolding bind
-pre-pre u w (ok c r) = ap (λ (x : List ℕ). ok x r) (sym (append_assoc u w c))
-pre-pre u w (refuse n q) = refl
+pre_pre u w (ok c r) = ap (λ (x : List ℕ). ok x r) (sym (append_assoc u w c))
+pre_pre u w (refuse n q) = refl
 
 body_next : ℕ → ℕ → List ℕ → Result (List ℕ)
 body_next zero b s = pre (b ∷ []) (body s)
@@ -289,17 +289,17 @@ pub record Body (s : List ℕ) (at i : ℕ) : Type 0 where
 
 pub body-start : {s : List ℕ} {at : ℕ} → Body s at at
 body-start {s} {at} =
-    record { done = []; from = omega arith; sized = omega arith; split = refl; left = sym (pre-nil (body (drop at (marked s)))) }
+    record { done = []; from = omega arith; sized = omega arith; split = refl; left = sym (pre_nil (body (drop at (marked s)))) }
 
 -- a raw text that does not end well
-raw-no : {s : List ℕ} {at : ℕ} {r : LiteralScan} {res : Result (List ℕ)} → r ≡ record { good = false; next = at; size = 0 } → res ≡ fault no_token → Raw s at r res
+raw_no : {s : List ℕ} {at : ℕ} {r : LiteralScan} {res : Result (List ℕ)} → r ≡ record { good = false; next = at; size = 0 } → res ≡ fault no_token → Raw s at r res
 unfolding scanned_by
-raw-no {s} {at} {r} {res} u e =
+raw_no {s} {at} {r} {res} u e =
     subst⁻¹ (λ (x : LiteralScan). Raw s at x res) u
     (record {
       scans = rw e (record { by = refl });
       is = λ c rest q. let w : ◌≡◌ {A = ℕ} 0 1 = cc in absurd (omega arith);
-      next = λ q. absurd (true-false (sym q));
+      next = λ q. absurd (true_false (sym q));
     })
 
 -- a byte of it
@@ -336,7 +336,7 @@ module _ {s : List ℕ} {at i : ℕ} (inv : Body s at i) {k : ℕ} (h : i < leng
         from = omega (arith, inv.from);
         sized = length-append inv.done (b ∷ []) ∙ omega (arith, inv.sized, inv.from);
         split = inv.split ∙ ap (λ (u : List ℕ). inv.done ++ u) (front s i h) ∙ sym (append_assoc inv.done (b ∷ []) (drop (i + 1) s));
-        left = (rw z at here) ∙ pre-pre inv.done (b ∷ []) (body (drop (i + 1) (marked s)));
+        left = (rw z at here) ∙ pre_pre inv.done (b ∷ []) (body (drop (i + 1) (marked s)));
       }
 
 -- the run before it
@@ -345,14 +345,14 @@ bytes-stand zero inv f l = rw add-zero inv
 bytes-stand {s} {at} {i} (suc n) inv f l =
     let t = f i (omega arith) (omega arith) in
     let z : i + 1 + n ≡ i + suc n = omega arith in
-    let x = body-plain (get_or s i 0) t.first t.second t.high t.low in
+    let x = body_plain (get_or s i 0) t.first t.second t.high t.low in
     rw z at (bytes-stand {i = i + 1} n (byte-stands inv (omega arith) x refl) (λ j a b. f j (omega arith) (omega arith)) (omega arith))
 
 pub body_end : {s : List ℕ} {at i : ℕ} {r : LiteralScan} → Body s at i → length s ≤ i → r ≡ record { good = false; next = at; size = 0 } → Raw s at r (body (drop at (marked s)))
 unfolding body is_body is class_number class_of class_in class_rows is_in bind
 body_end {s} {at} {i} inv h u =
     let e : body (drop i (marked s)) ≡ fault no_token = past (λ u. body u ≡ fault no_token) s i h refl refl in
-    raw-no u (inv.left ∙ ap (pre inv.done) e)
+    raw_no u (inv.left ∙ ap (pre inv.done) e)
 
 module _ {s : List ℕ} {at i stop : ℕ} (inv : Body s at i) (y : TextRun s 0x27 0x5c i stop) where
   body_run : Body s at stop
@@ -364,23 +364,23 @@ module _ {s : List ℕ} {at i stop : ℕ} (inv : Body s at i) (y : TextRun s 0x2
   body_open h u = body_end body_run h u
 
   module _ {k : ℕ} (h : stop < length s) (x : BodyByte (get_or s stop 0) k) where
-    pub body-close : k ≡ 1 → Raw s at (record { good = true; next = stop + 1; size = stop - at }) (body (drop at (marked s)))
-    body-close e = byte-closes body_run h x e
+    pub body_close : k ≡ 1 → Raw s at (record { good = true; next = stop + 1; size = stop - at }) (body (drop at (marked s)))
+    body_close e = byte-closes body_run h x e
 
     pub body-wrong : {r : LiteralScan} → k ≡ 2 → r ≡ record { good = false; next = at; size = 0 } → Raw s at r (body (drop at (marked s)))
-    body-wrong e u = raw-no u (byte-wrong body_run h x e)
+    body-wrong e u = raw_no u (byte-wrong body_run h x e)
 
     pub body-on : (k ≡ 1 → ⊥) → (k ≡ 2 → ⊥) → Body s at (stop + 1)
     body-on n₁ n₂ = byte-stands body_run h x (body-zero (get_or s stop 0) k x.is n₁ n₂)
 
-pub ruleset raw-ways = (body_open, body-close, body-wrong, body_end)
+pub ruleset raw_ways = (body_open, body_close, body-wrong, body_end)
 
 -- CONTENT
 
-pub after-nil : (c : Content) → after [] c ≡ c
+pub after_nil : (c : Content) → after [] c ≡ c
 unfolding after
-after-nil (stands_for c) = refl
-after-nil bad = refl
+after_nil (stands_for c) = refl
+after_nil bad = refl
 
 pub after-after : (u w : List ℕ) (c : Content) → after u (after w c) ≡ after (u ++ w) c
 unfolding after

@@ -41,10 +41,10 @@ rest f ks r {b} n t h = either (r ≡ f b) (eqb r (f b)) (some ks b) (byte (λ k
 
 -- A RANGE that lies below
 
-and-false : (t : Bool) → t && false ≡ false
-and-false true = refl
-and-false false = refl
+and_false : (t : Bool) → t && false ≡ false
+and_false true = refl
+and_false false = refl
 
-pub range-above : (lo hi b : ℕ) → hi < b → is_in (lo to hi) b ≡ false
+pub range_above : (lo hi b : ℕ) → hi < b → is_in (lo to hi) b ≡ false
 unfolding is_in
-range-above lo hi b h = rw (lt-leb b hi h) (and-false (leb lo b))
+range_above lo hi b h = rw (lt-leb b hi h) (and_false (leb lo b))

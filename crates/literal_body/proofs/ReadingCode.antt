@@ -15,7 +15,7 @@ use Rattle.scanning.specs.Stands.{span}
 use Rattle.literal_body.specs.LiteralAnswers.{decoded_by, Put}
 use Rattle.literal_body.specs.LiteralReading.{Yields, Progressed, DecodesInto}
 use Rattle.literal_body.specs.declared.Progress.{Progress}
-use Rattle.literal_body.proofs.LiteralCode.{front-part, part_end, put-none, put-more, after-nil, after-after, content-is, decodes}
+use Rattle.literal_body.proofs.LiteralCode.{front-part, part_end, put-none, put-more, after_nil, after-after, content-is, decodes}
 
 -- PLACES
 
@@ -42,7 +42,7 @@ span-least s i end stop e = go (leb end (length s)) refl
 
 module _ {content : List ℕ → Content} {s : List ℕ} {stop from : ℕ} where
   pub yields_none : Yields content s stop from from []
-  yields_none = record { is = sym (after-nil (content (span from stop s))); ahead = omega arith; inside = omega arith; short = omega arith }
+  yields_none = record { is = sym (after_nil (content (span from stop s))); ahead = omega arith; inside = omega arith; short = omega arith }
 
   pub yields_more : {at to : ℕ} {ws vs : List ℕ} → Yields content s stop from at ws → Yields content s stop at to vs → Yields content s stop from to (ws ++ vs)
   yields_more {at} {to} {ws} {vs} x y =
@@ -59,17 +59,17 @@ module _ {content : List ℕ → Content} {s : List ℕ} {stop from : ℕ} {b : 
   progress_start =
       record { done = []; yields = yields_none; put = put-none b p; size = refl; ahead = omega arith; inside = omega arith; short = omega arith; same = refl }
 
-  pub progress-more : {b₁ b₂ : List ℕ} {r : Progress} {to p' n : ℕ} {ws : List ℕ} → Progressed content s stop from b b₁ p r → Yields content s stop r.next to ws
+  pub progress_more : {b₁ b₂ : List ℕ} {r : Progress} {to p' n : ℕ} {ws : List ℕ} → Progressed content s stop from b b₁ p r → Yields content s stop r.next to ws
       → Put b₁ b₂ r.pos p' ws → n ≡ length ws → Progressed content s stop from b b₂ p (record { next = to; pos = p'; size = r.size + n })
-  progress-more {b₁} {b₂} {r} {to} {p'} {n} {ws} x y z e =
+  progress_more {b₁} {b₂} {r} {to} {p'} {n} {ws} x y z e =
       let w = put-more x.put z in
       let k = yields_more x.yields y in
       let f : r.size + n ≡ length (x.done ++ ws) = omega (arith, x.size, length-append x.done ws) in
       record { done = x.done ++ ws; yields = k; put = w; size = f; ahead = k.ahead; inside = k.inside; short = omega (arith, k.short); same = w.same }
 
-  pub progress-append : {b₁ b₂ : List ℕ} {r q : Progress} → Progressed content s stop from b b₁ p r → Progressed content s stop r.next b₁ b₂ r.pos q
+  pub progress_append : {b₁ b₂ : List ℕ} {r q : Progress} → Progressed content s stop from b b₁ p r → Progressed content s stop r.next b₁ b₂ r.pos q
       → Progressed content s stop from b b₂ p (record { next = q.next; pos = q.pos; size = r.size + q.size })
-  progress-append x y = progress-more x y.yields y.put y.size
+  progress_append x y = progress_more x y.yields y.put y.size
 
 -- THE WHOLE
 

@@ -25,7 +25,7 @@ use Rattle.walk_answer.specs.declared.Passed.{Passed}
 use Rattle.walk_answer.specs.declared.Passed.TheVariants.{Span as SpanV}
 use Rattle.walk_answer.proofs.Leaves.{Left}
 use Rattle.walk_answer.proofs.Slices.{bytes_of}
-use Rattle.walk_answer.proofs.WalkCycle.{reached, tail-is, all-leaves, all_one, all-double}
+use Rattle.walk_answer.proofs.WalkCycle.{reached, tail_is, all-leaves, all_one, all_double}
 use Rattle.walk_parts.proofs.WalkItems.{all_told}
 use Rattle.path.specs.Following.{Place, at, onto, behind_one, past_one, step_to, standing, nth_from, child_by, child_in, numbered, follow_from, trace}
 use Rattle.path.specs.StepAnswers.{Step as StepOf}
@@ -33,18 +33,18 @@ use Rattle.looking.specs.GuidedAnswers.{Walks, Passes, Below, Leads, WayInside, 
 use Rattle.looking.specs.declared.guided.Way.{Way}
 use Rattle.looking.specs.declared.guided.Guided.{Guided}
 use Rattle.looking.specs.declared.guided.Guided.TheVariants.{Found, Unknown}
-use Rattle.path.proofs.Stepping.{left-of, less_by, less-mode, past_some, skip, Got, got, mode-is, child-is}
-use Rattle.looking.proofs.Joining.{all-over, all-on, Last, last_of, not-ended, all_join, all-raised, array-one, map-one}
+use Rattle.path.proofs.Stepping.{left_of, less_by, less_mode, past_some, skip, Got, got, mode_is, child-is}
+use Rattle.looking.proofs.Joining.{all-over, all-on, Last, last_of, not_ended, all_join, all_raised, array-one, map-one}
 
 -- PAST ITEMS
 
 raised : {d k : ℕ} (s : List ℕ) (i : ℕ) {r : List ℕ} → Bytes s → d ≤ 16 → Walks d (counted k) (drop i s) r → Walks 16 (counted k) (drop i s) r
-raised {d} {k} s i b l w = record { size = w.size; is = all-raised d k (drop i s) (bytes_cut i s b).1 l w.is }
+raised {d} {k} s i b l w = record { size = w.size; is = all_raised d k (drop i s) (bytes_cut i s b).1 l w.is }
 
 module _ {s : List ℕ} {from d : ℕ} (b : Below s from d) (g : (i : ℕ) → Fits w8 (get_or s i 0)) (mode count : ℕ) where
-  pub pass-over : {t : Bool} {r : ℕ} → Turned s from mode count t → t ≡ true → length s * 1 < 2 ^ 63 → r ≡ capped from (behind_by mode) → Passes s from d (until_by mode count) r
+  pub pass_over : {t : Bool} {r : ℕ} → Turned s from mode count t → t ≡ true → length s * 1 < 2 ^ 63 → r ≡ capped from (behind_by mode) → Passes s from d (until_by mode count) r
   unfolding step_by
-  pass-over {t} {r} tu y long e =
+  pass_over {t} {r} tu y long e =
       let i = tu.inside y b.inside in
       let n : from + behind_by mode ≡ r = omega arith in
       record {
@@ -55,34 +55,34 @@ module _ {s : List ℕ} {from d : ℕ} (b : Below s from d) (g : (i : ℕ) → F
         bytes = bytes_of s g;
       }
 
-  pub pass-not : {r : ℕ} → length s * 1 < 2 ^ 63 → r ≡ 0xffffffffffffffff → Passes s from d (until_by mode count) r
-  pass-not long e = record { is = λ h. absurd (omega arith); bytes = bytes_of s g }
+  pub pass_not : {r : ℕ} → length s * 1 < 2 ^ 63 → r ≡ 0xffffffffffffffff → Passes s from d (until_by mode count) r
+  pass_not long e = record { is = λ h. absurd (omega arith); bytes = bytes_of s g }
 
   module _ (inner : Passed) (long : length s * 1 < 2 ^ 63) (told : pass_told inner ≡ told_of (length (take (length s - from) (drop from s))) (all_of 4 (suc d) (until_by mode count) (take (length s - from) (drop from s)))) (part : Passed)
       (after : pass_told part ≡ after_told from 0 (pass_told inner)) where
-    pub pass-made : {m : Passage} → part ≡ SpanV m → Passes s from d (until_by mode count) m.end
-    pass-made {m} f =
+    pub pass_made : {m : Passage} → part ≡ SpanV m → Passes s from d (until_by mode count) m.end
+    pass_made {m} f =
         let res = all_of 4 (suc d) (until_by mode count) (drop from s) in
         let q = reached res part (all_told 4 (suc d) (until_by mode count) inner part (record { inside = b.inside }) long told after) f in
         let l : Left 0 (drop from s) q.rest m.size = rw q.is at (all-leaves 4 (suc d) (until_by mode count) (drop from s)) in
-        let r : q.rest ≡ drop m.end s = (left-of 0 s from q.rest b.inside l).drops ∙ ap (λ (x : ℕ). drop x s) (sym q.ends) in
+        let r : q.rest ≡ drop m.end s = (left_of 0 s from q.rest b.inside l).drops ∙ ap (λ (x : ℕ). drop x s) (sym q.ends) in
         record { is = λ h. record { size = m.size; is = q.is ∙ ap (ok m.size) r }; bytes = bytes_of s g }
 
-  pub pass-quick : {r x y : ℕ} → length s * 1 < 2 ^ 63 → Quick (told_of (length (take (length s - from) (drop from s))) (all_of 4 (suc d) (until_by mode count) (take (length s - from) (drop from s)))) r
+  pub pass_quick : {r x y : ℕ} → length s * 1 < 2 ^ 63 → Quick (told_of (length (take (length s - from) (drop from s))) (all_of 4 (suc d) (until_by mode count) (take (length s - from) (drop from s)))) r
       → (r ≡ 0xffffffffffffffff → ⊥) → r < 2 ^ 64 → x ≡ r % 4294967296 → y ≡ from + x → Passes s from d (until_by mode count) y
   unfolding pass_told after_told
-  pass-quick {r} {x} {y} long q n l e f =
+  pass_quick {r} {x} {y} long q n l e f =
       let a : y ≡ min (from + r % 4294967296) (2 ^ 64 - 1) = omega (arith, b.inside) in
       let z : r / 4294967296 ≡ min (0 + r / 4294967296) (2 ^ 64 - 1) = omega arith in
-      pass-made (SpanV (record { end = r % 4294967296; size = r / 4294967296 })) long (q.is n) (SpanV (record { end = y; size = r / 4294967296 })) (λ j. passed (a j) (z j)) refl
+      pass_made (SpanV (record { end = r % 4294967296; size = r / 4294967296 })) long (q.is n) (SpanV (record { end = y; size = r / 4294967296 })) (λ j. passed (a j) (z j)) refl
 
-pub ruleset pass-ways = (pass-over, pass-not, pass-quick)
+pub ruleset pass_ways = (pass_over, pass_not, pass_quick)
 
 -- THE ITEM AT THE END OF THE PATH
 
-pub whole-not : {s path : List ℕ} {i d : ℕ} → Inside s path i d Unknown
+pub whole_not : {s path : List ℕ} {i d : ℕ} → Inside s path i d Unknown
 unfolding IfFound
-whole-not = record { told = tt }
+whole_not = record { told = tt }
 
 pub whole-found : {s : List ℕ} {i d : ℕ} {end : ℕ} → Below s i d → Passes s i d (until_by 0 1) end → end ≤ length s → Inside s [] i d (Found (record { start = i; end = end; behind = end }))
 unfolding IfFound until_by follow_from
@@ -90,23 +90,23 @@ whole-found {s} {i} {d} b p h =
     let w = p.is h in
     record { told = record { walks = w; leads = record { follows = λ j. refl; item = raised s i p.bytes b.low w; starts = b.inside; ends = h; inside = h } } }
 
-pub ruleset whole-ways = (whole-not, whole-found)
+pub ruleset whole_ways = (whole_not, whole-found)
 
 -- AMONG SEVERAL
 
-pub among-not : {s path : List ℕ} {from d mode count before : ℕ} → Among s path from d mode count before Unknown
+pub among_not : {s path : List ℕ} {from d mode count before : ℕ} → Among s path from d mode count before Unknown
 unfolding IfFound
-among-not = record { told = tt }
+among_not = record { told = tt }
 
-pub among-at : {s : List ℕ} {from d i : ℕ} → Below s from d → i ≤ length s → Below s i d
-among-at b h = record { inside = h; low = b.low }
+pub among_at : {s : List ℕ} {from d i : ℕ} → Below s from d → i ≤ length s → Below s i d
+among_at b h = record { inside = h; low = b.low }
 
-inner-way : {s path : List ℕ} {i d : ℕ} {a : Guided} {w : Way} → Inside s path i d a → a ≡ Found w → WayInside s path i d w
+inner_way : {s path : List ℕ} {i d : ℕ} {a : Guided} {w : Way} → Inside s path i d a → a ≡ Found w → WayInside s path i d w
 unfolding IfFound
-inner-way inn e = rw e at inn.told
+inner_way inn e = rw e at inn.told
 
-pub among-behind : {s path : List ℕ} {from d i : ℕ} {a : Guided} {w : Way} → Below s from d → Inside s path i d a → a ≡ Found w → Below s w.behind d
-among-behind b inn e = record { inside = (inner-way inn e).leads.inside; low = b.low }
+pub among_behind : {s path : List ℕ} {from d i : ℕ} {a : Guided} {w : Way} → Below s from d → Inside s path i d a → a ≡ Found w → Below s w.behind d
+among_behind b inn e = record { inside = (inner_way inn e).leads.inside; low = b.low }
 
 module _ {s : List ℕ} {from d : ℕ} (mode count before : ℕ) {i : ℕ} (b : Below s from d) (p : Passes s from d (until_by 0 before) i) (h : i ≤ length s) {left : ℕ} (el : left ≡ count - before) {t : Bool} (tu : Turned s i mode left t) (no : t ≡ false) where
   stands : step_at (until_by mode (count - before)) (drop i s) ≡ another (until_by mode (count - before - 1))
@@ -117,7 +117,7 @@ module _ {s : List ℕ} {from d : ℕ} (mode count before : ℕ) {i : ℕ} (b : 
 
   module _ {path : List ℕ} {a : Guided} (inn : Inside s path i d a) {w : Way} (e : a ≡ Found w) {n end : ℕ} (en : n ≡ left - 1) (q : Passes s w.behind d (until_by mode n) end) (k : end ≤ length s) where
     way : WayInside s path i d w
-    way = inner-way inn e
+    way = inner_way inn e
 
     one : one_of 4 (suc d) (drop i s) ≡ ok way.walks.size (drop w.behind s)
     one = sym (all_one 4 (suc d) (drop i s)) ∙ way.walks.is
@@ -125,12 +125,12 @@ module _ {s : List ℕ} {from d : ℕ} (mode count before : ℕ) {i : ℕ} (b : 
     others : all_of 4 (suc d) (until_by mode (count - before - 1)) (drop w.behind s) ≡ ok (q.is k).size (drop end s)
     others = ap (λ (x : ℕ). all_of 4 (suc d) (until_by mode x) (drop w.behind s)) (ap (λ (x : ℕ). x - 1) (sym el) ∙ sym en) ∙ (q.is k).is
 
-    pub among-found : Among s path from d mode count before (Found (record { start = w.start; end = w.end; behind = end }))
+    pub among_found : Among s path from d mode count before (Found (record { start = w.start; end = w.end; behind = end }))
     unfolding IfFound until_by
-    among-found =
+    among_found =
         let f = p.is h in
         let v = way.leads in
-        let u = sym (less-mode before mode count) in
+        let u = sym (less_mode before mode count) in
         let on = all-on (suc d) (until_by mode (count - before)) (until_by mode (count - before - 1)) (drop i s) stands one others in
         let join = all_join (suc d) before (until_by mode count) (drop from s) f.is (ap (λ (x : Until). step_at x (drop i s)) (sym u) ∙ stands) (ap (λ (x : Until). all_of 4 (suc d) x (drop i s)) (sym u) ∙ on) in
         record {
@@ -143,7 +143,7 @@ module _ {s : List ℕ} {from d : ℕ} (mode count before : ℕ) {i : ℕ} (b : 
           };
         }
 
-pub ruleset among-ways = (among-not, among-found)
+pub ruleset among_ways = (among_not, among_found)
 
 -- INSIDE AN ITEM
 
@@ -189,43 +189,43 @@ module _ (s : List ℕ) (i : ℕ) {h : HeadAt} (a : HeadRead) (told : head_told 
   pub inside-room : {d e : ℕ} → Below s i d → e ≡ d - 1 → Below s h.end e
   inside-room b l = record { inside = omega (arith, g.ends); low = omega (arith, b.low) }
 
-  until-is : {mode : ℕ} → mode ≡ mode_by h.info → until_by mode h.argument ≡ extent g.head.size g.head.argument
-  until-is v = ap (λ (m : ℕ). until_by m h.argument) v ∙ mode-is h.info h.argument ∙ g.extends
+  until_is : {mode : ℕ} → mode ≡ mode_by h.info → until_by mode h.argument ≡ extent g.head.size g.head.argument
+  until_is v = ap (λ (m : ℕ). until_by m h.argument) v ∙ mode_is h.info h.argument ∙ g.extends
 
   module _ {p : List ℕ} (k d : ℕ) {mode : ℕ} (v : mode ≡ mode_by h.info) where
     module _ (e : h.major ≡ 4) {w : Way} (am : WayAmong s p h.end d mode h.argument k w) where
-      to-element : child_in k (drop i s) ≡ at (drop am.at s)
+      to_element_lem : child_in k (drop i s) ≡ at (drop am.at s)
       unfolding child_by
-      to-element =
+      to_element_lem =
           child-is k s i a told f ∙ rw (eq-eqb h.major 4 e, child_by)
-          (ap (λ (u : Until). nth_from 4 k u (drop h.end s)) (sym (mode-is h.info h.argument) ∙ ap (λ (m : ℕ). until_by m h.argument) (sym v))
-          ∙ nth-at 4 k (until_by mode h.argument) (drop h.end s) am.front.is (ap (λ (u : Until). step_at u (drop am.at s)) (less-mode k mode h.argument) ∙ am.stands))
+          (ap (λ (u : Until). nth_from 4 k u (drop h.end s)) (sym (mode_is h.info h.argument) ∙ ap (λ (m : ℕ). until_by m h.argument) (sym v))
+          ∙ nth-at 4 k (until_by mode h.argument) (drop h.end s) am.front.is (ap (λ (u : Until). step_at u (drop am.at s)) (less_mode k mode h.argument) ∙ am.stands))
 
       in_array : WayInside s (k ∷ p) i (suc d) w
       in_array =
           record {
             walks = record {
               size = am.walks.size;
-              is = all_one 4 (suc (suc d)) (drop i s) ∙ array-one d (drop i s) g.head g.rest g.is (sym g.major ∙ e) ((λ z. all_of 4 (suc d) (sym (until-is v) z) (sym g.drops z)) ∙ am.walks.is);
+              is = all_one 4 (suc (suc d)) (drop i s) ∙ array-one d (drop i s) g.head g.rest g.is (sym g.major ∙ e) ((λ z. all_of 4 (suc d) (sym (until_is v) z) (sym g.drops z)) ∙ am.walks.is);
             };
-            leads = steps (drop i s) (drop am.at s) to-element am.leads;
+            leads = steps (drop i s) (drop am.at s) to_element_lem am.leads;
           }
 
     module _ (e : h.major ≡ 5) (c : mode ≡ 0) {w : Way} (am : WayAmong s p h.end d 0 (h.argument * 2) (k * 2 + 1) w) where
       open_is : counted h.argument ≡ extent g.head.size g.head.argument
       unfolding until_by
-      open_is = ap (λ (m : ℕ). until_by m h.argument) (sym c) ∙ until-is v
+      open_is = ap (λ (m : ℕ). until_by m h.argument) (sym c) ∙ until_is v
 
       key : Last 17 (k * 2) (drop h.end s) (drop am.at s)
       key = let n : k * 2 + 1 ≡ suc (k * 2) = omega arith in last_of 17 (k * 2) (drop h.end s) (ap (λ (x : ℕ). all_of 4 17 (counted x) (drop h.end s)) (sym n) ∙ am.front.is)
 
-      to-value : child_in k (drop i s) ≡ at (drop am.at s)
+      to_value_lem : child_in k (drop i s) ≡ at (drop am.at s)
       unfolding child_by onto past_one behind_one until_by less_by
-      to-value =
+      to_value_lem =
           let o = none_left (h.argument * 2 - (k * 2 + 1)) (drop am.at s) am.stands in
           child-is k s i a told f ∙ rw (ne_eqb h.major 4 (λ x. omega arith), child_by) (rw (eq-eqb h.major 5 e)
           (ap (λ (u : Until). onto (nth_from 5 k u (drop h.end s)) (past_one 4)) (g.extends ∙ sym open_is)
-          ∙ ap (λ (x : Place). onto x (past_one 4)) (nth-at 5 k (counted h.argument) (drop h.end s) (sym (all-double 17 k (drop h.end s)) ∙ key.front) (some_left (h.argument - k) key.before (λ x. o (omega arith))))
+          ∙ ap (λ (x : Place). onto x (past_one 4)) (nth-at 5 k (counted h.argument) (drop h.end s) (sym (all_double 17 k (drop h.end s)) ∙ key.front) (some_left (h.argument - k) key.before (λ x. o (omega arith))))
           ∙ ap behind_one key.last))
 
       in_map : WayInside s (k ∷ p) i (suc d) w
@@ -235,14 +235,14 @@ module _ (s : List ℕ) (i : ℕ) {h : HeadAt} (a : HeadRead) (told : head_told 
             walks = record {
               size = am.walks.size;
               is = all_one 4 (suc (suc d)) (drop i s)
-                  ∙ map-one d (drop i s) g.head g.rest g.is (sym g.major ∙ e) ((λ z. all_of 5 (suc d) (sym open_is z) (sym g.drops z)) ∙ sym (all-double (suc d) h.argument (drop h.end s)) ∙ am.walks.is);
+                  ∙ map-one d (drop i s) g.head g.rest g.is (sym g.major ∙ e) ((λ z. all_of 5 (suc d) (sym open_is z) (sym g.drops z)) ∙ sym (all_double (suc d) h.argument (drop h.end s)) ∙ am.walks.is);
             };
-            leads = steps (drop i s) (drop am.at s) to-value am.leads;
+            leads = steps (drop i s) (drop am.at s) to_value_lem am.leads;
           }
 
 -- the steps behind the first, as the code has them
-same-among : {s p q : List ℕ} {from d e mode count x k : ℕ} {r : Guided} → q ≡ p → e ≡ d → x ≡ k → Among s q from e mode count x r → Among s p from d mode count k r
-same-among a b c m = rw (← a, ← b, ← c) m
+same_among : {s p q : List ℕ} {from d e mode count x k : ℕ} {r : Guided} → q ≡ p → e ≡ d → x ≡ k → Among s q from e mode count x r → Among s p from d mode count k r
+same_among a b c m = rw (← a, ← b, ← c) m
 
 module _ (s path : List ℕ) (i levels : ℕ) {h : HeadAt} (a : HeadRead) (told : head_told a ≡ head_at s i) (f : a ≡ HeadV h) (some : length path ≡ 0 → ⊥) (deep : levels ≡ 0 → ⊥) {x : ℕ} (st : StepOf (get_or path 0 0) x) {mode : ℕ} (v : mode ≡ mode_by h.info) where
   pub inside-array : {r : Guided} → h.major ≡ 4 → Among s (take (length path - 1) (drop 1 path)) h.end (levels - 1) mode h.argument x r → Inside s path i levels r
@@ -256,7 +256,7 @@ module _ (s path : List ℕ) (i levels : ℕ) {h : HeadAt} (a : HeadRead) (told 
       go : (q : List ℕ) (l : ℕ) → (length q ≡ 0 → ⊥) → (l ≡ 0 → ⊥) → x ≡ get_or q 0 0 → Among s (take (length q - 1) (drop 1 q)) h.end (l - 1) mode h.argument x r → Inside s q i l r
       go [] l n o y m = absurd (n refl)
       go (k ∷ p) zero n o y m = absurd (o refl)
-      go (k ∷ p) (suc d) n o y m = let u : suc d - 1 ≡ d = omega arith in record { told = by k p d r (same-among (tail-is (k ∷ p) 1) u y m).told }
+      go (k ∷ p) (suc d) n o y m = let u : suc d - 1 ≡ d = omega arith in record { told = by k p d r (same_among (tail_is (k ∷ p) 1) u y m).told }
 
   pub inside-map : {r : Guided} → h.major ≡ 5 → mode ≡ 0 → Among s (take (length path - 1) (drop 1 path)) h.end (levels - 1) 0 (h.argument * 2) (x * 2 + 1) r → Inside s path i levels r
   unfolding IfFound
@@ -269,9 +269,9 @@ module _ (s path : List ℕ) (i levels : ℕ) {h : HeadAt} (a : HeadRead) (told 
       go : (q : List ℕ) (l : ℕ) → (length q ≡ 0 → ⊥) → (l ≡ 0 → ⊥) → x ≡ get_or q 0 0 → Among s (take (length q - 1) (drop 1 q)) h.end (l - 1) 0 (h.argument * 2) (x * 2 + 1) r → Inside s q i l r
       go [] l n o y m = absurd (n refl)
       go (k ∷ p) zero n o y m = absurd (o refl)
-      go (k ∷ p) (suc d) n o y m = let u : suc d - 1 ≡ d = omega arith in record { told = by k p d r (same-among (tail-is (k ∷ p) 1) u (ap (λ (z : ℕ). z * 2 + 1) y) m).told }
+      go (k ∷ p) (suc d) n o y m = let u : suc d - 1 ≡ d = omega arith in record { told = by k p d r (same_among (tail_is (k ∷ p) 1) u (ap (λ (z : ℕ). z * 2 + 1) y) m).told }
 
-pub ruleset inside-ways = (whole-not, inside-empty, inside-array, inside-map)
+pub ruleset inside_ways = (whole_not, inside-empty, inside-array, inside-map)
 
 -- ALL OF THE BYTES
 
@@ -279,12 +279,12 @@ pub through_not : {s path : List ℕ} → Through s path Unknown
 unfolding IfFound
 through_not = record { told = tt }
 
-pub through-start : {s : List ℕ} → Below s 0 16
-through-start = record { inside = omega arith; low = omega arith }
+pub through_start : {s : List ℕ} → Below s 0 16
+through_start = record { inside = omega arith; low = omega arith }
 
-way-through : {s p : List ℕ} {k : ℕ} {w : Way} → Bytes s → length s ≤ 65535 → WayAmong s p 0 16 2 0 k w → WayThrough s (k ∷ p) w
+way_through : {s p : List ℕ} {k : ℕ} {w : Way} → Bytes s → length s ≤ 65535 → WayAmong s p 0 16 2 0 k w → WayThrough s (k ∷ p) w
 unfolding until_by trace numbered less_by
-way-through {s} {p} {k} b l m =
+way_through {s} {p} {k} b l m =
     record {
       bytes = b;
       short = l;
@@ -295,21 +295,21 @@ way-through {s} {p} {k} b l m =
       ends = m.leads.ends;
     }
 
-pub through-found : (s path : List ℕ) {x : ℕ} {r : Guided} → ((i : ℕ) → Fits w8 (get_or s i 0)) → length s ≤ 65535 → (length path ≡ 0 → ⊥) → StepOf (get_or path 0 0) x → Among s (take (length path - 1) (drop 1 path)) 0 16 2 0 x r → Through s path r
+pub through_found : (s path : List ℕ) {x : ℕ} {r : Guided} → ((i : ℕ) → Fits w8 (get_or s i 0)) → length s ≤ 65535 → (length path ≡ 0 → ⊥) → StepOf (get_or path 0 0) x → Among s (take (length path - 1) (drop 1 path)) 0 16 2 0 x r → Through s path r
 unfolding IfFound
-through-found s path {x} {r} g l some st m = go path some st.is m
+through_found s path {x} {r} g l some st m = go path some st.is m
   where
     by : (k : ℕ) (p : List ℕ) (r : Guided) → IfFound (WayAmong s p 0 16 2 0 k) r → IfFound (WayThrough s (k ∷ p)) r
-    by k p (Found w) m = way-through (bytes_of s g) l m
+    by k p (Found w) m = way_through (bytes_of s g) l m
     by k p Unknown m = tt
 
     go : (q : List ℕ) → (length q ≡ 0 → ⊥) → x ≡ get_or q 0 0 → Among s (take (length q - 1) (drop 1 q)) 0 16 2 0 x r → Through s q r
     go [] n y m = absurd (n refl)
-    go (k ∷ p) n y m = record { told = by k p r (same-among (tail-is (k ∷ p) 1) refl y m).told }
+    go (k ∷ p) n y m = record { told = by k p r (same_among (tail_is (k ∷ p) 1) refl y m).told }
 
 -- a top item
-pub through-at : {s : List ℕ} {i : ℕ} → i ≤ length s → Below s i 16
-through-at h = record { inside = h; low = omega arith }
+pub through_at : {s : List ℕ} {i : ℕ} → i ≤ length s → Below s i 16
+through_at h = record { inside = h; low = omega arith }
 
 pub top-found : {s : List ℕ} {k i end all : ℕ} → length s ≤ 65535 → Passes s 0 16 (until_by 0 k) i → i ≤ length s → Passes s i 16 (until_by 0 1) end → end ≤ length s → Passes s end 16 (until_by 2 0) all → all ≤ length s
     → Through s (k ∷ []) (Found (record { start = i; end = end; behind = all }))
@@ -318,7 +318,7 @@ top-found {s} {k} {i} {end} {all} short p h q l o m =
     let front = p.is h in
     let own = q.is l in
     let one = sym (all_one 4 17 (drop i s)) ∙ own.is in
-    let stands = not-ended 17 (drop i s) one in
+    let stands = not_ended 17 (drop i s) one in
     record {
       told = record {
         bytes = p.bytes;
@@ -331,14 +331,14 @@ top-found {s} {k} {i} {end} {all} short p h q l o m =
       };
     }
 
-pub ruleset top-ways = (through_not, top-found)
+pub ruleset top_ways = (through_not, top-found)
 
-pub through-top : {s path : List ℕ} {x : ℕ} {r : Guided} → length path ≡ 1 → StepOf (get_or path 0 0) x → Through s (x ∷ []) r → Through s path r
-through-top {s} {path} {x} {r} n st t = go path n st.is
+pub through_top : {s path : List ℕ} {x : ℕ} {r : Guided} → length path ≡ 1 → StepOf (get_or path 0 0) x → Through s (x ∷ []) r → Through s path r
+through_top {s} {path} {x} {r} n st t = go path n st.is
   where
     go : (q : List ℕ) → length q ≡ 1 → x ≡ get_or q 0 0 → Through s q r
     go [] n e = absurd (omega arith)
     go (k ∷ []) n e = rw (← e) t
     go (k ∷ (j ∷ q)) n e = absurd (omega arith)
 
-pub ruleset through-ways = (through_not, through-top, through-found)
+pub ruleset through_ways = (through_not, through_top, through_found)

@@ -14,11 +14,11 @@ use Rattle.cbor.specs.Heads.{Head, Major, arrays, maps, major_number, major_of, 
 use Rattle.cbor.specs.Encode.{encode}
 use Rattle.cbor.specs.Valid.{Bytes, Valid}
 use Rattle.cbor.specs.Decode.{Until, counted, broken, ended, Step, finished, another, step_at, several_by, elements, entries, item_by, item_with, item, extent}
-use Rattle.cbor.proofs.DecodeEncode.{enter_at, by-head, item-of-encode}
-use Rattle.cbor.proofs.EncodeDecode.{WellRead, item-well}
+use Rattle.cbor.proofs.DecodeEncode.{enter_at, by-head, item_of_encode}
+use Rattle.cbor.proofs.EncodeDecode.{WellRead, item_well}
 use Rattle.cbor.proofs.Heads.{major-back}
 use Rattle.walk_answer.specs.WalkAnswers.{contents, contents_all, contents_all₂, map_result, below, one_of, all_of}
-use Rattle.walk_answer.proofs.Leaves.{same, several-eq}
+use Rattle.walk_answer.proofs.Leaves.{same, several_eq}
 use Rattle.walk_answer.proofs.ItemLeaves.{elements-sized, entries-sized}
 use Rattle.walk_parts.proofs.StringCode.{sized-made}
 use Rattle.walk_answer.proofs.WalkCycle.{one-leaves, all_more, all_none}
@@ -26,18 +26,18 @@ use Rattle.path.proofs.Stepping.{less_by, less_none}
 
 -- ONE AND THE OTHERS
 
-all-eq : (d : ℕ) (u : Until) (s : List ℕ) → all_of 4 d u s ≡ several_by 0 ◌+◌ (one_of 4 d) (all_of 4 d) (step_at u s) s
+all_eq : (d : ℕ) (u : Until) (s : List ℕ) → all_of 4 d u s ≡ several_by 0 ◌+◌ (one_of 4 d) (all_of 4 d) (step_at u s) s
 unfolding all_of
-all-eq d u s = several-eq 0 ◌+◌ (one_of 4 d) same (one-leaves 4 d) u s
+all_eq d u s = several_eq 0 ◌+◌ (one_of 4 d) same (one-leaves 4 d) u s
 
 pub all-over : (d : ℕ) (u : Until) (s : List ℕ) {r : List ℕ} → step_at u s ≡ finished r → all_of 4 d u s ≡ ok 0 r
 unfolding several_by
-all-over d u s e = all-eq d u s ∙ ap (λ (y : Step). several_by 0 ◌+◌ (one_of 4 d) (all_of 4 d) y s) e
+all-over d u s e = all_eq d u s ∙ ap (λ (y : Step). several_by 0 ◌+◌ (one_of 4 d) (all_of 4 d) y s) e
 
 pub all-on : (d : ℕ) (u v : Until) (s : List ℕ) {r t : List ℕ} {m n : ℕ} → step_at u s ≡ another v → one_of 4 d s ≡ ok m r → all_of 4 d v r ≡ ok n t → all_of 4 d u s ≡ ok (m + n) t
 unfolding several_by bind
 all-on d u v s {r} {t} {m} e f g =
-    all-eq d u s ∙ ap (λ (y : Step). several_by 0 ◌+◌ (one_of 4 d) (all_of 4 d) y s) e
+    all_eq d u s ∙ ap (λ (y : Step). several_by 0 ◌+◌ (one_of 4 d) (all_of 4 d) y s) e
     ∙ ap (λ (x : Result ℕ). bind x (λ k q. bind (all_of 4 d v q) (λ n q'. ok (k + n) q'))) f
     ∙ ap (λ (x : Result ℕ). bind x (λ n q'. ok (m + n) q')) g
 
@@ -96,10 +96,10 @@ no-break (suc (suc d)) s e = let o : ◌≡◌ {A = ℕ} 0 1 = cc in absurd (ome
 no_none : (d : ℕ) {m : ℕ} {r : List ℕ} → one_of 4 d [] ≡ ok m r → ⊥
 no_none d e = let l = rw e at (one-leaves 4 d []) in absurd (omega (arith, l.less))
 
-pub not-ended : (d : ℕ) (s : List ℕ) {m : ℕ} {r : List ℕ} → one_of 4 d s ≡ ok m r → step_at ended s ≡ another ended
+pub not_ended : (d : ℕ) (s : List ℕ) {m : ℕ} {r : List ℕ} → one_of 4 d s ≡ ok m r → step_at ended s ≡ another ended
 unfolding step_at
-not-ended d [] e = absurd (no_none d e)
-not-ended d (b ∷ s) e = refl
+not_ended d [] e = absurd (no_none d e)
+not_ended d (b ∷ s) e = refl
 
 -- where an item stands they are not over, if that one and some more are asked for
 goes : (d k : ℕ) (u : Until) (s r : List ℕ) {m : ℕ} {q : List ℕ} {v : Until} → one_of 4 d s ≡ ok m q → step_at (less_by (suc k) u) r ≡ another v → (w : Until) × (step_at u s ≡ another w) × (less_by (suc k) u ≡ less_by k w)
@@ -135,23 +135,23 @@ all_join d (suc k) u s {z} {y} {r} {t} {v} e st h =
 
 -- MORE LEVELS
 
-one-raised : (d : ℕ) (s : List ℕ) {m : ℕ} {r : List ℕ} → Bytes s → d ≤ 16 → one_of 4 (suc d) s ≡ ok m r → (one_of 4 17 s ≡ ok m r) × Bytes r
+one_raised : (d : ℕ) (s : List ℕ) {m : ℕ} {r : List ℕ} → Bytes s → d ≤ 16 → one_of 4 (suc d) s ≡ ok m r → (one_of 4 17 s ≡ ok m r) × Bytes r
 unfolding one_of below map_result
-one-raised d s {m} {r} b l e = by (item d s) (item-well d s b) e
+one_raised d s {m} {r} b l e = by (item d s) (item_well d s b) e
   where
     by : (res : Result Item) → WellRead encode (λ x. Valid x × (levels x ≤ d)) s res → map_result contents res ≡ ok m r → (map_result contents (item 16 s) ≡ ok m r) × Bytes r
     by (ok x t) w f =
         let c : t ≡ r = cc in
-        (ap (map_result contents) (ap (item 16) w.is ∙ item-of-encode x 16 t w.good.0 (omega (arith, w.good.1))) ∙ f, rw (← c) w.rest)
+        (ap (map_result contents) (ap (item 16) w.is ∙ item_of_encode x 16 t w.good.0 (omega (arith, w.good.1))) ∙ f, rw (← c) w.rest)
     by (refuse n q) w f = let o : ◌≡◌ {A = ℕ} 0 1 = cc in absurd (omega arith)
 
-pub all-raised : (d k : ℕ) (s : List ℕ) {z : ℕ} {r : List ℕ} → Bytes s → d ≤ 16 → all_of 4 (suc d) (counted k) s ≡ ok z r → all_of 4 17 (counted k) s ≡ ok z r
+pub all_raised : (d k : ℕ) (s : List ℕ) {z : ℕ} {r : List ℕ} → Bytes s → d ≤ 16 → all_of 4 (suc d) (counted k) s ≡ ok z r → all_of 4 17 (counted k) s ≡ ok z r
 unfolding step_at
-all-raised d zero s b l e = all_none 4 17 s ∙ sym (all_none 4 (suc d) s) ∙ e
-all-raised d (suc k) s {z} {r} b l e =
+all_raised d zero s b l e = all_none 4 17 s ∙ sym (all_none 4 (suc d) s) ∙ e
+all_raised d (suc k) s {z} {r} b l e =
     let f = first_of (suc d) k s e in
-    let o = one-raised d s b l f.first in
-    all-on 17 (counted (suc k)) (counted k) s refl o.0 (all-raised d k f.behind o.1 l f.rest) ∙ ap (λ (x : ℕ). ok x r) f.sum
+    let o = one_raised d s b l f.first in
+    all-on 17 (counted (suc k)) (counted k) s refl o.0 (all_raised d k f.behind o.1 l f.rest) ∙ ap (λ (x : ℕ). ok x r) f.sum
 
 -- INSIDE AN ITEM
 

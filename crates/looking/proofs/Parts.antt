@@ -21,8 +21,8 @@ use Rattle.walk_answer.specs.declared.Walked.TheVariants.{Made as MadeV, Refused
 use Rattle.walk_answer.specs.declared.Passage.{Passage}
 use Rattle.walk_answer.specs.declared.Passed.{Passed}
 use Rattle.walk_answer.specs.declared.Passed.TheVariants.{Span as SpanV, Refused as RefusedV}
-use Rattle.cbor.proofs.DecodeEncode.{item-of-encode}
-use Rattle.cbor.proofs.EncodeDecode.{encode-of-decode}
+use Rattle.cbor.proofs.DecodeEncode.{item_of_encode}
+use Rattle.cbor.proofs.EncodeDecode.{encode_of_decode}
 use Rattle.cbor.proofs.Paths.{part-at-path}
 use Rattle.walk_answer.proofs.WalkCycle.{all_one}
 use Rattle.walk_parts.proofs.WalkItems.{item-told, all_short}
@@ -41,7 +41,7 @@ use Rattle.part.specs.declared.Located.{Located}
 use Rattle.part.specs.declared.Located.TheVariants.{Part as PartV, Refused as PartRefused}
 use Rattle.path.specs.declared.Trace.{Trace}
 use Rattle.path.specs.declared.Trace.TheVariants.{At, Lost}
-use Rattle.path.proofs.Traces.{SoundAll, spotted, locate-place, locate-sound}
+use Rattle.path.proofs.Traces.{SoundAll, spotted, locate-place, locate_sound}
 
 -- bytes that were checked, with their items
 pub record Read (s : List ℕ) : Type 0 where
@@ -53,14 +53,14 @@ pub record Read (s : List ℕ) : Type 0 where
 read_of : (s : List ℕ) (m : Passage) (res : Result Items) → Bytes s → decode s ≡ res → pass_told (SpanV m) ≡ told_of (length s) (map_result contents_all res) → Read s
 unfolding pass_told told_of map_result items_of verdict_of
 read_of s m (ok xs r) b e h =
-    let d = encode-of-decode s xs r b e in
+    let d = encode_of_decode s xs r b e in
     record { items = xs; is = ap (verdict_of (length s)) e; same = d.same; sound = (d.valid, d.low) }
 read_of s m (refuse n l) b e h = let z : ◌≡◌ {A = ℕ} 0 1 = cc in absurd (omega arith)
 
-refused-of : (s path : List ℕ) (e : Refusal) (res : Result Items) → decode s ≡ res → pass_told (RefusedV e) ≡ told_of (length s) (map_result contents_all res) → locate_told (PartRefused e) ≡ locate_of (look_up s path)
+refused_of : (s path : List ℕ) (e : Refusal) (res : Result Items) → decode s ≡ res → pass_told (RefusedV e) ≡ told_of (length s) (map_result contents_all res) → locate_told (PartRefused e) ≡ locate_of (look_up s path)
 unfolding pass_told told_of map_result items_of verdict_of look_up and_then locate_told locate_of
-refused-of s path e (ok xs r) d h = let z : ◌≡◌ {A = ℕ} 0 1 = cc in absurd (omega arith)
-refused-of s path e (refuse k l) d h =
+refused_of s path e (ok xs r) d h = let z : ◌≡◌ {A = ℕ} 0 1 = cc in absurd (omega arith)
+refused_of s path e (refuse k l) d h =
     let i : kind_number e.kind ≡ k = cc in
     let j : e.place ≡ length s - l = cc in
     (λ x. locate_refused (i x) (j x)) ∙ sym (rw d)
@@ -84,13 +84,13 @@ stands_of : (s path : List ℕ) (r : Read s) (i : ℕ) (z : Spot) → i ≤ leng
 unfolding start end
 stands_of s path r i z h e d =
     let p = part-at-path path r.items z e in
-    let v = locate-sound path r.items z r.sound e in
+    let v = locate_sound path r.items z r.sound e in
     let w : drop i s ≡ encode z.item ++ z.behind = d ∙ ap (λ (t : List ℕ). encode z.item ++ t) (append-nil z.behind) in
     let n : length s ≡ length z.before + (length (encode z.item) + length z.behind) =
     ap length (sym r.same ∙ p.was) ∙ length-append z.before (encode z.item ++ z.behind) ∙ ap (λ (k : ℕ). length z.before + k) (length-append (encode z.item) z.behind) in
     let m : length s - i ≡ length (encode z.item) + length z.behind = sym (length-drop i s) ∙ ap length w ∙ length-append (encode z.item) z.behind in
     record {
-      reads = ap (item_at 16) w ∙ item-of-encode z.item 16 z.behind v.0 v.1;
+      reads = ap (item_at 16) w ∙ item_of_encode z.item 16 z.behind v.0 v.1;
       begins = omega arith;
       ends = omega arith;
       inside = omega arith;
@@ -112,38 +112,38 @@ found_at t (nowhere j) e = let z : ◌≡◌ {A = ℕ} 0 1 = cc in absurd (omega
 -- THE CHECK
 
 module _ {s : List ℕ} {a : Passed} (ch : Checks s a) where
-  pub check-refused : {path : List ℕ} {e : Refusal} → a ≡ RefusedV e → Parts s path (PartRefused e)
+  pub check_refused_lem : {path : List ℕ} {e : Refusal} → a ≡ RefusedV e → Parts s path (PartRefused e)
   unfolding walk_all_of Ordered
-  check-refused {path} {e} f = record { is = refused-of s path e (decode s) refl (rw f at ch.is); inside = tt }
+  check_refused_lem {path} {e} f = record { is = refused_of s path e (decode s) refl (rw f at ch.is); inside = tt }
 
-  pub check-accepted : {m : Passage} → a ≡ SpanV m → Accepts s
-  check-accepted {m} f = record { whole = m; checks = rw f at ch }
+  pub check_accepted : {m : Passage} → a ≡ SpanV m → Accepts s
+  check_accepted {m} f = record { whole = m; checks = rw f at ch }
 
 -- STEP BY STEP
 
-read-in : {s : List ℕ} → Accepts s → Read s
+read_in : {s : List ℕ} → Accepts s → Read s
 unfolding walk_all_of
-read-in {s} ac = read_of s ac.whole (decode s) ac.checks.bytes refl ac.checks.is
+read_in {s} ac = read_of s ac.whole (decode s) ac.checks.bytes refl ac.checks.is
 
 module _ {s path : List ℕ} (ac : Accepts s) where
   module _ {tr : Trace} (told : Traced s path tr) where
     pub part-lost : {i : ℕ} {r : Located} → tr ≡ Lost i → r ≡ PartRefused (record { kind = NoSuchPath; place = i }) → Parts s path r
     unfolding traced_to locate_told locate_of Ordered kind_number
     part-lost {i} e h =
-        let t : nowhere i ≡ spotted (locate path (read-in ac).items) [] = sym (ap (traced_to s) e) ∙ told.is ∙ trace-is path (read-in ac) in
-        rw h (record { is = sym (ap locate_of (look_is path (read-in ac) ∙ lost-at s i (locate path (read-in ac).items) t)); inside = tt })
+        let t : nowhere i ≡ spotted (locate path (read_in ac).items) [] = sym (ap (traced_to s) e) ∙ told.is ∙ trace-is path (read_in ac) in
+        rw h (record { is = sym (ap locate_of (look_is path (read_in ac) ∙ lost-at s i (locate path (read_in ac).items) t)); inside = tt })
 
     module _ {c : Cursor} (e : tr ≡ At c) where
       pub part_room : c.at ≤ length s
       unfolding Still
       part_room = rw e at told.inside
 
-      spot : (z : Spot) × (locate path (read-in ac).items ≡ found z) × (drop c.at s ≡ encode z.item ++ (z.behind ++ []))
+      spot : (z : Spot) × (locate path (read_in ac).items ≡ found z) × (drop c.at s ≡ encode z.item ++ (z.behind ++ []))
       unfolding traced_to
-      spot = found_at (drop c.at s) (locate path (read-in ac).items) (sym (ap (traced_to s) e) ∙ told.is ∙ trace-is path (read-in ac))
+      spot = found_at (drop c.at s) (locate path (read_in ac).items) (sym (ap (traced_to s) e) ∙ told.is ∙ trace-is path (read_in ac))
 
       spot-stands : Stands s c.at spot.0
-      spot-stands = stands_of s path (read-in ac) c.at spot.0 part_room spot.1 spot.2
+      spot-stands = stands_of s path (read_in ac) c.at spot.0 part_room spot.1 spot.2
 
       module _ (inner : Walked) (long : length s * 1 < 2 ^ 63)
           (walked : walk_told inner ≡ walk_of (length (take (length s - c.at) (drop c.at s))) (item_at 16 (take (length s - c.at) (drop c.at s)))) (whole : Walked)
@@ -151,9 +151,9 @@ module _ {s path : List ℕ} (ac : Accepts s) where
         whole-told : walk_told whole ≡ walk_of (length s) (ok spot.0.item spot.0.behind)
         whole-told = item-told 16 s c.at inner whole part_room long walked after ∙ ap (walk_of (length s)) spot-stands.reads
 
-        pub part-gone : {x : Refusal} → whole ≡ WalkRefusedV x → Parts s path (PartRefused x)
+        pub part_gone : {x : Refusal} → whole ≡ WalkRefusedV x → Parts s path (PartRefused x)
         unfolding walk_told walk_of
-        part-gone g = let h = rw g at whole-told in let z : ◌≡◌ {A = ℕ} 0 1 = cc in absurd (omega arith)
+        part_gone g = let h = rw g at whole-told in let z : ◌≡◌ {A = ℕ} 0 1 = cc in absurd (omega arith)
 
         pub part-made : {w : WalkedItem} {r : Located} → whole ≡ MadeV w → r ≡ PartV (record { start = c.at; end = w.end }) → Parts s path r
         unfolding walk_told walk_of locate_told locate_of spot_of Ordered
@@ -165,51 +165,51 @@ module _ {s path : List ℕ} (ac : Accepts s) where
             let o : c.at ≤ w.end = omega (arith, st.begins, spot-order spot.0) in
             let b : w.end ≤ length s = omega (arith, st.inside) in
             rw h (record {
-              is = (λ j. part_found (st.begins j) (q j)) ∙ sym (ap locate_of (look_is path (read-in ac) ∙ ap spot_of spot.1));
+              is = (λ j. part_found (st.begins j) (q j)) ∙ sym (ap locate_of (look_is path (read_in ac) ∙ ap spot_of spot.1));
               inside = (o, b);
             })
 
-pub ruleset part-ways = (part-lost, part-gone, part-made)
+pub ruleset part_ways = (part-lost, part_gone, part-made)
 
 -- IN ONE WALK
 
 module _ {s path : List ℕ} {w : Way} (v : WayThrough s path w) where
-  through-all : Accepts s
+  through_all : Accepts s
   unfolding pass_told told_of until_by
-  through-all =
+  through_all =
       record {
         whole = record { end = length s - length (drop w.behind s); size = v.walks.size };
         checks = record { is = all_short s v.short (sym (ap (told_of (length s)) v.walks.is)); bytes = v.bytes };
       }
 
-  through-trace : Traced s path (At (record { at = w.start }))
+  through_trace : Traced s path (At (record { at = w.start }))
   unfolding traced_to Still
-  through-trace = record { is = sym v.traces; inside = v.starts }
+  through_trace = record { is = sym v.traces; inside = v.starts }
 
   -- the item that was walked over is the one at the path
-  ends-alike : (res : Result Item) (x : Item) (r : List ℕ) (n : ℕ) → res ≡ ok x r → map_result contents res ≡ ok n (drop w.end s) → r ≡ drop w.end s
+  ends_alike : (res : Result Item) (x : Item) (r : List ℕ) (n : ℕ) → res ≡ ok x r → map_result contents res ≡ ok n (drop w.end s) → r ≡ drop w.end s
   unfolding map_result
-  ends-alike (ok y t) x r n e f = let a : t ≡ r = cc in let b : t ≡ drop w.end s = cc in sym a ∙ b
-  ends-alike (refuse k l) x r n e f = let z : ◌≡◌ {A = ℕ} 0 1 = cc in absurd (omega arith)
+  ends_alike (ok y t) x r n e f = let a : t ≡ r = cc in let b : t ≡ drop w.end s = cc in sym a ∙ b
+  ends_alike (refuse k l) x r n e f = let z : ◌≡◌ {A = ℕ} 0 1 = cc in absurd (omega arith)
 
-  part-through : Parts s path (PartV (record { start = w.start; end = w.end }))
+  part_through : Parts s path (PartV (record { start = w.start; end = w.end }))
   unfolding locate_told locate_of spot_of Ordered one_of below
-  part-through =
-      let z = spot through-all through-trace refl in
-      let st = spot-stands through-all through-trace refl in
+  part_through =
+      let z = spot through_all through_trace refl in
+      let st = spot-stands through_all through_trace refl in
       let own : map_result contents (item_at 16 (drop w.start s)) ≡ ok v.item.size (drop w.end s) = sym (all_one 4 17 (drop w.start s)) ∙ v.item.is in
-      let same = ends-alike (item_at 16 (drop w.start s)) z.0.item z.0.behind v.item.size st.reads own in
+      let same = ends_alike (item_at 16 (drop w.start s)) z.0.item z.0.behind v.item.size st.reads own in
       let n : length z.0.behind ≡ length s - w.end = ap length same ∙ length-drop w.end s in
       let q : w.end ≡ end z.0 = omega (arith, st.ends, v.ends) in
       record {
-        is = (λ j. part_found (st.begins j) (q j)) ∙ sym (ap locate_of (look_is path (read-in through-all) ∙ ap spot_of z.1));
+        is = (λ j. part_found (st.begins j) (q j)) ∙ sym (ap locate_of (look_is path (read_in through_all) ∙ ap spot_of z.1));
         inside = (omega (arith, st.begins, spot-order z.0), v.ends);
       }
 
 module _ {s path : List ℕ} {a : Guided} (t : Through s path a) where
   pub at_once : {w : Way} {r : Located} → a ≡ FoundWay w → r ≡ PartV (record { start = w.start; end = w.end }) → Parts s path r
   unfolding IfFound
-  at_once e h = rw h (part-through (rw e at t.told))
+  at_once e h = rw h (part_through (rw e at t.told))
 
 -- LOOK UP
 
@@ -217,8 +217,8 @@ pub located : {s path : List ℕ} {r : Located} → Parts s path r → locate_to
 located p = p.is
 
 module _ {s path : List ℕ} {r : Located} (p : Parts s path r) where
-  pub look-ordered : Ordered s r
-  look-ordered = p.inside
+  pub look_ordered : Ordered s r
+  look_ordered = p.inside
 
-  pub look-taken : {w : List ℕ} → w ≡ taken s r → w ≡ part_of s (look_up s path)
-  look-taken e = e ∙ taken_is s r (look_up s path) p.is
+  pub look_taken : {w : List ℕ} → w ≡ taken s r → w ≡ part_of s (look_up s path)
+  look_taken e = e ∙ taken_is s r (look_up s path) p.is

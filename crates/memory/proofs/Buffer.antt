@@ -15,9 +15,9 @@ use Rattle.memory.specs.Buffer.{over, clipped, over_if_fits, if_fits, moved_up, 
 
 -- OVER
 
-pub over-nil : (b : List ℕ) (p : ℕ) → over b p [] ≡ b
+pub over_nil : (b : List ℕ) (p : ℕ) → over b p [] ≡ b
 unfolding over
-over-nil b p = rw add-zero (take-append-drop p b)
+over_nil b p = rw add-zero (take-append-drop p b)
 
 -- what stands before p is kept, and what stands from p on is what was written with the rest behind it
 module _ (b : List ℕ) (p : ℕ) (ws : List ℕ) (h : p ≤ length b) where
@@ -47,17 +47,17 @@ module _ (b : List ℕ) (p : ℕ) (ws : List ℕ) (h : p ≤ length b) where
       let l : p ≤ p = omega arith in
       sym (get_or-take p (over b p ws) i 0 lt) ∙ ap (λ (x : List ℕ). get_or x i 0) (take-over p l) ∙ get_or-take p b i 0 lt
 
-  pub get_d-behind : (i : ℕ) → p + length ws ≤ i → get_or (over b p ws) i 0 ≡ get_or b i 0
-  get_d-behind i le =
+  pub get_d_behind : (i : ℕ) → p + length ws ≤ i → get_or (over b p ws) i 0 ≡ get_or b i 0
+  get_d_behind i le =
       let e : p + length ws + (i - (p + length ws)) + 0 ≡ i = omega arith in
       let at : (x : List ℕ) → get_or (drop (p + length ws + (i - (p + length ws))) x) 0 0 ≡ get_or x i 0
       = λ x. get_or-drop (p + length ws + (i - (p + length ws))) x 0 0 ∙ ap (λ (k : ℕ). get_or x k 0) e in
       sym (at (over b p ws)) ∙ ap (λ (x : List ℕ). get_or x 0 0) (drop-behind (i - (p + length ws))) ∙ at b
 
   -- through what was written
-  pub take-through : take (p + length ws) (over b p ws) ≡ take p b ++ ws
+  pub take_through : take (p + length ws) (over b p ws) ≡ take p b ++ ws
   unfolding over
-  take-through =
+  take_through =
       let l : length (take p b ++ ws) ≡ p + length ws = simp (length-append, length-take-le p b h) in
       rw (← append_assoc (take p b) ws (drop (p + length ws) b)) (take_at (take p b ++ ws) (drop (p + length ws) b) (p + length ws) l)
 
@@ -65,12 +65,12 @@ module _ (b : List ℕ) (p : ℕ) (ws : List ℕ) (h : p ≤ length b) where
   pub over-more : (vs : List ℕ) → over (over b p ws) (p + length ws) vs ≡ over b p (ws ++ vs)
   unfolding over
   over-more vs =
-      rw (take-through, drop-behind (length vs)) (simp (append_assoc, length-append, ← add_assoc))
+      rw (take_through, drop-behind (length vs)) (simp (append_assoc, length-append, ← add_assoc))
 
   -- a part that covers the first
-  pub over-cover : (q : ℕ) (vs : List ℕ) → q ≤ p → p + length ws ≤ q + length vs → over (over b p ws) q vs ≡ over b q vs
+  pub over_cover : (q : ℕ) (vs : List ℕ) → q ≤ p → p + length ws ≤ q + length vs → over (over b p ws) q vs ≡ over b q vs
   unfolding over
-  over-cover q vs le ge =
+  over_cover q vs le ge =
       let e : q + length vs ≡ p + length ws + (q + length vs - (p + length ws)) = omega arith in
       let d : drop (q + length vs) (over b p ws) ≡ drop (q + length vs) b = rw e (drop-behind (q + length vs - (p + length ws))) in
       rw (take-over q le, d)
@@ -101,8 +101,8 @@ over-set b p v ws h =
     over-one (over b (p + 1) ws) p v l ∙ over-before b p (v ∷ []) ws f
 
 -- one store behind a part that was written
-pub over-snoc : (b : List ℕ) (p v : ℕ) (ws : List ℕ) → p + length ws < length b → set (over b p ws) (p + length ws) v ≡ over b p (ws ++ (v ∷ []))
-over-snoc b p v ws h =
+pub over_snoc : (b : List ℕ) (p v : ℕ) (ws : List ℕ) → p + length ws < length b → set (over b p ws) (p + length ws) v ≡ over b p (ws ++ (v ∷ []))
+over_snoc b p v ws h =
     let f : p + length ws ≤ length b = omega arith in
     let g : p ≤ length b = omega arith in
     let l : p + length ws < length (over b p ws) = rw (length_over b p ws f) h in
@@ -112,9 +112,9 @@ over-snoc b p v ws h =
 pub length_part : (b : List ℕ) (p size : ℕ) → p + size ≤ length b → length (take size (drop p b)) ≡ size
 length_part b p size h = length-take-le size (drop p b) (rw (length-drop p b) (omega arith))
 
-pub over-keep : (b : List ℕ) (p size : ℕ) → p + size ≤ length b → over b p (take size (drop p b)) ≡ b
+pub over_keep : (b : List ℕ) (p size : ℕ) → p + size ≤ length b → over b p (take size (drop p b)) ≡ b
 unfolding over
-over-keep b p size h = rw (length_part b p size h, ← drop-drop size p b) (rw (take-append-drop size (drop p b)) (take-append-drop p b))
+over_keep b p size h = rw (length_part b p size h, ← drop-drop size p b) (rw (take-append-drop size (drop p b)) (take-append-drop p b))
 
 -- CLIPPED
 
@@ -126,7 +126,7 @@ module _ (b : List ℕ) (p : ℕ) (ws : List ℕ) where
 
   pub clipped-past : length b ≤ p → clipped b p ws ≡ b
   unfolding clipped
-  clipped-past h = let e : length b - p ≡ 0 = omega arith in ap (λ (n : ℕ). over b p (take n ws)) e ∙ over-nil b p
+  clipped-past h = let e : length b - p ≡ 0 = omega arith in ap (λ (n : ℕ). over b p (take n ws)) e ∙ over_nil b p
 
   pub length-clipped : length (clipped b p ws) ≡ length b
   unfolding clipped
@@ -140,9 +140,9 @@ module _ (b : List ℕ) (p : ℕ) (ws : List ℕ) where
       go false e = let h : length b ≤ p = omega (arith, leb-false p (length b) e) in ap length (clipped-past h)
 
 module _ (b : List ℕ) (p : ℕ) where
-  pub clipped-nil : clipped b p [] ≡ b
+  pub clipped_nil : clipped b p [] ≡ b
   unfolding clipped
-  clipped-nil = ap (over b p) (take_all (length b - p) [] (omega arith)) ∙ over-nil b p
+  clipped_nil = ap (over b p) (take_all (length b - p) [] (omega arith)) ∙ over_nil b p
 
   -- one store
   pub clipped-one : (v : ℕ) → p < length b → set b p v ≡ clipped b p (v ∷ [])
@@ -179,16 +179,16 @@ module _ (b : List ℕ) (p : ℕ) (ws : List ℕ) where
   unfolding over_if_fits
   written-fits h = rw (le-leb (p + length ws) (length b) h, over_if_fits)
 
-  pub written-not : length b < p + length ws → over_if_fits b p ws ≡ b
+  pub written_not : length b < p + length ws → over_if_fits b p ws ≡ b
   unfolding over_if_fits
-  written-not h = rw (lt-leb (p + length ws) (length b) h, over_if_fits)
+  written_not h = rw (lt-leb (p + length ws) (length b) h, over_if_fits)
 
   pub length-written : length (over_if_fits b p ws) ≡ length b
   length-written = go (leb (p + length ws) (length b)) refl
     where
       go : (t : Bool) → leb (p + length ws) (length b) ≡ t → length (over_if_fits b p ws) ≡ length b
       go true e = let h : p + length ws ≤ length b = leb-true (p + length ws) (length b) e in rw (written-fits h) (length_over b p ws h)
-      go false e = rw (written-not (leb-false (p + length ws) (length b) e))
+      go false e = rw (written_not (leb-false (p + length ws) (length b) e))
 
 module _ (b : List ℕ) (p : ℕ) where
   -- one store
@@ -229,8 +229,8 @@ module _ (n : ℕ) (b r : List ℕ) where
   fitting-no h = rw (lt-leb n (length b) h, if_fits)
 
   -- what both have
-  pub fitting-both : (P : List ℕ → Type 0) → (n ≤ length b → P r) → P b → P (if_fits n b r)
-  fitting-both P y z = go (leb n (length b)) refl
+  pub fitting_both : (P : List ℕ → Type 0) → (n ≤ length b → P r) → P b → P (if_fits n b r)
+  fitting_both P y z = go (leb n (length b)) refl
     where
       go : (t : Bool) → leb n (length b) ≡ t → P (if_fits n b r)
       go true e = let h : n ≤ length b = leb-true n (length b) e in rw (fitting-yes h) (y h)
@@ -239,11 +239,11 @@ module _ (n : ℕ) (b r : List ℕ) where
 -- a write is as long as the buffer, and what is in front of it stays
 module _ (n : ℕ) (b : List ℕ) (p : ℕ) (ws : List ℕ) (h : n ≤ length b → p + length ws ≤ length b) where
   fitting-length : length (if_fits n b (over b p ws)) ≡ length b
-  fitting-length = fitting-both n b (over b p ws) (λ (x : List ℕ). length x ≡ length b) (λ f. length_over b p ws (h f)) refl
+  fitting-length = fitting_both n b (over b p ws) (λ (x : List ℕ). length x ≡ length b) (λ f. length_over b p ws (h f)) refl
 
   fitting-front : (k : ℕ) → k ≤ p → take k (if_fits n b (over b p ws)) ≡ take k b
   fitting-front k le =
-      fitting-both n b (over b p ws) (λ (x : List ℕ). take k x ≡ take k b) (λ f. let g : p ≤ length b = omega (arith, h f) in take-over b p ws g k le) refl
+      fitting_both n b (over b p ws) (λ (x : List ℕ). take k x ≡ take k b) (λ f. let g : p ≤ length b = omega (arith, h f) in take-over b p ws g k le) refl
 
 pub take-written : (b : List ℕ) (p : ℕ) (ws : List ℕ) (k : ℕ) → k ≤ p → take k (over_if_fits b p ws) ≡ take k b
 unfolding over_if_fits if_fits
@@ -312,7 +312,7 @@ module _ (b : List ℕ) (p : ℕ) (hs ws : List ℕ) (some : 0 < length hs) (h :
       let ge : p + 1 + length ws ≤ p + length (hs ++ ws) = rw (length-append hs ws) (omega arith) in
       fitting-yes (p + length hs + length ws) (over b (p + 1) ws) (over (over b (p + 1) ws) p (hs ++ take (length ws) (drop (p + 1) (over b (p + 1) ws)))) g
       ∙ ap (λ (x : List ℕ). over (over b (p + 1) ws) p (hs ++ x)) (over-read b (p + 1) ws i)
-      ∙ over-cover b (p + 1) ws i p (hs ++ ws) le ge
+      ∙ over_cover b (p + 1) ws i p (hs ++ ws) le ge
 
   pub closed-written : head_put (over_if_fits b (p + 1) ws) p hs (length ws) ≡ over_if_fits b p (hs ++ ws)
   closed-written =
@@ -329,15 +329,15 @@ module _ (b : List ℕ) (p : ℕ) (s : List ℕ) (n : ℕ) where
   unfolding copied
   copied-no h = rw (lt-leb n (length s) h, copied)
 
-  copied-both : (P : List ℕ → Type 0) → P (over_if_fits b p (take n s)) → P b → P (copied b p s n)
-  copied-both P y z = go (leb n (length s)) refl
+  copied_both : (P : List ℕ → Type 0) → P (over_if_fits b p (take n s)) → P b → P (copied b p s n)
+  copied_both P y z = go (leb n (length s)) refl
     where
       go : (t : Bool) → leb n (length s) ≡ t → P (copied b p s n)
       go true e = rw (copied-yes (leb-true n (length s) e)) y
       go false e = rw (copied-no (leb-false n (length s) e)) z
 
   pub length-copied : length (copied b p s n) ≡ length b
-  length-copied = copied-both (λ (x : List ℕ). length x ≡ length b) (length-written b p (take n s)) refl
+  length-copied = copied_both (λ (x : List ℕ). length x ≡ length b) (length-written b p (take n s)) refl
 
   pub take-copied : (k : ℕ) → k ≤ p → take k (copied b p s n) ≡ take k b
-  take-copied k le = copied-both (λ (x : List ℕ). take k x ≡ take k b) (take-written b p (take n s) k le) refl
+  take-copied k le = copied_both (λ (x : List ℕ). take k x ≡ take k b) (take-written b p (take n s) k le) refl

@@ -10,7 +10,7 @@ use Rattle.cbor.specs.Refusals.{ok, accepted}
 use Rattle.cbor.specs.Items.{Item, int, string, chunked, array, map, tag, simple, Items, levels}
 use Rattle.cbor.specs.Decode.{most_levels}
 use Rattle.cbor.specs.Paths.{Spot, found, nth, child, descend, locate}
-use Rattle.cbor.proofs.Results.{verdict-ok}
+use Rattle.cbor.proofs.Results.{verdict_ok}
 use Rattle.cbor.proofs.Utf8Text.{text_of}
 use Rattle.notation.specs.Scanning.{skip}
 use Rattle.notation.specs.Tokens.{leaf, whole, Token, begins}
@@ -19,15 +19,15 @@ use Rattle.notation.specs.Form.{at_start, one, take, beginning, obey, reads}
 use Rattle.notation.specs.Reading.{marked, sequence, read_text, single, read_item}
 use Rattle.notation.specs.Places.{to_element, into, toward, levels_at, around, Span, span_of, span_at, text_at}
 use Rattle.notation.specs.Theorems.{IntoLeaf, ItemsFound}
-use Rattle.notation_theorems.proofs.Good.{stop-nil, like}
+use Rattle.notation_theorems.proofs.Good.{stop_nil, like}
 use Rattle.notation_theorems.proofs.TextScan.{tested}
 use Rattle.notation_theorems.proofs.Locality.{next-skip}
 use Rattle.notation_theorems.proofs.ByName.{bind_ok, took-next}
 use Rattle.notation_theorems.proofs.Equations.{one-begins}
-use Rattle.notation_theorems.proofs.SoundToken.{next-sound}
+use Rattle.notation_theorems.proofs.SoundToken.{next_sound}
 use Rattle.notation_theorems.proofs.Substitution.{single-ok, Spanned}
-use Rattle.notation_theorems.proofs.Edited.{Passes, checked-ok, Read, read_ok, skip-twice, own, own-text, edited-text}
-use Rattle.notation_theorems.proofs.Ways.{Leads, leads-map, leads_any, leads-onward, onward-leads, Gives, gives-ok, Way, ToElement, items-lead, Step, enters, halts, child-leads}
+use Rattle.notation_theorems.proofs.Edited.{Passes, checked-ok, Read, read_ok, skip_twice, own, own_text, edited-text}
+use Rattle.notation_theorems.proofs.Ways.{Leads, leads-map, leads_any, leads-onward, onward-leads, Gives, gives-ok, Way, ToElement, items_lead, Step, enters, halts, child-leads}
 
 -- DOWN A PATH: d levels are left at s; the way by the path p leads to the text of the item y
 record Walk (d : ℕ) (p s : List ℕ) (y : Item) : Type 0 where
@@ -53,13 +53,13 @@ walk_here : (d : ℕ) (s a : List ℕ) (x : Item) → reads (one d) s ≡ ok x a
 unfolding toward levels_at obey
 walk_here d s a x e = record { from = s; behind = a; was = e; way = λ m n. refl }
 
-walk-on : (e k : ℕ) (p s : List ℕ) (x y : Item) (w : Way e (λ go. take (into e go k)) s x) → Walk e p w.from y → Walk (suc e) (k ∷ p) s y
+walk_on : (e k : ℕ) (p s : List ℕ) (x y : Item) (w : Way e (λ go. take (into e go k)) s x) → Walk e p w.from y → Walk (suc e) (k ∷ p) s y
 unfolding toward levels_at
-walk-on e k p s x y w h = record { from = h.from; behind = h.behind; was = h.was; way = λ m n. let o = w.on (toward e p) m n in o.2 ∙ h.way o.0 o.1 }
+walk_on e k p s x y w h = record { from = h.from; behind = h.behind; was = h.was; way = λ m n. let o = w.on (toward e p) m n in o.2 ∙ h.way o.0 o.1 }
 
 goes_on_lem : (e k : ℕ) (p s : List ℕ) (x y : Item) (w : Way e (λ go. take (into e go k)) s x) → Goes e p w.from y → Goes (suc e) (k ∷ p) s y
-unfolding walk-on
-goes_on_lem e k p s x y w (inl h) = inl (walk-on e k p s x y w h)
+unfolding walk_on
+goes_on_lem e k p s x y w (inl h) = inl (walk_on e k p s x y w h)
 goes_on_lem e k p s x y w (inr h) =
     inr
     (record {
@@ -68,7 +68,7 @@ goes_on_lem e k p s x y w (inr h) =
       rest = h.rest;
       path = ap (λ (u : List ℕ). k ∷ u) h.path;
       item = h.item;
-      walk = walk-on e k h.front s x h.item w h.walk;
+      walk = walk_on e k h.front s x h.item w h.walk;
       token = h.token;
     })
 
@@ -89,30 +89,30 @@ module _ (t : List ℕ) (k : ℕ) (p : List ℕ) {x y : Item} (w : ToElement mos
   span : Span
   span = record { start = suc (length t) - length (skip h.from); end = suc (length t) - length h.behind }
 
-  way-is : obey reads (to_element most_levels (toward most_levels p) k) 0 0 (marked t) ≡ ok tt h.from
-  way-is = let o = w.on (toward most_levels p) 0 0 in o.2 ∙ h.way o.0 o.1
+  way_is : obey reads (to_element most_levels (toward most_levels p) k) 0 0 (marked t) ≡ ok tt h.from
+  way_is = let o = w.on (toward most_levels p) 0 0 in o.2 ∙ h.way o.0 o.1
 
   span-is : span_at (k ∷ p) t ≡ found span
   unfolding span_at around span_of span
-  span-is = ap (span_of (suc (length t))) (bind_ok _ way-is ∙ bind_ok _ h.was)
+  span-is = ap (span_of (suc (length t))) (bind_ok _ way_is ∙ bind_ok _ h.was)
 
   spanned-is : Spanned k p t span
   unfolding span
-  spanned-is = record { from = h.from; behind = h.behind; old = y; way = way-is; was = h.was; start = refl; end = refl }
+  spanned-is = record { from = h.from; behind = h.behind; old = y; way = way_is; was = h.was; start = refl; end = refl }
 
 -- a token is read of its own text alone as it is in front of what stands behind
 next-alone : (s used a : List ℕ) (t : Token) → s ≡ used ++ a → next s ≡ ok t a → next used ≡ ok t []
 next-alone s used a t f e =
     let k = took-next s e in
-    rw (append_cancel_right used k.used a (sym f ∙ k.split)) (ap next (sym (append-nil k.used)) ∙ k.again 0 0 [] (like stop-nil))
+    rw (append_cancel_right used k.used a (sym f ∙ k.split)) (ap next (sym (append-nil k.used)) ∙ k.again 0 0 [] (like stop_nil))
 
 module _ (t : List ℕ) (xs : Items) (rd : Read t xs) (k : ℕ) (p : List ℕ) {x y : Item} (w : ToElement most_levels (marked t) k x) (h : Walk most_levels p w.from y) where
   token-is : next h.from ≡ ok (begins (leaf y)) h.behind → next (text_at t (span t k p w h)) ≡ ok (begins (leaf y)) []
   unfolding spanned-is
   token-is e =
       let sp = spanned-is t k p w h in
-      rw (own-text t xs k p (span t k p w h) rd sp)
-      (next-alone (skip h.from) (own t xs k p (span t k p w h) rd sp).used h.behind (begins (leaf y)) (own t xs k p (span t k p w h) rd sp).split (next-skip (skip h.from) h.from (skip-twice h.from) ∙ e))
+      rw (own_text t xs k p (span t k p w h) rd sp)
+      (next-alone (skip h.from) (own t xs k p (span t k p w h) rd sp).used h.behind (begins (leaf y)) (own t xs k p (span t k p w h) rd sp).split (next-skip (skip h.from) h.from (skip_twice h.from) ∙ e))
 
 -- what `every` says of a path
 abbrev Placed : List ℕ → List ℕ → Type 0
@@ -123,7 +123,7 @@ unfolding locate sequence
 text-leads t xs rd [] = tt
 text-leads t xs rd (k ∷ p) =
     rw (← rd.all)
-    (leads-onward (ToElement most_levels (marked t) k) (λ y. Placed t (k ∷ p)) (nth 0 k rd.closed.all) (descend 1 p) (items-lead k 0 whole at_start most_levels (marked t) rd.closed rd.rest rd.reading)
+    (leads-onward (ToElement most_levels (marked t) k) (λ y. Placed t (k ∷ p)) (nth 0 k rd.closed.all) (descend 1 p) (items_lead k 0 whole at_start most_levels (marked t) rd.closed rd.rest rd.reading)
     (λ x w. leads-map (Goes most_levels p w.from) (λ y. Placed t (k ∷ p)) (descend 1 p x) (λ y h. go x y w h) (path-leads p 1 most_levels w.from w.behind x w.was)))
   where
     go : (x y : Item) (w : ToElement most_levels (marked t) k x) → Goes most_levels p w.from y → Placed t (k ∷ p)
@@ -147,33 +147,33 @@ text-leads t xs rd (k ∷ p) =
 abbrev Childless : Item → Type 0
 Childless x = (i k : ℕ) → Leads (λ y. ⊥) (child i k x)
 
-childless-ends : (q : List ℕ) (i : ℕ) (x : Item) (k : ℕ) (p : List ℕ) → Leads Childless (descend i q x) → Leads (λ y. ⊥) (descend i (q ++ (k ∷ p)) x)
+childless_ends : (q : List ℕ) (i : ℕ) (x : Item) (k : ℕ) (p : List ℕ) → Leads Childless (descend i q x) → Leads (λ y. ⊥) (descend i (q ++ (k ∷ p)) x)
 unfolding descend
-childless-ends [] i x k p h = leads-onward (λ y. ⊥) (λ y. ⊥) (child i k x) (descend (suc i) p) (h i k) (λ y e. absurd e)
-childless-ends (j ∷ q) i x k p h =
-    onward-leads Childless (λ y. ⊥) (child i j x) (descend (suc i) q) (descend (suc i) (q ++ (k ∷ p))) (λ y h. childless-ends q (suc i) y k p h) h
+childless_ends [] i x k p h = leads-onward (λ y. ⊥) (λ y. ⊥) (child i k x) (descend (suc i) p) (h i k) (λ y e. absurd e)
+childless_ends (j ∷ q) i x k p h =
+    onward-leads Childless (λ y. ⊥) (child i j x) (descend (suc i) q) (descend (suc i) (q ++ (k ∷ p))) (λ y h. childless_ends q (suc i) y k p h) h
 
-flat-childless : (x : Item) → levels x ≡ 0 → Childless x
+flat_childless : (x : Item) → levels x ≡ 0 → Childless x
 unfolding levels child
-flat-childless (int g w n) e i k = tt
-flat-childless (string g w b) e i k = tt
-flat-childless (chunked g cs) e i k = tt
-flat-childless (array z xs) e i k = absurd (omega arith)
-flat-childless (map z ps) e i k = absurd (omega arith)
-flat-childless (tag w n x) e i k = tt
-flat-childless (simple n) e i k = tt
+flat_childless (int g w n) e i k = tt
+flat_childless (string g w b) e i k = tt
+flat_childless (chunked g cs) e i k = tt
+flat_childless (array z xs) e i k = absurd (omega arith)
+flat_childless (map z ps) e i k = absurd (omega arith)
+flat_childless (tag w n x) e i k = tt
+flat_childless (simple n) e i k = tt
 
-leaf-flat : (s : List ℕ) (x : Item) → Passes s → next s ≡ ok (begins (leaf x)) [] → levels x ≡ 0
-leaf-flat s x h e = (rw e at (next-sound s (text_of s h.utf8) (omega (arith, h.short)))).1.0.2
+leaf_flat : (s : List ℕ) (x : Item) → Passes s → next s ≡ ok (begins (leaf x)) [] → levels x ≡ 0
+leaf_flat s x h e = (rw e at (next_sound s (text_of s h.utf8) (omega (arith, h.short)))).1.0.2
 
 -- what is read where such a token stands alone
 leaf-reads : (d : ℕ) (s : List ℕ) (x y : Item) → read_item d s ≡ accepted y → next s ≡ ok (begins (leaf x)) [] → Childless y
 unfolding read_item beginning
 leaf-reads d s x y e f =
     let c = checked-ok s _ e in
-    let v = verdict-ok (length s) (single d s) c.1 in
+    let v = verdict_ok (length s) (single d s) c.1 in
     gives-ok (λ y r. Childless y) (beginning d (leaf x)) (place s) (place s) []
-    (tested (λ r. Gives (λ y r. Childless y) r []) (leb (levels x) d) _ _ (λ g. flat-childless x (leaf-flat s x c.0 f)) (λ g. tt))
+    (tested (λ r. Gives (λ y r. Childless y) r []) (leb (levels x) d) _ _ (λ g. flat_childless x (leaf_flat s x c.0 f)) (λ g. tt))
     (sym (one-begins d (leaf x) s [] f) ∙ single-ok d s v.1)
 
 leaf-ends : (t : List ℕ) (xs : Items) → read_text t ≡ accepted xs → (p : List ℕ) → IntoLeaf t p → Leads (λ y. ⊥) (locate p xs)
@@ -185,7 +185,7 @@ leaf-ends t xs e p l = go l.front l.path l.place
     go (k ∷ q) f g =
         let ed = edited-text t xs k q l.span e g in
         rw f
-        (onward-leads Childless (λ y. ⊥) (nth 0 k xs) (descend 1 q) (descend 1 (q ++ (l.step ∷ l.rest))) (λ x h. childless-ends q 1 x l.step l.rest h)
+        (onward-leads Childless (λ y. ⊥) (nth 0 k xs) (descend 1 q) (descend 1 (q ++ (l.step ∷ l.rest))) (λ x h. childless_ends q 1 x l.step l.rest h)
         (rw ed.place (leaf-reads (levels_at most_levels q) (text_at t l.span) l.item ed.spot.item ed.same l.token)))
 
 pub items-found : ItemsFound

@@ -43,21 +43,21 @@ within-good (suc f) n s =
     (lexing.good s) (λ t r. obey (reads_within f) (rules n t) (place s) (place s) r) (λ t r. obey-good (reads_within f) (within-good f) (rules n t) (place s) (place s) r)
 
 -- THE BOUND
-bind-alike : {A B : Type 0} (n : ℕ) (R : Result A) (f f' : A → List ℕ → Result B) → Below n R → ((x : A) (t : List ℕ) → length t < n → f x t ≡ f' x t) → bind R f ≡ bind R f'
+bind_alike : {A B : Type 0} (n : ℕ) (R : Result A) (f f' : A → List ℕ → Result B) → Below n R → ((x : A) (t : List ℕ) → length t < n → f x t ≡ f' x t) → bind R f ≡ bind R f'
 unfolding bind
-bind-alike n (ok x t) f f' b h = h x t b
-bind-alike n (refuse k w) f f' b h = refl
+bind_alike n (ok x t) f f' b h = h x t b
+bind_alike n (refuse k w) f f' b h = refl
 
 -- calls that are alike on texts of fewer than m elements
 module _ (m : ℕ) (c c' : Calls) (alike : (n : Name) (s : List ℕ) → length s < m → c n s ≡ c' n s) (c-below : (n : Name) (s : List ℕ) → Below (suc (length s)) (c n s)) where
-  obey-alike : {A : Type 0} (r : Rule A) (p q : ℕ) (s : List ℕ) → length s < m → obey c r p q s ≡ obey c' r p q s
+  obey_alike : {A : Type 0} (r : Rule A) (p q : ℕ) (s : List ℕ) → length s < m → obey c r p q s ≡ obey c' r p q s
   unfolding obey
-  obey-alike (give x) p q s h = refl
-  obey-alike (deny k) p q s h = refl
-  obey-alike (deny_first k) p q s h = refl
-  obey-alike (take f) p q s h = bind-alike (length s) (next s) _ _ (lexing.less s) (λ t r b. obey-alike (f t) p (place s) r (omega arith))
-  obey-alike (call n k) p q s h =
-      bind-alike (suc (length s)) (c n s) _ _ (c-below n s) (λ x r b. obey-alike (k x) p q r (omega arith))
+  obey_alike (give x) p q s h = refl
+  obey_alike (deny k) p q s h = refl
+  obey_alike (deny_first k) p q s h = refl
+  obey_alike (take f) p q s h = bind_alike (length s) (next s) _ _ (lexing.less s) (λ t r b. obey_alike (f t) p (place s) r (omega arith))
+  obey_alike (call n k) p q s h =
+      bind_alike (suc (length s)) (c n s) _ _ (c-below n s) (λ x r b. obey_alike (k x) p q r (omega arith))
       ∙ ap (λ R. bind R (λ x r. obey c' (k x) p q r)) (alike n s h)
 
 within-below : (f : ℕ) (n : Name) (s : List ℕ) → Below (suc (length s)) (reads_within f n s)
@@ -68,15 +68,15 @@ unfolding reads_within
 fuel zero f' n s h h' = absurd (omega arith)
 fuel (suc f) zero n s h h' = absurd (omega arith)
 fuel (suc f) (suc f') n s h h' =
-    bind-alike (length s) (next s) _ _ (lexing.less s)
-    (λ t r b. obey-alike (length s) (reads_within f) (reads_within f') (λ n' u b'. fuel f f' n' u (omega arith) (omega arith)) (within-below f) (rules n t) (place s) (place s) r b)
+    bind_alike (length s) (next s) _ _ (lexing.less s)
+    (λ t r b. obey_alike (length s) (reads_within f) (reads_within f') (λ n' u b'. fuel f f' n' u (omega arith) (omega arith)) (within-below f) (rules n t) (place s) (place s) r b)
 
 -- THE EQUATION of what is read by name
 pub reads-is : (n : Name) (s : List ℕ) → reads n s ≡ bind (next s) (λ t r. obey reads (rules n t) (place s) (place s) r)
 unfolding reads reads_within
 reads-is n s =
-    bind-alike (length s) (next s) _ _ (lexing.less s)
-    (λ t r b. obey-alike (length s) (reads_within (length s)) reads (λ n' u b'. fuel (length s) (suc (length u)) n' u b' (omega arith)) (within-below (length s)) (rules n t) (place s) (place s) r b)
+    bind_alike (length s) (next s) _ _ (lexing.less s)
+    (λ t r b. obey_alike (length s) (reads_within (length s)) reads (λ n' u b'. fuel (length s) (suc (length u)) n' u b' (omega arith)) (within-below (length s)) (rules n t) (place s) (place s) r b)
 
 -- and it reads well
 pub reads-good : (n : Name) (s : List ℕ) → Good (λ p q. reads n) s (reads n s)
@@ -99,15 +99,15 @@ reads-good n s = go (reads_within (suc (length s)) n s) refl (within-good (suc (
         let h = (rw (fuel f (suc (length s)) n s (omega arith) (omega arith) ∙ e) at (within-good f n s)) hard p q r st in
         (h.0, fuel (suc (length (s ++ r))) f n (s ++ r) (omega arith) (omega arith) ∙ h.1)
 
-pub rule-good : {A : Type 0} (r : Rule A) (p q : ℕ) (s : List ℕ) → Good (obey reads r) s (obey reads r p q s)
-rule-good r p q s = obey-good reads reads-good r p q s
+pub rule_good : {A : Type 0} (r : Rule A) (p q : ℕ) (s : List ℕ) → Good (obey reads r) s (obey reads r p q s)
+rule_good r p q s = obey-good reads reads-good r p q s
 
 -- a success, and a refusal that stays, of anything read by name
 pub took : (n : Name) (s : List ℕ) {x : Value n} {t : List ℕ} → reads n s ≡ ok x t → Took (λ p q. reads n) s x t
 took n s e = rw e at (reads-good n s)
 
-pub refused-stays : (n : Name) (s : List ℕ) {k w : ℕ} → reads n s ≡ refuse k w → Hard k → (r : List ℕ) → Blank r → (w' : ℕ) × (reads n (s ++ r) ≡ refuse k w')
-refused-stays n s e hard r st = (rw e at (reads-good n s)) hard 0 0 r st
+pub refused_stays : (n : Name) (s : List ℕ) {k w : ℕ} → reads n s ≡ refuse k w → Hard k → (r : List ℕ) → Blank r → (w' : ℕ) × (reads n (s ++ r) ≡ refuse k w')
+refused_stays n s e hard r st = (rw e at (reads-good n s)) hard 0 0 r st
 
 pub took-next : (s : List ℕ) {t : Token} {r : List ℕ} → next s ≡ ok t r → Took (λ p q. next) s t r
 took-next s e = rw e at (lexing.good s)

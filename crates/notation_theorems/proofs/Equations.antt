@@ -5,7 +5,7 @@ use mathlib.Core.Bool.{Bool, true, false}
 use mathlib.Core.List.{List}
 use Rattle.cbor.specs.Refusals.{Result, ok, refuse, bind}
 use Rattle.cbor.specs.Items.{Item}
-use Rattle.cbor.proofs.Results.{refuse-not-ok, bind-same, bind_assoc}
+use Rattle.cbor.proofs.Results.{refuse_not_ok, bind-same, bind_assoc}
 use Rattle.notation.specs.Tokens.{Beginning, Shape, Token, begins, closes, a_comma, a_colon}
 use Rattle.notation.specs.Cutting.{next, place}
 use Rattle.notation.specs.Form.{Position, one, items, pairs, Rule, give, deny, deny_first, take, call, then, strays, beginning, one_rule, after_item, items_rule, after_key, pairs_rule, rules, Calls, obey, reads}
@@ -52,13 +52,13 @@ one-starts d s {x} {t} e = go (next s) refl (sym (reads-is (one d) s) ∙ e)
   where
     go : (R : Result Token) → next s ≡ R → bind R (λ t r. obey reads (rules (one d) t) (place s) (place s) r) ≡ ok x t → (g : Beginning) × (r : List ℕ) × (next s ≡ ok (begins g) r)
     go (ok (begins g) r) h e = (g, r, h)
-    go (ok (closes h i) r) h' e = absurd (refuse-not-ok e)
-    go (ok a_comma r) h e = absurd (refuse-not-ok e)
-    go (ok a_colon r) h e = absurd (refuse-not-ok e)
-    go (refuse k w) h e = absurd (refuse-not-ok e)
+    go (ok (closes h i) r) h' e = absurd (refuse_not_ok e)
+    go (ok a_comma r) h e = absurd (refuse_not_ok e)
+    go (ok a_colon r) h e = absurd (refuse_not_ok e)
+    go (refuse k w) h e = absurd (refuse_not_ok e)
 
 -- a test in a rule
-pub obey-if : {A : Type 0} (v : Bool) (r r' : Rule A) (p q : ℕ) (s : List ℕ)
+pub obey_if : {A : Type 0} (v : Bool) (r r' : Rule A) (p q : ℕ) (s : List ℕ)
     → ◌≡◌ {A = Result A} (obey {A = A} reads (elim v [ true ↦ r | false ↦ r' ]) p q s) (elim v [ true ↦ obey reads r p q s | false ↦ obey reads r' p q s ])
-obey-if true r r' p q s = refl
-obey-if false r r' p q s = refl
+obey_if true r r' p q s = refl
+obey_if false r r' p q s = refl

@@ -16,12 +16,12 @@ use Rattle.notation.specs.Cutting.{next}
 
 -- a text that no token goes on into
 pub data Stop : List ℕ → Type 0 where
-  stop-nil : Stop []
-  stop-at : {b : ℕ} {s : List ℕ} → goes_on b ≡ false → Stop (b ∷ s)
+  stop_nil : Stop []
+  stop_at : {b : ℕ} {s : List ℕ} → goes_on b ≡ false → Stop (b ∷ s)
 
 -- a text that begins with a blank, or is empty
 pub data Blank : List ℕ → Type 0 where
-  blank-nil : Blank []
+  blank_nil : Blank []
   blank-at : {b : ℕ} {s : List ℕ} → is blank b ≡ true → Blank (b ∷ s)
 
 -- t stands behind what was read; t' may stand there as well: it is t to begin with, and then a text that no token goes on into
@@ -36,12 +36,12 @@ pub record Like (t t' : List ℕ) : Type 0 where
 pub like : {t t' : List ℕ} → Stop t' → Like t t'
 like {t} {t'} h = record { shared = []; old = t; new = t'; was = refl; now = refl; ends = h }
 
-pub like-app : (k t t' : List ℕ) → Like t t' → Like (k ++ t) (k ++ t')
-like-app k t t' l =
+pub like_app : (k t t' : List ℕ) → Like t t' → Like (k ++ t) (k ++ t')
+like_app k t t' l =
     record { shared = k ++ l.shared; old = l.old; new = l.new; was = cc (append_assoc k l.shared l.old); now = cc (append_assoc k l.shared l.new); ends = l.ends }
 
-pub like-more : (t r : List ℕ) → Stop r → Like t (t ++ r)
-like-more t r h = record { shared = t; old = []; new = r; was = sym (append-nil t); now = refl; ends = h }
+pub like_more : (t r : List ℕ) → Stop r → Like t (t ++ r)
+like_more t r h = record { shared = t; old = []; new = r; was = sym (append-nil t); now = refl; ends = h }
 
 -- the refusals that more text cannot take back
 pub record Hard (k : ℕ) : Type 0 where
@@ -70,11 +70,11 @@ good-below rd s (ok x t) g = omega (arith, simp length-append at (ap length g.sp
 good-below rd s (refuse k w) g = tt
 
 -- a reader that drops b and goes on as rd' does
-pub good-cons : {A : Type 0} (rd rd' : ℕ → ℕ → List ℕ → Result A) (b : ℕ) → ((p q : ℕ) (u : List ℕ) → rd p q (b ∷ u) ≡ rd' p q u) → (s : List ℕ) (R : Result A) → Good rd' s R
+pub good_cons : {A : Type 0} (rd rd' : ℕ → ℕ → List ℕ → Result A) (b : ℕ) → ((p q : ℕ) (u : List ℕ) → rd p q (b ∷ u) ≡ rd' p q u) → (s : List ℕ) (R : Result A) → Good rd' s R
     → Good rd (b ∷ s) R
-good-cons rd rd' b h s (ok x t) g =
+good_cons rd rd' b h s (ok x t) g =
     record { used = b ∷ g.used; split = ap (λ (u : List ℕ). b ∷ u) g.split; again = λ p q t' l. h p q (g.used ++ t') ∙ g.again p q t' l }
-good-cons rd rd' b h s (refuse k w) g = λ hard p q r st. let e = g hard p q r st in (e.0, h p q (s ++ r) ∙ e.1)
+good_cons rd rd' b h s (refuse k w) g = λ hard p q r st. let e = g hard p q r st in (e.0, h p q (s ++ r) ∙ e.1)
 
 pub good-ok : {A : Type 0} (x : A) (s : List ℕ) → Good (λ p q. ok x) s (ok x s)
 good-ok x s = record { used = []; split = refl; again = λ p q t l. refl }
@@ -84,9 +84,9 @@ pub blank-ends : (b : ℕ) → is blank b ≡ true → goes_on b ≡ false
 unfolding is goes_on is_word class_number
 blank-ends b h = let e : 1 ≡ class_number (class_of b) = eqb-true 1 (class_number (class_of b)) h in rw (← e)
 
-pub blank-stop : {r : List ℕ} → Blank r → Stop r
-blank-stop blank-nil = stop-nil
-blank-stop (blank-at {b} h) = stop-at (blank-ends b h)
+pub blank_stop : {r : List ℕ} → Blank r → Stop r
+blank_stop blank_nil = stop_nil
+blank_stop (blank-at {b} h) = stop_at (blank-ends b h)
 
 -- A reader behind another.
 module _ {A B : Type 0} (rd : ℕ → ℕ → List ℕ → Result A) (rd₁ : ℕ → ℕ → List ℕ → Result B) (rd₂ : B → ℕ → ℕ → List ℕ → Result A)
@@ -98,11 +98,11 @@ module _ {A B : Type 0} (rd : ℕ → ℕ → List ℕ → Result A) (rd₁ : �
         used = g.used ++ h.used;
         split = cc (append_assoc g.used h.used u);
         again = λ p q t' l.
-            let m = goes p q (g.used ++ (h.used ++ t')) x (h.used ++ t') (g.again p q (h.used ++ t') (rw h.split (like-app h.used u t' l))) in
+            let m = goes p q (g.used ++ (h.used ++ t')) x (h.used ++ t') (g.again p q (h.used ++ t') (rw h.split (like_app h.used u t' l))) in
             rw append_assoc (m.2 ∙ h.again _ _ t' l);
       }
   good-step s x t g (refuse k w) h = λ hard p q u st.
-      let m = goes p q (s ++ u) x (t ++ u) (rw (g.split, append_assoc) (g.again p q (t ++ u) (like-more t u (blank-stop st)))) in
+      let m = goes p q (s ++ u) x (t ++ u) (rw (g.split, append_assoc) (g.again p q (t ++ u) (like_more t u (blank_stop st)))) in
       let e = h hard m.0 m.1 u st in
       (e.0, m.2 ∙ e.1)
 
@@ -122,4 +122,4 @@ pub record Lexing : Type 0 where
   -- what is skipped is skipped alike in front of any other text
   pub skips : (s : List ℕ) → (front : List ℕ) × (s ≡ front ++ skip s) × ((u : List ℕ) → skip (front ++ u) ≡ skip u)
   pub blank_skip : (b : ℕ) (s : List ℕ) → is blank b ≡ true → skip (b ∷ s) ≡ skip s
-  pub skip-nil : skip [] ≡ []
+  pub skip_nil : skip [] ≡ []

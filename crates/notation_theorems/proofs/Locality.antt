@@ -13,11 +13,11 @@ use Rattle.notation.specs.Classes.{Class, blank, slash, hash, class_of, is}
 use Rattle.notation.specs.Scanning.{skip}
 use Rattle.notation.specs.Tokens.{Token}
 use Rattle.notation.specs.Cutting.{cut_by, cut, place, placed, next}
-use Rattle.notation_theorems.proofs.Good.{Good, Below, good-cons, good-below, Lexing}
+use Rattle.notation_theorems.proofs.Good.{Good, Below, good_cons, good-below, Lexing}
 use Rattle.notation_theorems.proofs.ScanningElements.{class-is, high-other}
-use Rattle.notation_theorems.proofs.ScanningSteps.{good-soft}
+use Rattle.notation_theorems.proofs.ScanningSteps.{good_soft}
 use Rattle.notation_theorems.proofs.ScanningBlanks.{skip-front, skip-blank, skip-token, skip-none}
-use Rattle.notation_theorems.proofs.CuttingTokens.{cut_by-sure}
+use Rattle.notation_theorems.proofs.CuttingTokens.{cut_by_sure}
 
 -- a place changes nothing but where a refusal stands
 placed-good : {A : Type 0} (rd : List ℕ → Result A) (at : List ℕ → ℕ) (s : List ℕ) (R : Result A) → Good (λ p q. rd) s R → Good (λ p q u. placed (at u) (rd u)) s (placed (at s) R)
@@ -41,7 +41,7 @@ good-front rd front h s (refuse k w) g = λ hard p q r st. let e = g hard p q r 
 module _ (b : ℕ) where
   none-good : (k : Class) → is k b ≡ true → ((b : ℕ) (s : List ℕ) → cut_by k b s ≡ refuse no_token 0) → (s : List ℕ) → skip (b ∷ s) ≡ b ∷ s → Good (λ p q. next) (b ∷ s) (next (b ∷ s))
   unfolding next placed cut
-  none-good k e h s f = rw (f, class-is k b e, h b s) (good-soft (λ p q. next) (b ∷ s) (place (b ∷ s)))
+  none-good k e h s f = rw (f, class-is k b e, h b s) (good_soft (λ p q. next) (b ∷ s) (place (b ∷ s)))
 
   pub token-is : is blank b ≡ false → is slash b ≡ false → is hash b ≡ false → (u : List ℕ) → next (b ∷ u) ≡ placed (suc (length u)) (cut_by (class_of b) b u)
   unfolding next cut place
@@ -50,8 +50,8 @@ module _ (b : ℕ) where
   token-good : is blank b ≡ false → is slash b ≡ false → is hash b ≡ false → (s : List ℕ) → Good (λ p q. next) (b ∷ s) (next (b ∷ s))
   token-good e₁ e₂ e₃ s =
       rw (token-is e₁ e₂ e₃ s)
-      (good-cons (λ p q. next) (λ p q u. placed (suc (length u)) (cut_by (class_of b) b u)) b (λ p q u. token-is e₁ e₂ e₃ u) s (placed (suc (length s)) (cut_by (class_of b) b s))
-      (placed-good (cut_by (class_of b) b) (λ u. suc (length u)) s (cut_by (class_of b) b s) (cut_by-sure (class_of b) b s)))
+      (good_cons (λ p q. next) (λ p q u. placed (suc (length u)) (cut_by (class_of b) b u)) b (λ p q u. token-is e₁ e₂ e₃ u) s (placed (suc (length s)) (cut_by (class_of b) b s))
+      (placed-good (cut_by (class_of b) b) (λ u. suc (length u)) s (cut_by (class_of b) b s) (cut_by_sure (class_of b) b s)))
 
 settled : (s : List ℕ) → skip s ≡ s → Good (λ p q. next) s (next s)
 unfolding next cut placed cut_by
@@ -80,7 +80,7 @@ next-good s = let w = skip-front s in front-good s w.0 (skip s) w.1 refl w.2
 pub cut_below : (s : List ℕ) → Below (length s) (cut s)
 unfolding cut
 cut_below [] = tt
-cut_below (b ∷ s) = good-below (λ p q. cut_by (class_of b) b) s (cut_by (class_of b) b s) (cut_by-sure (class_of b) b s)
+cut_below (b ∷ s) = good-below (λ p q. cut_by (class_of b) b) s (cut_by (class_of b) b s) (cut_by_sure (class_of b) b s)
 
 next-below : (s : List ℕ) → Below (length s) (next s)
 unfolding next
@@ -109,5 +109,5 @@ lexing = record {
   ascii = λ s t r e. low (place s) (skip s) t r e;
   skips = skip-front;
   blank_skip = skip-blank;
-  skip-nil = skip-none;
+  skip_nil = skip-none;
 }

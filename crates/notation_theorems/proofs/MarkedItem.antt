@@ -67,7 +67,7 @@ single-is d s = rw (first-marked s, single_marked) (go (eqb (place s) (length s)
     go false = rw (marked-length s)
 
 -- the mark does not show in what is said in the end
-pub verdict-marked : {A : Type 0} (s : List ℕ) (R : Result A) → verdict_of (length (marked s)) (plus R) ≡ verdict_of (length s) R
+pub verdict_marked : {A : Type 0} (s : List ℕ) (R : Result A) → verdict_of (length (marked s)) (plus R) ≡ verdict_of (length s) R
 unfolding verdict_of plus
-verdict-marked s (ok x r) = refl
-verdict-marked s (refuse n left) = ap (λ (q : ℕ). refused n q) (omega (arith, marked-length s))
+verdict_marked s (ok x r) = refl
+verdict_marked s (refuse n left) = ap (λ (q : ℕ). refused n q) (omega (arith, marked-length s))

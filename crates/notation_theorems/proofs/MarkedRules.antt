@@ -43,151 +43,151 @@ Safe (take f) = ((t : Token) → Safe (f t)) × Ends f
 Safe (call n k) = Inner n × ((x : Value n) → Safe (k x))
 
 -- EVERY RULE IS SAFE
-safe-if : {A : Type 0} (v : Bool) (r r' : Rule A) → Safe r → Safe r' → Safe {A = A} (elim v [ true ↦ r | false ↦ r' ])
-safe-if true r r' h h' = h
-safe-if false r r' h h' = h'
+safe_if : {A : Type 0} (v : Bool) (r r' : Rule A) → Safe r → Safe r' → Safe {A = A} (elim v [ true ↦ r | false ↦ r' ])
+safe_if true r r' h h' = h
+safe_if false r r' h h' = h'
 
-safe-then : {A B : Type 0} (r : Rule A) (k : A → Rule B) → Safe r → ((x : A) → Safe (k x)) → Safe (then r k)
+safe_then : {A B : Type 0} (r : Rule A) (k : A → Rule B) → Safe r → ((x : A) → Safe (k x)) → Safe (then r k)
 unfolding then
-safe-then (give x) k h g = g x
-safe-then (deny n) k h g = tt
-safe-then (deny_first n) k h g = tt
-safe-then (take f) k h g = (λ t. safe-then (f t) k (h.0 t) g, ap (λ r. then r k) h.1)
-safe-then (call n j) k h g = (h.0, λ x. safe-then (j x) k (h.1 x) g)
+safe_then (give x) k h g = g x
+safe_then (deny n) k h g = tt
+safe_then (deny_first n) k h g = tt
+safe_then (take f) k h g = (λ t. safe_then (f t) k (h.0 t) g, ap (λ r. then r k) h.1)
+safe_then (call n j) k h g = (h.0, λ x. safe_then (j x) k (h.1 x) g)
 
-closing-safe : {A : Type 0} (d : ℕ) (h h' : Shape) (i : Indicator) (x : A) → Safe (closing_rule d h h' i x)
+closing_safe : {A : Type 0} (d : ℕ) (h h' : Shape) (i : Indicator) (x : A) → Safe (closing_rule d h h' i x)
 unfolding closing_rule strays
-closing-safe d h h' i x = safe-if (eqb (shape_number h) (shape_number h')) (give x) (strays d (closes h' i)) tt tt
+closing_safe d h h' i x = safe_if (eqb (shape_number h) (shape_number h')) (give x) (strays d (closes h' i)) tt tt
 
-sized-safe : (c : Chosen) (make : Width → Item) → Safe (width_rule c make)
+sized_safe : (c : Chosen) (make : Width → Item) → Safe (width_rule c make)
 unfolding width_rule
-sized-safe (chosen w) make = tt
-sized-safe misfit make = tt
+sized_safe (chosen w) make = tt
+sized_safe misfit make = tt
 
-contains-safe : (i : Indicator) (n : ℕ) (make : Size → Item) → Safe (contains i n make)
+contains_safe : (i : Indicator) (n : ℕ) (make : Size → Item) → Safe (contains i n make)
 unfolding contains
-contains-safe absent n make = sized-safe (choose absent n) (λ w. make (definite w))
-contains-safe indefinitely n make = tt
-contains-safe unknown n make = sized-safe (choose unknown n) (λ w. make (definite w))
-contains-safe (wide w) n make = sized-safe (choose (wide w) n) (λ w. make (definite w))
+contains_safe absent n make = sized_safe (choose absent n) (λ w. make (definite w))
+contains_safe indefinitely n make = tt
+contains_safe unknown n make = sized_safe (choose unknown n) (λ w. make (definite w))
+contains_safe (wide w) n make = sized_safe (choose (wide w) n) (λ w. make (definite w))
 
-embeds-safe : (c : Closed) → Safe (embeds c)
+embeds_safe : (c : Closed) → Safe (embeds c)
 unfolding embeds
-embeds-safe c = sized-safe _ _
+embeds_safe c = sized_safe _ _
 
-tags-safe : (w : Width) (n : ℕ) (x : Item) → Safe (tag_rule w n x)
+tags_safe : (w : Width) (n : ℕ) (x : Item) → Safe (tag_rule w n x)
 unfolding tag_rule
-tags-safe w n x = safe-if (may_tag n x) (give (tag w n x)) (deny_first bad_typed_array) tt tt
+tags_safe w n x = safe_if (may_tag n x) (give (tag w n x)) (deny_first bad_typed_array) tt tt
 
-after_tag-safe : (d : ℕ) (w : Width) (n : ℕ) (x : Item) (t : Token) → Safe (after_tag d w n x t)
+after_tag_safe : (d : ℕ) (w : Width) (n : ℕ) (x : Item) (t : Token) → Safe (after_tag d w n x t)
 unfolding after_tag strays
-after_tag-safe d w n x (begins g) = tt
-after_tag-safe d w n x (closes h i) = safe-then (closing_rule d round h i x) (tag_rule w n) (closing-safe d round h i x) (tags-safe w n)
-after_tag-safe d w n x a_comma = tt
-after_tag-safe d w n x a_colon = tt
+after_tag_safe d w n x (begins g) = tt
+after_tag_safe d w n x (closes h i) = safe_then (closing_rule d round h i x) (tag_rule w n) (closing_safe d round h i x) (tags_safe w n)
+after_tag_safe d w n x a_comma = tt
+after_tag_safe d w n x a_colon = tt
 
-inside-safe : (d : ℕ) (o : Opener) → Safe (inside d o)
+inside_safe : (d : ℕ) (o : Opener) → Safe (inside d o)
 unfolding inside shape_number after_tag closing_rule strays then stray stray_closing
-inside-safe d (bracket i) = (refl, λ c. contains-safe i (count c.all) (λ z. array z c.all))
-inside-safe d (brace i) = (tt, λ ps. contains-safe i (count₂ ps) (λ z. map z ps))
-inside-safe d (tagging w n) = (tt, λ x. (after_tag-safe d w n x, refl))
-inside-safe d embedding = (refl, embeds-safe)
+inside_safe d (bracket i) = (refl, λ c. contains_safe i (count c.all) (λ z. array z c.all))
+inside_safe d (brace i) = (tt, λ ps. contains_safe i (count₂ ps) (λ z. map z ps))
+inside_safe d (tagging w n) = (tt, λ x. (after_tag_safe d w n x, refl))
+inside_safe d embedding = (refl, embeds_safe)
 
-beginning-safe : (d : ℕ) (g : Beginning) → Safe (beginning d g)
+beginning_safe : (d : ℕ) (g : Beginning) → Safe (beginning d g)
 unfolding beginning
-beginning-safe d (leaf x) = safe-if (leb (levels x) d) (give x) (deny too_deep) tt tt
-beginning-safe d (literal k z b) = tt
-beginning-safe d chunking = (tt, λ c. tt)
-beginning-safe zero (opens o) = tt
-beginning-safe (suc d) (opens o) = inside-safe d o
+beginning_safe d (leaf x) = safe_if (leb (levels x) d) (give x) (deny too_deep) tt tt
+beginning_safe d (literal k z b) = tt
+beginning_safe d chunking = (tt, λ c. tt)
+beginning_safe zero (opens o) = tt
+beginning_safe (suc d) (opens o) = inside_safe d o
 
-one-safe : (d : ℕ) (t : Token) → Safe (one_rule d t)
+one_safe : (d : ℕ) (t : Token) → Safe (one_rule d t)
 unfolding one_rule strays
-one-safe d (begins g) = beginning-safe d g
-one-safe d (closes h i) = tt
-one-safe d a_comma = tt
-one-safe d a_colon = tt
+one_safe d (begins g) = beginning_safe d g
+one_safe d (closes h i) = tt
+one_safe d a_comma = tt
+one_safe d a_colon = tt
 
 -- the end is not what closes h
-closing-ends : {A : Type 0} (d : ℕ) (h : Shape) (x : A) → eqb (shape_number h) 4 ≡ false → closing_rule d h whole absent x ≡ deny not_allowed
+closing_ends : {A : Type 0} (d : ℕ) (h : Shape) (x : A) → eqb (shape_number h) 4 ≡ false → closing_rule d h whole absent x ≡ deny not_allowed
 unfolding closing_rule shape_number strays stray stray_closing
-closing-ends d h x e = rw (e, closing_rule)
+closing_ends d h x e = rw (e, closing_rule)
 
 module _ (h : Shape) (inner : eqb (shape_number h) 4 ≡ false) where
-  after_item-safe : (d : ℕ) (x : Item) (t : Token) → Safe (after_item h d x t)
+  after_item_safe : (d : ℕ) (x : Item) (t : Token) → Safe (after_item h d x t)
   unfolding after_item strays
-  after_item-safe d x (begins g) = tt
-  after_item-safe d x (closes h' i) = closing-safe d h h' i (record { all = more x none; indicator = i })
-  after_item-safe d x a_comma = (inner, λ c. tt)
-  after_item-safe d x a_colon = tt
+  after_item_safe d x (begins g) = tt
+  after_item_safe d x (closes h' i) = closing_safe d h h' i (record { all = more x none; indicator = i })
+  after_item_safe d x a_comma = (inner, λ c. tt)
+  after_item_safe d x a_colon = tt
 
-  items-safe : (b : Position) (d : ℕ) (t : Token) → Safe (items_rule h b d t)
+  items_safe : (b : Position) (d : ℕ) (t : Token) → Safe (items_rule h b d t)
   unfolding items_rule strays after_item
-  items-safe b d (begins g) =
-      safe-then (beginning d g) (λ x. take (after_item h d x)) (beginning-safe d g)
-      (λ x. (after_item-safe d x, closing-ends d h (record { all = more x none; indicator = absent }) inner))
-  items-safe at_start d (closes h' i) = closing-safe d h h' i (record { all = none; indicator = i })
-  items-safe behind_comma d (closes h' i) = tt
-  items-safe b d a_comma = tt
-  items-safe b d a_colon = tt
+  items_safe b d (begins g) =
+      safe_then (beginning d g) (λ x. take (after_item h d x)) (beginning_safe d g)
+      (λ x. (after_item_safe d x, closing_ends d h (record { all = more x none; indicator = absent }) inner))
+  items_safe at_start d (closes h' i) = closing_safe d h h' i (record { all = none; indicator = i })
+  items_safe behind_comma d (closes h' i) = tt
+  items_safe b d a_comma = tt
+  items_safe b d a_colon = tt
 
   items-end : (b : Position) (d : ℕ) → Ends (items_rule h b d)
   unfolding items_rule strays stray stray_closing
-  items-end at_start d = closing-ends d h (record { all = none; indicator = absent }) inner
+  items-end at_start d = closing_ends d h (record { all = none; indicator = absent }) inner
   items-end behind_comma d = refl
 
-after_value-safe : (d : ℕ) (k x : Item) (t : Token) → Safe (after_value d k x t)
+after_value_safe : (d : ℕ) (k x : Item) (t : Token) → Safe (after_value d k x t)
 unfolding after_value strays
-after_value-safe d k x (begins g) = tt
-after_value-safe d k x (closes h i) = closing-safe d _ h i (more₂ k x none₂)
-after_value-safe d k x a_comma = (tt, λ ps. tt)
-after_value-safe d k x a_colon = tt
+after_value_safe d k x (begins g) = tt
+after_value_safe d k x (closes h i) = closing_safe d _ h i (more₂ k x none₂)
+after_value_safe d k x a_comma = (tt, λ ps. tt)
+after_value_safe d k x a_colon = tt
 
-after_key-safe : (d : ℕ) (k : Item) (t : Token) → Safe (after_key d k t)
+after_key_safe : (d : ℕ) (k : Item) (t : Token) → Safe (after_key d k t)
 unfolding after_key after_value closing_rule shape_number strays stray stray_closing
-after_key-safe d k (begins g) = tt
-after_key-safe d k (closes h i) = tt
-after_key-safe d k a_comma = tt
-after_key-safe d k a_colon = (tt, λ x. (after_value-safe d k x, refl))
+after_key_safe d k (begins g) = tt
+after_key_safe d k (closes h i) = tt
+after_key_safe d k a_comma = tt
+after_key_safe d k a_colon = (tt, λ x. (after_value_safe d k x, refl))
 
-pairs-safe : (b : Position) (d : ℕ) (t : Token) → Safe (pairs_rule b d t)
+pairs_safe : (b : Position) (d : ℕ) (t : Token) → Safe (pairs_rule b d t)
 unfolding pairs_rule after_key strays stray stray_closing
-pairs-safe b d (begins g) = safe-then (beginning d g) (λ k. take (after_key d k)) (beginning-safe d g) (λ k. (after_key-safe d k, refl))
-pairs-safe at_start d (closes h i) = closing-safe d _ h i none₂
-pairs-safe behind_comma d (closes h i) = tt
-pairs-safe b d a_comma = tt
-pairs-safe b d a_colon = tt
+pairs_safe b d (begins g) = safe_then (beginning d g) (λ k. take (after_key d k)) (beginning_safe d g) (λ k. (after_key_safe d k, refl))
+pairs_safe at_start d (closes h i) = closing_safe d _ h i none₂
+pairs_safe behind_comma d (closes h i) = tt
+pairs_safe b d a_comma = tt
+pairs_safe b d a_colon = tt
 
-after_chunk-safe : (d : ℕ) (k : Kind) (c : Chunk) (t : Token) → Safe (after_chunk d k c t)
+after_chunk_safe : (d : ℕ) (k : Kind) (c : Chunk) (t : Token) → Safe (after_chunk d k c t)
 unfolding after_chunk strays
-after_chunk-safe d k c (begins g) = tt
-after_chunk-safe d k c (closes h i) = closing-safe d round h i (record { kind = k; all = c ∷ [] })
-after_chunk-safe d k c a_comma = (tt, λ cs. tt)
-after_chunk-safe d k c a_colon = tt
+after_chunk_safe d k c (begins g) = tt
+after_chunk_safe d k c (closes h i) = closing_safe d round h i (record { kind = k; all = c ∷ [] })
+after_chunk_safe d k c a_comma = (tt, λ cs. tt)
+after_chunk_safe d k c a_colon = tt
 
-chunk-safe : (want : Wanted) (d : ℕ) (k : Kind) (z : Size) (b : List ℕ) → Safe (chunk_rule want d k z b)
+chunk_safe : (want : Wanted) (d : ℕ) (k : Kind) (z : Size) (b : List ℕ) → Safe (chunk_rule want d k z b)
 unfolding chunk_rule after_chunk closing_rule shape_number strays stray stray_closing
-chunk-safe want d k (definite w) b =
-    safe-if (is_wanted want k) (take (after_chunk d k (record { width = w; content = b }))) (deny mixed_chunks) (after_chunk-safe d k (record { width = w; content = b }), refl) tt
-chunk-safe want d k indefinite b = tt
+chunk_safe want d k (definite w) b =
+    safe_if (is_wanted want k) (take (after_chunk d k (record { width = w; content = b }))) (deny mixed_chunks) (after_chunk_safe d k (record { width = w; content = b }), refl) tt
+chunk_safe want d k indefinite b = tt
 
-chunks-safe : (want : Wanted) (d : ℕ) (t : Token) → Safe (chunks_rule want d t)
+chunks_safe : (want : Wanted) (d : ℕ) (t : Token) → Safe (chunks_rule want d t)
 unfolding chunks_rule strays
-chunks-safe want d (begins (leaf x)) = tt
-chunks-safe want d (begins (literal k z b)) = chunk-safe want d k z b
-chunks-safe want d (begins chunking) = tt
-chunks-safe want d (begins (opens o)) = tt
-chunks-safe want d (closes h i) = tt
-chunks-safe want d a_comma = tt
-chunks-safe want d a_colon = tt
+chunks_safe want d (begins (leaf x)) = tt
+chunks_safe want d (begins (literal k z b)) = chunk_safe want d k z b
+chunks_safe want d (begins chunking) = tt
+chunks_safe want d (begins (opens o)) = tt
+chunks_safe want d (closes h i) = tt
+chunks_safe want d a_comma = tt
+chunks_safe want d a_colon = tt
 
 -- THE TABLE
-rules-safe : (n : Name) → Inner n → (t : Token) → Safe (rules n t)
+rules_safe : (n : Name) → Inner n → (t : Token) → Safe (rules n t)
 unfolding rules
-rules-safe (one d) i = one-safe d
-rules-safe (items h b d) i = items-safe h i b d
-rules-safe (pairs b d) i = pairs-safe b d
-rules-safe (chunks w d) i = chunks-safe w d
+rules_safe (one d) i = one_safe d
+rules_safe (items h b d) i = items_safe h i b d
+rules_safe (pairs b d) i = pairs_safe b d
+rules_safe (chunks w d) i = chunks_safe w d
 
 rules-end : (n : Name) → Inner n → Ends (rules n)
 unfolding rules one_rule pairs_rule chunks_rule closing_rule shape_number strays stray stray_closing
@@ -238,11 +238,11 @@ within-marked zero n i s l = absurd (omega arith)
 within-marked (suc m) n i s l =
     reads-is n (marked s)
     ∙ rw (place-marked s)
-    (take-marked (rules n) (place s) s (rules-end n i) (λ t r b. obey-marked m (within-marked m) (rules n t) (rules-safe n i t) (place s) (place s) r (omega arith)))
+    (take-marked (rules n) (place s) s (rules-end n i) (λ t r b. obey-marked m (within-marked m) (rules n t) (rules_safe n i t) (place s) (place s) r (omega arith)))
     ∙ ap plus (sym (reads-is n s))
 
-pub name-marked : (n : Name) → Inner n → (s : List ℕ) → reads n (marked s) ≡ plus (reads n s)
-name-marked n i s = within-marked (suc (length s)) n i s (omega arith)
+pub name_marked : (n : Name) → Inner n → (s : List ℕ) → reads n (marked s) ≡ plus (reads n s)
+name_marked n i s = within-marked (suc (length s)) n i s (omega arith)
 
 pub reads-marked : (d : ℕ) (s : List ℕ) → reads (one d) (marked s) ≡ plus (reads (one d) s)
-reads-marked d s = name-marked (one d) tt s
+reads-marked d s = name_marked (one d) tt s

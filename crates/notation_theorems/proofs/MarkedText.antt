@@ -15,7 +15,7 @@ use Rattle.notation.specs.Tokens.{closes, whole}
 use Rattle.notation.specs.Cutting.{cut_by, cut, place, placed, next}
 use Rattle.notation.specs.Reading.{marked}
 use Rattle.notation.specs.Alone.{plus}
-use Rattle.notation_theorems.proofs.MarkedTokens.{more, cut_by-marks}
+use Rattle.notation_theorems.proofs.MarkedTokens.{more, cut_by_marks}
 
 pub marked-length : (s : List ℕ) → length (marked s) ≡ suc (length s)
 unfolding marked
@@ -79,7 +79,7 @@ placed-marked q (refuse n w) = refl
 
 cut-marked : (b : ℕ) (s : List ℕ) → cut (marked (b ∷ s)) ≡ more (cut (b ∷ s))
 unfolding cut marked
-cut-marked b s = cut_by-marks (class_of b) b s
+cut-marked b s = cut_by_marks (class_of b) b s
 
 pub next-marked : (s : List ℕ) {b : ℕ} {u : List ℕ} → skip s ≡ b ∷ u → next (marked s) ≡ plus (next s)
 unfolding next

@@ -18,8 +18,8 @@ use Rattle.notation.specs.Numbers.{worth, no_digit, is_digit, digit_value, numbe
 use Rattle.notation.specs.Tokens.{Token, begins, leaf, opens, tagging}
 use Rattle.notation.specs.Cutting.{after_minus, cut_by, cut, placed, next}
 use Rattle.notation.specs.Printing.{decimal_within, decimal_of, width_name, indicator_of, print_int}
-use Rattle.notation_theorems.proofs.ScanningElements.{digit-cases, off-is}
-use Rattle.notation_theorems.proofs.Good.{Stop, stop-nil, stop-at}
+use Rattle.notation_theorems.proofs.ScanningElements.{digit_cases, off_is}
+use Rattle.notation_theorems.proofs.Good.{Stop, stop_nil, stop_at}
 
 -- TESTS AT THE FRONT OF A TEXT: all elements pass one; the first element, if there is one, does not
 abbrev pub Each : (ℕ → Bool) → List ℕ → Type 0
@@ -49,17 +49,17 @@ pub sure : (t : Bool) → T t → t ≡ true
 sure true h = refl
 sure false h = absurd h
 
-pub either-false : (a b : Bool) → (a || b) ≡ false → (a ≡ false) × (b ≡ false)
-either-false true b e = absurd (false≢true (sym e))
-either-false false b e = (refl, e)
+pub either_false : (a b : Bool) → (a || b) ≡ false → (a ≡ false) × (b ≡ false)
+either_false true b e = absurd (false≢true (sym e))
+either_false false b e = (refl, e)
 
 -- a test that fails at b and passes at c tells them apart
 differs : (f : ℕ → Bool) (b c : ℕ) → f b ≡ false → f c ≡ true → eqb b c ≡ false
 differs f b c e h = ne_eqb b c (λ q. false≢true (sym e ∙ ap f q ∙ h))
 
-in-range : (low high b : ℕ) → is_in (low to high) b ≡ true → (low ≤ b) × (b ≤ high)
+in_range : (low high b : ℕ) → is_in (low to high) b ≡ true → (low ≤ b) × (b ≤ high)
 unfolding is_in
-in-range low high b e = go (leb low b) refl (leb b high) refl e
+in_range low high b e = go (leb low b) refl (leb b high) refl e
   where
     go : (x : Bool) → leb low b ≡ x → (y : Bool) → leb b high ≡ y → (x && y) ≡ true → (low ≤ b) × (b ≤ high)
     go true p true q e = (leb-true low b p, leb-true b high q)
@@ -71,33 +71,33 @@ abbrev pub extends : ℕ → Bool
 extends b = is_word b || is dot b
 
 pub stop_halts : (f : ℕ → Bool) {r : List ℕ} → ((b : ℕ) → goes_on b ≡ false → f b ≡ false) → Stop r → Halts f r
-stop_halts f h stop-nil = tt
-stop_halts f h (stop-at {b} e) = h b e
+stop_halts f h stop_nil = tt
+stop_halts f h (stop_at {b} e) = h b e
 
-pub stop-word : (b : ℕ) → goes_on b ≡ false → is_word b ≡ false
+pub stop_word : (b : ℕ) → goes_on b ≡ false → is_word b ≡ false
 unfolding goes_on
-stop-word b e = (either-false _ _ e).0
+stop_word b e = (either_false _ _ e).0
 
-stop-extends : (b : ℕ) → goes_on b ≡ false → extends b ≡ false
+stop_extends : (b : ℕ) → goes_on b ≡ false → extends b ≡ false
 unfolding goes_on
-stop-extends b e =
-    let p = either-false (is_word b) _ e in
-    let q = either-false (is underscore b) _ p.1 in
-    rw p.0 (either-false (is dot b) _ q.1).0
+stop_extends b e =
+    let p = either_false (is_word b) _ e in
+    let q = either_false (is underscore b) _ p.1 in
+    rw p.0 (either_false (is dot b) _ q.1).0
 
-pub digit-range : (b : ℕ) → is_digit 10 b ≡ true → (0x30 ≤ b) × (b < 0x3a)
+pub digit_range : (b : ℕ) → is_digit 10 b ≡ true → (0x30 ≤ b) × (b < 0x3a)
 unfolding is_digit
-digit-range b =
-    digit-cases (λ d. ◌≡◌ {A = Bool} (elim d [ worth v ↦ ltb v 10 | no_digit ↦ false ]) true → (0x30 ≤ b) × (b < 0x3a)) b
-    (λ p e. let i = in-range 0x30 0x39 b p in omega arith) (λ p e. let i = in-range 0x61 0x66 b p in let l = ltb-true (b - 0x57) 10 e in absurd (omega arith))
-    (λ p e. let i = in-range 0x41 0x46 b p in let l = ltb-true (b - 0x37) 10 e in absurd (omega arith)) (λ e. absurd (false≢true e))
+digit_range b =
+    digit_cases (λ d. ◌≡◌ {A = Bool} (elim d [ worth v ↦ ltb v 10 | no_digit ↦ false ]) true → (0x30 ≤ b) × (b < 0x3a)) b
+    (λ p e. let i = in_range 0x30 0x39 b p in omega arith) (λ p e. let i = in_range 0x61 0x66 b p in let l = ltb-true (b - 0x57) 10 e in absurd (omega arith))
+    (λ p e. let i = in_range 0x41 0x46 b p in let l = ltb-true (b - 0x37) 10 e in absurd (omega arith)) (λ e. absurd (false≢true e))
 
 over-digit : (b : ℕ) → extends b ≡ false → is_digit 10 b ≡ false
 unfolding is_word is class_number class_of class_in class_rows is_in
 over-digit b e = go (is_digit 10 b) refl
   where
     go : (v : Bool) → is_digit 10 b ≡ v → v ≡ false
-    go true h = let i = digit-range b h in absurd (false≢true (sym e ∙ sure (extends b) (between extends 0x30 0x3a tt b i.0 i.1)))
+    go true h = let i = digit_range b h in absurd (false≢true (sym e ∙ sure (extends b) (between extends 0x30 0x3a tt b i.0 i.1)))
     go false h = refl
 
 over-float : (b : ℕ) → extends b ≡ false → makes_float 10 b ≡ false
@@ -127,10 +127,10 @@ digit-is : (k : ℕ) → k < 10 → is_digit 10 (0x30 + k) ≡ true
 unfolding is_digit is_in
 digit-is k h = sure (is_digit 10 (0x30 + k)) (between (λ k. is_digit 10 (0x30 + k)) 0 10 tt k (omega arith) h)
 
-number-snoc : (v : ℕ) (s : List ℕ) (b : ℕ) → number_from 10 v (s ++ b ∷ []) ≡ number_from 10 v s * 10 + digit_value b
+number_snoc : (v : ℕ) (s : List ℕ) (b : ℕ) → number_from 10 v (s ++ b ∷ []) ≡ number_from 10 v s * 10 + digit_value b
 unfolding number_from
-number-snoc v [] b = refl
-number-snoc v (a ∷ s) b = number-snoc (v * 10 + digit_value a) s b
+number_snoc v [] b = refl
+number_snoc v (a ∷ s) b = number_snoc (v * 10 + digit_value a) s b
 
 decimal-within : (f n : ℕ) → n < f → Decimal n (decimal_within f n)
 unfolding decimal_within number_from
@@ -149,7 +149,7 @@ decimal-within (suc f) n h = go (ltb n 10) refl (λ l. decimal-within f (n / 10)
           small = i.small;
           is = ap (λ (u : List ℕ). u ++ (0x30 + n % 10) ∷ []) i.is;
           each = each_snoc (is_digit 10) i.rest (0x30 + n % 10) i.each (digit-is (n % 10) (omega arith));
-          value = number-snoc i.first i.rest (0x30 + n % 10) ∙ (rw (i.value, digit_value_lem (n % 10) (omega arith)) (omega arith));
+          value = number_snoc i.first i.rest (0x30 + n % 10) ∙ (rw (i.value, digit_value_lem (n % 10) (omega arith)) (omega arith));
           lead = λ h. i.lead (omega arith);
         }
 
@@ -174,8 +174,8 @@ gap b = is blank b || (is slash b || is hash b)
 pub skip_at : (b : ℕ) (s : List ℕ) → gap b ≡ false → skip (b ∷ s) ≡ b ∷ s
 unfolding skip skip_from skipped
 skip_at b s e =
-    let p = either-false (is blank b) _ e in
-    let q = either-false (is slash b) _ p.1 in
+    let p = either_false (is blank b) _ e in
+    let q = either_false (is slash b) _ p.1 in
     rw (p.0, skip_from) (rw q.0 (rw q.1))
 
 pub next_at : (b : ℕ) (s : List ℕ) {t : Token} {r : List ℕ} → gap b ≡ false → cut_by (class_of b) b s ≡ ok t r → next (b ∷ s) ≡ ok t r
@@ -218,14 +218,14 @@ no-radix g [] h = refl
 no-radix g (c ∷ []) h = refl
 no-radix g (c ∷ d ∷ s) h = rw (over-radix c h, after_zero)
 
-halts-digits : (s : List ℕ) → Halts extends s → Halts (is_digit 10) s
-halts-digits [] h = tt
-halts-digits (b ∷ s) h = over-digit b h
+halts_digits : (s : List ℕ) → Halts extends s → Halts (is_digit 10) s
+halts_digits [] h = tt
+halts_digits (b ∷ s) h = over-digit b h
 
 number_more : (g : Sign) (k : ℕ) (w s : List ℕ) → 1 ≤ k → k < 10 → Each (is_digit 10) w → Halts extends s → number g (0x30 + k) (w ++ s) ≡ decimal g (number_from 10 k w) s
 unfolding number digits bind
 number_more g k w s l h e o =
-    rw (no-float w s e o, number) (rw (ne_eqb (0x30 + k) 0x30 (λ q. omega arith)) (rw (run-all (is_digit 10) w s e (halts-digits s o)) (rw (digit_value_lem k h))))
+    rw (no-float w s e o, number) (rw (ne_eqb (0x30 + k) 0x30 (λ q. omega arith)) (rw (run-all (is_digit 10) w s e (halts_digits s o)) (rw (digit_value_lem k h))))
 
 -- digits in front of what is no letter, digit or dot
 next-decimal : (g : Sign) (n : ℕ) (s : List ℕ) {t : Token} {r : List ℕ} → Halts extends s → decimal g n s ≡ ok t r → next (signed g (decimal_of n ++ s)) ≡ ok t r
@@ -238,8 +238,8 @@ next-decimal g (suc n) s o e =
 
 -- INDICATORS: none, or a width that is named
 pub data Plain : Indicator → Type 0 where
-  plain-absent : Plain absent
-  plain-wide : {w : Width} → Plain (wide w)
+  plain_absent : Plain absent
+  plain_wide : {w : Width} → Plain (wide w)
 
 -- what goes on in an indicator, or begins one
 abbrev pub indicates : ℕ → Bool
@@ -256,49 +256,49 @@ pub record Named (w : Width) (n : ℕ) (l : List ℕ) : Type 0 where
 abbrev width_of : ℕ → Width
 width_of n = elim (eqb n 0) [ true ↦ w0 | false ↦ elim (eqb n 1) [ true ↦ w1 | false ↦ elim (eqb n 2) [ true ↦ w2 | false ↦ elim (eqb n 4) [ true ↦ w4 | false ↦ w8 ] ] ] ]
 
-width-of : (w : Width) → width_of (argument_bytes w) ≡ w
+width_of_lem : (w : Width) → width_of (argument_bytes w) ≡ w
 unfolding argument_bytes
-width-of w0 = refl
-width-of w1 = refl
-width-of w2 = refl
-width-of w4 = refl
-width-of w8 = refl
+width_of_lem w0 = refl
+width_of_lem w1 = refl
+width_of_lem w2 = refl
+width_of_lem w4 = refl
+width_of_lem w8 = refl
 
-indicates-word : (s : List ℕ) → Halts indicates s → Halts is_word s
-indicates-word [] h = tt
-indicates-word (b ∷ s) h = (either-false (is_word b) _ h).0
+indicates_word : (s : List ℕ) → Halts indicates s → Halts is_word s
+indicates_word [] h = tt
+indicates_word (b ∷ s) h = (either_false (is_word b) _ h).0
 
-indicates-mark : (s : List ℕ) → Halts indicates s → Halts (λ b. eqb b 0x5f) s
-indicates-mark [] h = tt
-indicates-mark (b ∷ s) h = (either-false (is_word b) _ h).1
+indicates_mark : (s : List ℕ) → Halts indicates s → Halts (λ b. eqb b 0x5f) s
+indicates_mark [] h = tt
+indicates_mark (b ∷ s) h = (either_false (is_word b) _ h).1
 
 pub indicator-absent : (s : List ℕ) → Halts (λ b. eqb b 0x5f) s → indicator s ≡ ok absent s
 unfolding indicator bind
 indicator-absent s h = rw (whether-no 0x5f s h)
 
-width-name : (w : Width) → is_word (width_name w) ≡ true
+width_name_lem : (w : Width) → is_word (width_name w) ≡ true
 unfolding width_name is_word is class_number class_of class_in class_rows is_in
-width-name w0 = refl
-width-name w1 = refl
-width-name w2 = refl
-width-name w4 = refl
-width-name w8 = refl
+width_name_lem w0 = refl
+width_name_lem w1 = refl
+width_name_lem w2 = refl
+width_name_lem w4 = refl
+width_name_lem w8 = refl
 
-name-width : (w : Width) → indicated (width_name w ∷ []) ≡ wide w
+name_width : (w : Width) → indicated (width_name w ∷ []) ≡ wide w
 unfolding width_name indicated
-name-width w0 = refl
-name-width w1 = refl
-name-width w2 = refl
-name-width w4 = refl
-name-width w8 = refl
+name_width w0 = refl
+name_width w1 = refl
+name_width w2 = refl
+name_width w4 = refl
+name_width w8 = refl
 
 pub indicator-wide : (w : Width) (s : List ℕ) → Halts indicates s → indicator (0x5f ∷ (width_name w ∷ s)) ≡ ok (wide w) s
 unfolding indicator whether bind
-indicator-wide w s h = rw (run-all is_word (width_name w ∷ []) s (width-name w, tt) (indicates-word s h)) (rw (name-width w))
+indicator-wide w s h = rw (run-all is_word (width_name w ∷ []) s (width_name_lem w, tt) (indicates_word s h)) (rw (name_width w))
 
 -- what is printed: nothing for the shortest width, or the width's name
 pub data Shown (w : Width) (n : ℕ) : List ℕ → Type 0 where
-  as-shortest : shortest n ≡ w → Shown w n []
+  as_shortest : shortest n ≡ w → Shown w n []
   by_name : Shown w n (0x5f ∷ width_name w ∷ [])
 
 pub shown : (w : Width) (n : ℕ) → Shown w n (indicator_of w n)
@@ -306,7 +306,7 @@ unfolding indicator_of
 shown w n = go (eqb (argument_bytes w) (argument_bytes (shortest n))) refl
   where
     go : (v : Bool) → eqb (argument_bytes w) (argument_bytes (shortest n)) ≡ v → Shown w n (elim v [ true ↦ [] | false ↦ 0x5f ∷ width_name w ∷ [] ])
-    go true e = as-shortest (sym (width-of (shortest n)) ∙ ap width_of (sym (eqb-true (argument_bytes w) (argument_bytes (shortest n)) e)) ∙ width-of w)
+    go true e = as_shortest (sym (width_of_lem (shortest n)) ∙ ap width_of (sym (eqb-true (argument_bytes w) (argument_bytes (shortest n)) e)) ∙ width_of_lem w)
     go false e = by_name
 
 pub choose-absent : (w : Width) (n : ℕ) → shortest n ≡ w → choose absent n ≡ chosen w
@@ -317,18 +317,18 @@ pub choose-wide : (w : Width) (n : ℕ) → n ≤ limit w → choose (wide w) n 
 unfolding choose fits
 choose-wide w n h = rw (le-leb n (limit w) h, choose)
 
-named-as : {w : Width} {n : ℕ} {l : List ℕ} → n ≤ limit w → Shown w n l → Named w n l
+named_as : {w : Width} {n : ℕ} {l : List ℕ} → n ≤ limit w → Shown w n l → Named w n l
 unfolding is_word is class_number class_of class_in class_rows is_in
-named-as {w} {n} h (as-shortest e) =
-    record { mark = absent; plain = plain-absent; width = choose-absent w n e; reads = λ s i. indicator-absent s (indicates-mark s i); over = λ s o. o }
-named-as {w} {n} h by_name = record { mark = wide w; plain = plain-wide; width = choose-wide w n h; reads = indicator-wide w; over = λ s o. refl }
+named_as {w} {n} h (as_shortest e) =
+    record { mark = absent; plain = plain_absent; width = choose-absent w n e; reads = λ s i. indicator-absent s (indicates_mark s i); over = λ s o. o }
+named_as {w} {n} h by_name = record { mark = wide w; plain = plain_wide; width = choose-wide w n h; reads = indicator-wide w; over = λ s o. refl }
 
 pub named : (w : Width) (n : ℕ) → n ≤ limit w → Named w n (indicator_of w n)
-named w n h = named-as h (shown w n)
+named w n h = named_as h (shown w n)
 
-pub stop-indicates : {r : List ℕ} → Stop r → Halts indicates r
+pub stop_indicates : {r : List ℕ} → Stop r → Halts indicates r
 unfolding goes_on is_word is class_number class_of class_in class_rows is_in
-stop-indicates st = stop_halts indicates (λ b e. rw (stop-word b e) (off-is 0x5f refl b e)) st
+stop_indicates st = stop_halts indicates (λ b e. rw (stop_word b e) (off_is 0x5f refl b e)) st
 
 -- INTEGERS AND TAG OPENINGS
 limit-most : (w : Width) → limit w ≤ limit w8
@@ -343,28 +343,28 @@ judged-ok : (w : Width) (n : ℕ) (c : Chosen) (make : Width → Token) (r : Lis
 unfolding judged
 judged-ok w n c make r h e = rw (le-leb n (limit w8) (omega (arith, limit-most w)), judged) (rw e)
 
-not-paren : {r : List ℕ} → Stop r → Halts (λ b. eqb b 0x28) r
+not_paren : {r : List ℕ} → Stop r → Halts (λ b. eqb b 0x28) r
 unfolding goes_on is_word is class_number class_of class_in class_rows is_in
-not-paren st = stop_halts (λ b. eqb b 0x28) (off-is 0x28 refl) st
+not_paren st = stop_halts (λ b. eqb b 0x28) (off_is 0x28 refl) st
 
 decimal-integer : (g : Sign) (w : Width) (n : ℕ) (r : List ℕ) → n ≤ limit w → Stop r
     → decimal g (elim g [ unsigned ↦ n | negative ↦ suc n ]) (indicator_of w n ++ r) ≡ ok (begins (leaf (int g w n))) r
 unfolding decimal other_integer integer integer_token bind
 decimal-integer unsigned w n r h st =
     let i = named w n h in
-    rw (i.reads r (stop-indicates st)) (rw (whether-no 0x28 r (not-paren st)) (judged-ok w n (choose i.mark n) (integer_token unsigned n) r h i.width))
+    rw (i.reads r (stop_indicates st)) (rw (whether-no 0x28 r (not_paren st)) (judged-ok w n (choose i.mark n) (integer_token unsigned n) r h i.width))
 decimal-integer negative w n r h st =
     let i = named w n h in
-    rw (i.reads r (stop-indicates st)) (judged-ok w n (choose i.mark n) (integer_token negative n) r h i.width)
+    rw (i.reads r (stop_indicates st)) (judged-ok w n (choose i.mark n) (integer_token negative n) r h i.width)
 
 pub next-integer : (g : Sign) (w : Width) (n : ℕ) (r : List ℕ) → n ≤ limit w → Stop r → next (print_int g w n ++ r) ≡ ok (begins (leaf (int g w n))) r
 unfolding print_int
 next-integer unsigned w n r h st =
     rw (append_assoc (decimal_of n) (indicator_of w n) r)
-    (next-decimal unsigned n _ ((named w n h).over r (stop_halts extends stop-extends st)) (decimal-integer unsigned w n r h st))
+    (next-decimal unsigned n _ ((named w n h).over r (stop_halts extends stop_extends st)) (decimal-integer unsigned w n r h st))
 next-integer negative w n r h st =
     rw (append_assoc (decimal_of (suc n)) (indicator_of w n) r)
-    (next-decimal negative (suc n) _ ((named w n h).over r (stop_halts extends stop-extends st)) (decimal-integer negative w n r h st))
+    (next-decimal negative (suc n) _ ((named w n h).over r (stop_halts extends stop_extends st)) (decimal-integer negative w n r h st))
 
 pub next-tag : (w : Width) (n : ℕ) (r : List ℕ) → n ≤ limit w → next ((decimal_of n ++ indicator_of w n) ++ (0x28 ∷ r)) ≡ ok (begins (opens (tagging w n))) r
 unfolding decimal whether bind is_word is class_number class_of class_in class_rows is_in

@@ -13,7 +13,7 @@ use Rattle.cbor.specs.Items.{Kind, byte_string, text_string, Size, definite, ind
 use Rattle.cbor.specs.TypedArrays.{may_tag}
 use Rattle.cbor.specs.Utf8.{is_in}
 use Rattle.cbor.specs.Valid.{ValidString, ValidChunks, Fits, Valid, ValidAll, ValidAll₂}
-use Rattle.cbor.proofs.Results.{refuse-not-ok}
+use Rattle.cbor.proofs.Results.{refuse_not_ok}
 use Rattle.notation.specs.Classes.{blank, class_number, class_rows, class_in, class_of, is}
 use Rattle.notation.specs.Scanning.{skip, skip_from, skipped}
 use Rattle.notation.specs.Indicators.{Indicator, absent}
@@ -26,8 +26,8 @@ use Rattle.notation_theorems.proofs.Locality.{lexing}
 use Rattle.notation_theorems.proofs.ByName.{bind_ok, bind-refuse, reads-is, reads-skips}
 use Rattle.notation_theorems.proofs.Equations.{items-begin, pairs-begin, one-starts}
 use Rattle.notation_theorems.proofs.PrintNumbers.{Halts, next-integer, next-tag}
-use Rattle.notation_theorems.proofs.PrintStrings.{next-string, next-unchunked}
-use Rattle.notation_theorems.proofs.PrintTokens.{next-simple, next-bracket, next-brace, marks, stops}
+use Rattle.notation_theorems.proofs.PrintStrings.{next-string, next_unchunked}
+use Rattle.notation_theorems.proofs.PrintTokens.{next-simple, next-bracket, next_brace, marks, stops}
 
 -- RULES
 
@@ -46,7 +46,7 @@ no-indicator n [] e = tt
 no-indicator n (b ∷ s) {x} {r} e = go (eqb b 0x5f) refl
   where
     go : (v : Bool) → eqb b 0x5f ≡ v → v ≡ false
-    go true h = let f : reads n (0x5f ∷ s) ≡ ok x r = rw (eqb-true b 0x5f h) at e in absurd (refuse-not-ok (sym (reads-is n (0x5f ∷ s) ∙ bind-refuse _ refl) ∙ f))
+    go true h = let f : reads n (0x5f ∷ s) ≡ ok x r = rw (eqb-true b 0x5f h) at e in absurd (refuse_not_ok (sym (reads-is n (0x5f ∷ s) ∙ bind-refuse _ refl) ∙ f))
     go false h = refl
 
 space : is blank 0x20 ≡ true
@@ -68,20 +68,20 @@ literal-read k z b d s r e = by_token (one d) s e
 
 -- CHUNKS
 
-is-wanted : (k : Kind) → is_wanted (only k) k ≡ true
+is_wanted_lem : (k : Kind) → is_wanted (only k) k ≡ true
 unfolding is_wanted
-is-wanted byte_string = refl
-is-wanted text_string = refl
+is_wanted_lem byte_string = refl
+is_wanted_lem text_string = refl
 
-chunk-first : (want : Wanted) (d : ℕ) (k : Kind) (c : Chunk) (u : List ℕ) → is_wanted want k ≡ true → ValidString k c.width c.content → Stop u
+chunk_first : (want : Wanted) (d : ℕ) (k : Kind) (c : Chunk) (u : List ℕ) → is_wanted want k ≡ true → ValidString k c.width c.content → Stop u
     → let s = print_string k c.width c.content ++ u in reads (chunks want d) s ≡ bind (next u) (λ t v. obey reads (after_chunk d k c t) (place s) (place u) v)
 unfolding rules chunks_rule chunk_rule obey
-chunk-first want d k c u h v st = by_token (chunks want d) _ (next-string k c.width c.content u v st) ∙ rw (h, chunk_rule)
+chunk_first want d k c u h v st = by_token (chunks want d) _ (next-string k c.width c.content u v st) ∙ rw (h, chunk_rule)
 
-chunks-stop : (k : Kind) (cs : List Chunk) (r : List ℕ) → Stop (print_chunks k cs ++ (0x29 ∷ r))
+chunks_stop : (k : Kind) (cs : List Chunk) (r : List ℕ) → Stop (print_chunks k cs ++ (0x29 ∷ r))
 unfolding print_chunks
-chunks-stop k [] r = (stops r).paren
-chunks-stop k (c ∷ cs) r = (stops _).comma
+chunks_stop k [] r = (stops r).paren
+chunks_stop k (c ∷ cs) r = (stops _).comma
 
 -- the chunks behind c
 chunks-read : (cs : List Chunk) (d : ℕ) (k : Kind) (c : Chunk) (r : List ℕ) (p q : ℕ) → ValidChunks k cs
@@ -91,7 +91,7 @@ chunks-read [] d k c r p q v = bind_ok _ (marks r).paren ∙ rw (closing_same d 
 chunks-read (c' ∷ cs) d k c r p q v =
     let s = print_string k c'.width c'.content ++ (print_chunks k cs ++ (0x29 ∷ r)) in
     let e : reads (chunks (only k) d) s ≡ ok (record { kind = k; all = c' ∷ cs }) r
-    = chunk-first (only k) d k c' _ (is-wanted k) v.0 (chunks-stop k cs r) ∙ chunks-read cs d k c' r _ _ v.1 in
+    = chunk_first (only k) d k c' _ (is_wanted_lem k) v.0 (chunks_stop k cs r) ∙ chunks-read cs d k c' r _ _ v.1 in
     ap (λ (u : List ℕ). bind (next (0x2c ∷ (0x20 ∷ u))) (λ t v. obey reads (after_chunk d k c t) p q v)) (append_assoc (print_string k c'.width c'.content) (print_chunks k cs) (0x29 ∷ r))
     ∙ bind_ok _ (marks (0x20 ∷ s)).comma
     ∙ bind_ok _ (behind-blank (chunks (only k) d) 0x20 s space e)
@@ -101,10 +101,10 @@ split₃ a b c r = simp append_assoc
 
 chunked-read : (k : Kind) (cs : List Chunk) (d : ℕ) (r : List ℕ) → ValidChunks k cs → Stop r → reads (one d) (print_chunked k cs ++ r) ≡ ok (chunked k cs) r
 unfolding ValidChunks print_chunked literal_item rules one_rule beginning is_wanted obey bind
-chunked-read k [] d r v st = literal-read k indefinite [] d (print_chunked k [] ++ r) r (next-unchunked k r st)
+chunked-read k [] d r v st = literal-read k indefinite [] d (print_chunked k [] ++ r) r (next_unchunked k r st)
 chunked-read k (c ∷ cs) d r v st =
     let s = print_string k c.width c.content ++ (print_chunks k cs ++ (0x29 ∷ r)) in
-    let e : reads (chunks either d) s ≡ ok (record { kind = k; all = c ∷ cs }) r = chunk-first either d k c _ refl v.0 (chunks-stop k cs r) ∙ chunks-read cs d k c r _ _ v.1 in
+    let e : reads (chunks either d) s ≡ ok (record { kind = k; all = c ∷ cs }) r = chunk_first either d k c _ refl v.0 (chunks_stop k cs r) ∙ chunks-read cs d k c r _ _ v.1 in
     ap (λ (u : List ℕ). reads (one d) (0x28 ∷ (0x5f ∷ (0x20 ∷ u)))) (split₃ (print_string k c.width c.content) (print_chunks k cs) (0x29 ∷ []) r)
     ∙ by_token (one d) _ (marks (0x20 ∷ s)).chunks
     ∙ bind_ok _ (behind-blank (chunks either d) 0x20 s space e)
@@ -128,10 +128,10 @@ items_more : (h : Shape) (d : ℕ) (x : Item) (c : ℕ) (s r : List ℕ) (cs : C
 unfolding after_item obey
 items_more h d x c s r cs p q b e = bind_ok _ (marks (c ∷ s)).comma ∙ bind_ok _ (behind-blank (items h behind_comma d) c s b e)
 
-rest-stop : (xs : Items) (c : ℕ) (e : List ℕ) → Stop e → Stop (print_rest (0x2c ∷ c ∷ []) xs ++ e)
+rest_stop : (xs : Items) (c : ℕ) (e : List ℕ) → Stop e → Stop (print_rest (0x2c ∷ c ∷ []) xs ++ e)
 unfolding print_rest
-rest-stop none c e st = st
-rest-stop (more x xs) c e st = (stops _).comma
+rest_stop none c e st = st
+rest_stop (more x xs) c e st = (stops _).comma
 
 array-read : (d : ℕ) (z : Size) (xs : Items) (s r : List ℕ) → Fits z (count xs) → reads (items square at_start d) s ≡ ok (record { all = xs; indicator = absent }) r
     → reads (one (suc d)) (0x5b ∷ (size_of z (count xs) ++ s)) ≡ ok (array z xs) r
@@ -162,19 +162,19 @@ pairs-more : (d : ℕ) (k x : Item) (s r : List ℕ) (ps : Pairs) (p q : ℕ) �
 unfolding after_value obey
 pairs-more d k x s r ps p q e = bind_ok _ (marks (0x20 ∷ s)).comma ∙ bind_ok _ (behind-blank (pairs behind_comma d) 0x20 s space e)
 
-rest₂-stop : (ps : Pairs) (r : List ℕ) → Stop (print_rest₂ ps ++ (0x7d ∷ r))
+rest₂_stop : (ps : Pairs) (r : List ℕ) → Stop (print_rest₂ ps ++ (0x7d ∷ r))
 unfolding print_rest₂
-rest₂-stop none₂ r = (stops r).brace
-rest₂-stop (more₂ k x ps) r = (stops _).comma
+rest₂_stop none₂ r = (stops r).brace
+rest₂_stop (more₂ k x ps) r = (stops _).comma
 
 map_read : (d : ℕ) (z : Size) (ps : Pairs) (s r : List ℕ) → Fits z (count₂ ps) → reads (pairs at_start d) s ≡ ok ps r → reads (one (suc d)) (0x7b ∷ (size_of z (count₂ ps) ++ s)) ≡ ok (map z ps) r
 unfolding rules one_rule beginning inside obey
 map_read d z ps s r f e =
-    let o = next-brace z (count₂ ps) s f (no-indicator (pairs at_start d) s e) in
+    let o = next_brace z (count₂ ps) s f (no-indicator (pairs at_start d) s e) in
     by_token (one (suc d)) _ o.is ∙ bind_ok _ (reads-skips (pairs at_start d) s o.rest o.skips ∙ e) ∙ rw (o.sizes (λ z. map z ps))
 
-pair-split : (a b u r : List ℕ) → (a ++ (ascii ": " ++ (b ++ u))) ++ r ≡ a ++ (0x3a ∷ (0x20 ∷ (b ++ (u ++ r))))
-pair-split a b u r = simp append_assoc
+pair_split : (a b u r : List ℕ) → (a ++ (ascii ": " ++ (b ++ u))) ++ r ≡ a ++ (0x3a ∷ (0x20 ∷ (b ++ (u ++ r))))
+pair_split a b u r = simp append_assoc
 
 -- TAGS
 
@@ -203,7 +203,7 @@ mutual
   print-read (map z ps) zero r v h st = absurd (omega arith)
   print-read (map z ps) (suc d) r v h st =
       ap (λ (u : List ℕ). reads (one (suc d)) (0x7b ∷ u)) (split₃ (size_of z (count₂ ps)) (print_all₂ ps) (0x7d ∷ []) r)
-      ∙ map_read d z ps _ r v.0 (all₂-read ps d r v.1 (omega arith))
+      ∙ map_read d z ps _ r v.0 (all₂_read ps d r v.1 (omega arith))
   print-read (tag w n x) zero r v h st = absurd (omega arith)
   print-read (tag w n x) (suc d) r v h st =
       ap (reads (one (suc d))) (tag_split (decimal_of n ++ indicator_of w n) (print_item x) r)
@@ -216,7 +216,7 @@ mutual
   all_read none h d c e r i b v l st en = by_token (items h at_start d) e en ∙ rw (closing_same {A = Closed} d h i)
   all_read (more x xs) h d c e r i b v l st en =
       ap (reads (items h at_start d)) (append_assoc (print_item x) (print_rest (0x2c ∷ c ∷ []) xs) e)
-      ∙ items-first h at_start d _ (print-read x d _ v.0 (omega arith) (rest-stop xs c e st))
+      ∙ items-first h at_start d _ (print-read x d _ v.0 (omega arith) (rest_stop xs c e st))
       ∙ rest_read xs x h d c e r i _ _ b v.1 (omega arith) st en
 
   rest_read : (xs : Items) (x : Item) (h : Shape) (d c : ℕ) (e r : List ℕ) (i : Indicator) (p q : ℕ) → is blank c ≡ true → ValidAll xs → levels_all xs ≤ d → Stop e → next e ≡ ok (closes h i) r
@@ -225,21 +225,21 @@ mutual
   rest_read (more y ys) x h d c e r i p q b v l st en =
       items_more h d x c _ r (record { all = more y ys; indicator = i }) p q b
       (ap (reads (items h behind_comma d)) (append_assoc (print_item y) (print_rest (0x2c ∷ c ∷ []) ys) e)
-      ∙ items-first h behind_comma d _ (print-read y d _ v.0 (omega arith) (rest-stop ys c e st))
+      ∙ items-first h behind_comma d _ (print-read y d _ v.0 (omega arith) (rest_stop ys c e st))
       ∙ rest_read ys y h d c e r i _ _ b v.1 (omega arith) st en)
 
-  pub all₂-read : (ps : Pairs) (d : ℕ) (r : List ℕ) → ValidAll₂ ps → levels_all₂ ps ≤ d → reads (pairs at_start d) (print_all₂ ps ++ (0x7d ∷ r)) ≡ ok ps r
-  all₂-read none₂ d r v l = by_token (pairs at_start d) _ (marks r).brace ∙ rw (closing_same {A = Pairs} d curly absent)
-  all₂-read (more₂ k x ps) d r v l =
-      ap (reads (pairs at_start d)) (pair-split (print_item k) (print_item x) (print_rest₂ ps) (0x7d ∷ r))
-      ∙ pair-first at_start d _ _ (print-read k d _ v.0 (omega arith) (stops _).colon) (print-read x d _ v.1 (omega arith) (rest₂-stop ps r))
-      ∙ rest₂-read ps k x d r _ _ v.2 (omega arith)
+  pub all₂_read : (ps : Pairs) (d : ℕ) (r : List ℕ) → ValidAll₂ ps → levels_all₂ ps ≤ d → reads (pairs at_start d) (print_all₂ ps ++ (0x7d ∷ r)) ≡ ok ps r
+  all₂_read none₂ d r v l = by_token (pairs at_start d) _ (marks r).brace ∙ rw (closing_same {A = Pairs} d curly absent)
+  all₂_read (more₂ k x ps) d r v l =
+      ap (reads (pairs at_start d)) (pair_split (print_item k) (print_item x) (print_rest₂ ps) (0x7d ∷ r))
+      ∙ pair-first at_start d _ _ (print-read k d _ v.0 (omega arith) (stops _).colon) (print-read x d _ v.1 (omega arith) (rest₂_stop ps r))
+      ∙ rest₂_read ps k x d r _ _ v.2 (omega arith)
 
-  rest₂-read : (ps : Pairs) (k x : Item) (d : ℕ) (r : List ℕ) (p q : ℕ) → ValidAll₂ ps → levels_all₂ ps ≤ d
+  rest₂_read : (ps : Pairs) (k x : Item) (d : ℕ) (r : List ℕ) (p q : ℕ) → ValidAll₂ ps → levels_all₂ ps ≤ d
       → bind (next (print_rest₂ ps ++ (0x7d ∷ r))) (λ t v. obey reads (after_value d k x t) p q v) ≡ ok (more₂ k x ps) r
-  rest₂-read none₂ k x d r p q v l = pairs_end d k x r p q
-  rest₂-read (more₂ k' x' ps) k x d r p q v l =
+  rest₂_read none₂ k x d r p q v l = pairs_end d k x r p q
+  rest₂_read (more₂ k' x' ps) k x d r p q v l =
       pairs-more d k x _ r (more₂ k' x' ps) p q
-      (ap (reads (pairs behind_comma d)) (pair-split (print_item k') (print_item x') (print_rest₂ ps) (0x7d ∷ r))
-      ∙ pair-first behind_comma d _ _ (print-read k' d _ v.0 (omega arith) (stops _).colon) (print-read x' d _ v.1 (omega arith) (rest₂-stop ps r))
-      ∙ rest₂-read ps k' x' d r _ _ v.2 (omega arith))
+      (ap (reads (pairs behind_comma d)) (pair_split (print_item k') (print_item x') (print_rest₂ ps) (0x7d ∷ r))
+      ∙ pair-first behind_comma d _ _ (print-read k' d _ v.0 (omega arith) (stops _).colon) (print-read x' d _ v.1 (omega arith) (rest₂_stop ps r))
+      ∙ rest₂_read ps k' x' d r _ _ v.2 (omega arith))

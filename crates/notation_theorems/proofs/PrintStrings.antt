@@ -25,7 +25,7 @@ use Rattle.notation.specs.Tokens.{begins, literal}
 use Rattle.notation.specs.Cutting.{cut_by, next}
 use Rattle.notation.specs.Printing.{hex_digit_of, hex_byte_of, hex_of, escape_of, escaped_of, indicator_of, print_string, print_chunked}
 use Rattle.notation_theorems.proofs.Good.{Stop}
-use Rattle.notation_theorems.proofs.PrintNumbers.{run-all, sure, either-false, next_at, Plain, plain-absent, plain-wide, named, stop-word, stop_halts, stop-indicates}
+use Rattle.notation_theorems.proofs.PrintNumbers.{run-all, sure, either_false, next_at, Plain, plain_absent, plain_wide, named, stop_word, stop_halts, stop_indicates}
 
 -- HEXADECIMAL DIGITS
 
@@ -91,17 +91,17 @@ unfolding literal_token
 literal-token k w b r i e = rw (e, literal_token)
 
 -- a literal's text, the quote q that ends it, and what stands behind
-closing-split : (a : List ℕ) (q : ℕ) (i r : List ℕ) → (a ++ (q ∷ i)) ++ r ≡ a ++ (q ∷ (i ++ r))
-closing-split a q i r = append_assoc a (q ∷ i) r
+closing_split : (a : List ℕ) (q : ℕ) (i r : List ℕ) → (a ++ (q ∷ i)) ++ r ≡ a ++ (q ∷ (i ++ r))
+closing_split a q i r = append_assoc a (q ∷ i) r
 
 next-bytes : (w : Width) (b r : List ℕ) → ValidString byte_string w b → Stop r → next (print_string byte_string w b ++ r) ≡ ok (begins (literal byte_string (definite w) b)) r
 unfolding print_string cut_by word run whether prefixed same encoded_literal contained bind is_word is class_number class_of class_in class_rows is_in
 next-bytes w b r v st =
     let i = named w (length b) v.fit in
-    rw (closing-split (hex_of b) 0x27 (indicator_of w (length b)) r)
+    rw (closing_split (hex_of b) 0x27 (indicator_of w (length b)) r)
     (next_at 0x68 _ refl
     (rw (body-hex b (indicator_of w (length b) ++ r) v.bytes)
-    (rw (i.reads r (stop-indicates st)) (rw (hex-content b v.bytes) (literal-token byte_string w b r i.mark i.width)))))
+    (rw (i.reads r (stop_indicates st)) (rw (hex-content b v.bytes) (literal-token byte_string w b r i.mark i.width)))))
 
 -- TEXT STRINGS
 
@@ -136,9 +136,9 @@ module _ (s w r : List ℕ) (e : unquote 0x22 character s ≡ ok w r) where
   unfolding move_at unit
   first-digit v h = rw ((hex-digit v h).digit, move_at)
 
-  escape-control : (c : ℕ) → c < 0x20 → unquote 0x22 character (ascii "\\u00" ++ (hex_byte_of c ++ s)) ≡ ok (c ∷ w) r
+  escape_control : (c : ℕ) → c < 0x20 → unquote 0x22 character (ascii "\\u00" ++ (hex_byte_of c ++ s)) ≡ ok (c ∷ w) r
   unfolding hex_byte_of move_at unit digit_value is_digit is_in
-  escape-control c h =
+  escape_control c h =
       unquote-on character 0x5c (0x75 ∷ (0x30 ∷ (0x30 ∷ (hex_byte_of c ++ s)))) refl
       (unquote-on (escape no_surrogate) 0x75 (0x30 ∷ (0x30 ∷ (hex_byte_of c ++ s))) refl
       (unquote-on (unicode 4 0 no_surrogate) 0x30 (0x30 ∷ (hex_byte_of c ++ s)) refl
@@ -146,10 +146,10 @@ module _ (s w r : List ℕ) (e : unquote 0x22 character s ≡ ok w r) where
       (unquote-on (unicode 2 0 no_surrogate) (hex_digit_of (c / 16)) (hex_digit_of (c % 16) ∷ s) (first-digit (c / 16) (omega arith))
       (unquote-on (unicode 1 (0 * 16 + digit_value (hex_digit_of (c / 16))) no_surrogate) (hex_digit_of (c % 16)) s (last-digit c h) e)))))
 
-  escape-plain : (c : ℕ) → (eqb c 0x22 || eqb c 0x5c) ≡ false → 0x20 ≤ c → c < 256 → unquote 0x22 character (c ∷ s) ≡ ok (c ∷ w) r
+  escape_plain : (c : ℕ) → (eqb c 0x22 || eqb c 0x5c) ≡ false → 0x20 ≤ c → c < 256 → unquote 0x22 character (c ∷ s) ≡ ok (c ∷ w) r
   unfolding move_at
-  escape-plain c h l l' =
-      let p = either-false (eqb c 0x22) (eqb c 0x5c) h in
+  escape_plain c h l l' =
+      let p = either_false (eqb c 0x22) (eqb c 0x5c) h in
       unquote-on character c s {k' = character} {w = c ∷ []} (rw (p.0, move_at) (rw p.1 (rw (le-leb 0x20 c l, le-leb c 0xff (omega arith))))) e
 
   escape-read : (c : ℕ) → c < 256 → unquote 0x22 character (escape_of c ++ s) ≡ ok (c ∷ w) r
@@ -159,27 +159,27 @@ module _ (s w r : List ℕ) (e : unquote 0x22 character s ≡ ok w r) where
       go : (x : Bool) → (eqb c 0x22 || eqb c 0x5c) ≡ x → (y : Bool) → ltb c 0x20 ≡ y
           → unquote 0x22 character ((elim x [ true ↦ 0x5c ∷ c ∷ [] | false ↦ elim y [ true ↦ ascii "\\u00" ++ hex_byte_of c | false ↦ c ∷ [] ] ]) ++ s) ≡ ok (c ∷ w) r
       go true p y q = escape-quoted c p
-      go false p true q = escape-control c (ltb-true c 0x20 q)
-      go false p false q = escape-plain c p (ltb-false c 0x20 q) l
+      go false p true q = escape_control c (ltb-true c 0x20 q)
+      go false p false q = escape_plain c p (ltb-false c 0x20 q) l
 
-escaped-read : (b s : List ℕ) → Bytes b → unquote 0x22 character (escaped_of b ++ (0x22 ∷ s)) ≡ ok b s
+escaped_read : (b s : List ℕ) → Bytes b → unquote 0x22 character (escaped_of b ++ (0x22 ∷ s)) ≡ ok b s
 unfolding escaped_of Bytes unquote move_at
-escaped-read [] s u = refl
-escaped-read (c ∷ b) s u = rw (append_assoc (escape_of c) (escaped_of b) (0x22 ∷ s)) (escape-read (escaped_of b ++ (0x22 ∷ s)) b s (escaped-read b s u.1) c u.0)
+escaped_read [] s u = refl
+escaped_read (c ∷ b) s u = rw (append_assoc (escape_of c) (escaped_of b) (0x22 ∷ s)) (escape-read (escaped_of b ++ (0x22 ∷ s)) b s (escaped_read b s u.1) c u.0)
 
 quoted-token : {i : Indicator} (k : Kind) (b r : List ℕ) → Plain i → quoted_token k b i r ≡ literal_token k b i r
 unfolding quoted_token
-quoted-token k b r plain-absent = refl
-quoted-token k b r plain-wide = refl
+quoted-token k b r plain_absent = refl
+quoted-token k b r plain_wide = refl
 
 next-text : (w : Width) (b r : List ℕ) → ValidString text_string w b → Stop r → next (print_string text_string w b ++ r) ≡ ok (begins (literal text_string (definite w) b)) r
 unfolding print_string cut_by quoted bind is class_number class_of class_in class_rows is_in
 next-text w b r v st =
     let i = named w (length b) v.fit in
-    rw (closing-split (escaped_of b) 0x22 (indicator_of w (length b)) r)
+    rw (closing_split (escaped_of b) 0x22 (indicator_of w (length b)) r)
     (next_at 0x22 _ refl
-    (rw (escaped-read b (indicator_of w (length b) ++ r) v.bytes)
-    (rw (i.reads r (stop-indicates st)) (quoted-token text_string b r i.plain ∙ literal-token text_string w b r i.mark i.width))))
+    (rw (escaped_read b (indicator_of w (length b) ++ r) v.bytes)
+    (rw (i.reads r (stop_indicates st)) (quoted-token text_string b r i.plain ∙ literal-token text_string w b r i.mark i.width))))
 
 -- a string of either kind
 pub next-string : (k : Kind) (w : Width) (b r : List ℕ) → ValidString k w b → Stop r → next (print_string k w b ++ r) ≡ ok (begins (literal k (definite w) b)) r
@@ -187,7 +187,7 @@ next-string byte_string w b r v st = next-bytes w b r v st
 next-string text_string w b r v st = next-text w b r v st
 
 -- a chunked string with no chunk: `''_`, `""_`
-pub next-unchunked : (k : Kind) (r : List ℕ) → Stop r → next (print_chunked k [] ++ r) ≡ ok (begins (literal k indefinite [])) r
+pub next_unchunked : (k : Kind) (r : List ℕ) → Stop r → next (print_chunked k [] ++ r) ≡ ok (begins (literal k indefinite [])) r
 unfolding print_chunked cut_by quoted quoted_token unquote move_at indicator indicated whether bind is class_number class_of class_in class_rows is_in
-next-unchunked byte_string r st = next_at 0x27 _ refl (rw (run-all is_word [] r tt (stop_halts is_word stop-word st)))
-next-unchunked text_string r st = next_at 0x22 _ refl (rw (run-all is_word [] r tt (stop_halts is_word stop-word st)))
+next_unchunked byte_string r st = next_at 0x27 _ refl (rw (run-all is_word [] r tt (stop_halts is_word stop_word st)))
+next_unchunked text_string r st = next_at 0x22 _ refl (rw (run-all is_word [] r tt (stop_halts is_word stop_word st)))

@@ -21,11 +21,11 @@ use Rattle.notation.specs.Form.{at_start, one, items, reads}
 use Rattle.notation.specs.Theorems.{TextOfPrint, ItemOfPrint}
 use Rattle.notation.specs.Reading.{marked, checked, sequence, read_text, alone, single, read_item}
 use Rattle.notation.specs.Printing.{decimal_of, indicator_of, print_string, print_chunked, print_int, print_item, print_all, print_text}
-use Rattle.notation_theorems.proofs.Good.{Stop, stop-nil, stop-at}
+use Rattle.notation_theorems.proofs.Good.{Stop, stop_nil, stop_at}
 use Rattle.notation_theorems.proofs.Locality.{lexing, next-skip}
 use Rattle.notation_theorems.proofs.ByName.{bind_ok}
 use Rattle.notation_theorems.proofs.PrintNumbers.{decimal-digits, gap, skip_at, digit-class}
-use Rattle.notation_theorems.proofs.PrintTokens.{Simply, as-false, as-true, as-null, as-undefined, as_number, simply, marks, stops}
+use Rattle.notation_theorems.proofs.PrintTokens.{Simply, as_false, as_true, as_null, as_undefined, as_number, simply, marks, stops}
 use Rattle.notation_theorems.proofs.PrintRead.{print-read, all_read}
 use Rattle.notation_theorems.proofs.PrintUtf8.{item-utf8, print-utf8}
 
@@ -35,13 +35,13 @@ line : is blank 0x0a ≡ true
 unfolding is class_number class_of class_in class_rows is_in
 line = refl
 
-mark-stop : Stop (256 ∷ [])
+mark_stop : Stop (256 ∷ [])
 unfolding goes_on is_word is class_number class_of class_in class_rows is_in
-mark-stop = stop-at refl
+mark_stop = stop_at refl
 
 text-read : (xs : Items) → ValidAll xs → levels_all xs ≤ most_levels → sequence (print_text xs) ≡ ok (record { all = xs; indicator = absent }) []
 unfolding sequence marked print_text print_all
-text-read none v l = all_read none whole most_levels 0x0a (256 ∷ []) [] absent line v l mark-stop (marks []).end
+text-read none v l = all_read none whole most_levels 0x0a (256 ∷ []) [] absent line v l mark_stop (marks []).end
 text-read (more x xs) v l =
     ap (reads (items whole at_start most_levels)) (append_assoc (print_all (ascii ",\n") (more x xs)) (0x0a ∷ []) (256 ∷ []))
     ∙ all_read (more x xs) whole most_levels 0x0a (0x0a ∷ 256 ∷ []) [] absent line v l (stops _).line (next-skip _ (256 ∷ []) (lexing.blank_skip 0x0a (256 ∷ []) line) ∙ (marks []).end)
@@ -54,9 +54,9 @@ checked-ok : {A : Type 0} (s : List ℕ) (w : Verdict A) → length s ≤ most_b
 unfolding checked
 checked-ok s w l u = rw (le-leb (length s) most_bytes l, checked) (rw u)
 
-pub text-of-print : TextOfPrint
+pub text_of_print : TextOfPrint
 unfolding read_text verdict_of
-text-of-print xs v h l = checked-ok (print_text xs) _ l (print-utf8 xs v) ∙ rw (print-sequence xs v h)
+text_of_print xs v h l = checked-ok (print_text xs) _ l (print-utf8 xs v) ∙ rw (print-sequence xs v h)
 
 -- AN ITEM: it begins with its first token
 record Fronted (l : List ℕ) : Type 0 where
@@ -65,37 +65,37 @@ record Fronted (l : List ℕ) : Type 0 where
   is : l ≡ first ∷ rest
   solid : gap first ≡ false
 
-fronted-more : (b : List ℕ) {a : List ℕ} → Fronted a → Fronted (a ++ b)
-fronted-more b f = record { first = f.first; rest = f.rest ++ b; is = ap (λ (u : List ℕ). u ++ b) f.is; solid = f.solid }
+fronted_more : (b : List ℕ) {a : List ℕ} → Fronted a → Fronted (a ++ b)
+fronted_more b f = record { first = f.first; rest = f.rest ++ b; is = ap (λ (u : List ℕ). u ++ b) f.is; solid = f.solid }
 
-fronted-decimal : (n : ℕ) → Fronted (decimal_of n)
+fronted_decimal : (n : ℕ) → Fronted (decimal_of n)
 unfolding is class_number
-fronted-decimal n = let d = decimal-digits n in record { first = _; rest = d.rest; is = d.is; solid = rw (digit-class d.first d.small) }
+fronted_decimal n = let d = decimal-digits n in record { first = _; rest = d.rest; is = d.is; solid = rw (digit-class d.first d.small) }
 
-fronted-by : (first : ℕ) (rest : List ℕ) → gap first ≡ false → Fronted (first ∷ rest)
-fronted-by first rest h = record { first = first; rest = rest; is = refl; solid = h }
+fronted_by : (first : ℕ) (rest : List ℕ) → gap first ≡ false → Fronted (first ∷ rest)
+fronted_by first rest h = record { first = first; rest = rest; is = refl; solid = h }
 
-fronted-simply : {n : ℕ} {l : List ℕ} → Simply n l → Fronted l
+fronted_simply : {n : ℕ} {l : List ℕ} → Simply n l → Fronted l
 unfolding is class_number class_of class_in class_rows is_in
-fronted-simply (as-false e) = fronted-by 0x66 _ refl
-fronted-simply (as-true e) = fronted-by 0x74 _ refl
-fronted-simply (as-null e) = fronted-by 0x6e _ refl
-fronted-simply (as-undefined e) = fronted-by 0x75 _ refl
-fronted-simply as_number = fronted-by 0x73 _ refl
+fronted_simply (as_false e) = fronted_by 0x66 _ refl
+fronted_simply (as_true e) = fronted_by 0x74 _ refl
+fronted_simply (as_null e) = fronted_by 0x6e _ refl
+fronted_simply (as_undefined e) = fronted_by 0x75 _ refl
+fronted_simply as_number = fronted_by 0x73 _ refl
 
 fronted : (x : Item) → Fronted (print_item x)
 unfolding print_item print_int print_string print_chunked is class_number class_of class_in class_rows is_in
-fronted (int unsigned w n) = fronted-more (indicator_of w n) (fronted-decimal n)
-fronted (int negative w n) = fronted-by 0x2d _ refl
-fronted (string byte_string w b) = fronted-by 0x68 _ refl
-fronted (string text_string w b) = fronted-by 0x22 _ refl
-fronted (chunked byte_string []) = fronted-by 0x27 _ refl
-fronted (chunked text_string []) = fronted-by 0x22 _ refl
-fronted (chunked k (c ∷ cs)) = fronted-by 0x28 _ refl
-fronted (array z xs) = fronted-by 0x5b _ refl
-fronted (map z ps) = fronted-by 0x7b _ refl
-fronted (tag w n x) = fronted-more _ (fronted-more (indicator_of w n) (fronted-decimal n))
-fronted (simple n) = fronted-simply (simply n)
+fronted (int unsigned w n) = fronted_more (indicator_of w n) (fronted_decimal n)
+fronted (int negative w n) = fronted_by 0x2d _ refl
+fronted (string byte_string w b) = fronted_by 0x68 _ refl
+fronted (string text_string w b) = fronted_by 0x22 _ refl
+fronted (chunked byte_string []) = fronted_by 0x27 _ refl
+fronted (chunked text_string []) = fronted_by 0x22 _ refl
+fronted (chunked k (c ∷ cs)) = fronted_by 0x28 _ refl
+fronted (array z xs) = fronted_by 0x5b _ refl
+fronted (map z ps) = fronted_by 0x7b _ refl
+fronted (tag w n x) = fronted_more _ (fronted_more (indicator_of w n) (fronted_decimal n))
+fronted (simple n) = fronted_simply (simply n)
 
 print-skip : (x : Item) → skip (print_item x) ≡ print_item x
 print-skip x = let f = fronted x in rw f.is (skip_at f.first f.rest f.solid)
@@ -105,8 +105,8 @@ unfolding place
 print-place x = eq-eqb (length (skip (print_item x))) (length (print_item x)) (ap length (print-skip x))
 
 print-alone : (x : Item) (d : ℕ) → Valid x → levels x ≤ d → reads (one d) (print_item x) ≡ ok x []
-print-alone x d v h = ap (reads (one d)) (sym (append-nil (print_item x))) ∙ print-read x d [] v h stop-nil
+print-alone x d v h = ap (reads (one d)) (sym (append-nil (print_item x))) ∙ print-read x d [] v h stop_nil
 
-pub item-of-print : ItemOfPrint
+pub item_of_print : ItemOfPrint
 unfolding read_item single alone verdict_of bind
-item-of-print x d v h l = checked-ok (print_item x) _ l (item-utf8 x v) ∙ rw (print-place x, single) (rw (print-alone x d v h))
+item_of_print x d v h l = checked-ok (print_item x) _ l (item-utf8 x v) ∙ rw (print-place x, single) (rw (print-alone x d v h))

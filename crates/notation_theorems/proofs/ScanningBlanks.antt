@@ -38,8 +38,8 @@ skip-end : (k : Skipping) (b : ℕ) (s : List ℕ) {r : List ℕ} → skipped k 
 unfolding skip_from
 skip-end k b s e = rw (e, skip_from)
 
-passed-cons : (k k' : Skipping) (b : ℕ) (s : List ℕ) → skipped k b s ≡ skips k' → ((c u : List ℕ) → (c' : List ℕ) × (skipped (kept k c) b u ≡ skips (kept k' c'))) → Passed k' s → Passed k (b ∷ s)
-passed-cons k k' b s e h w =
+passed_cons : (k k' : Skipping) (b : ℕ) (s : List ℕ) → skipped k b s ≡ skips k' → ((c u : List ℕ) → (c' : List ℕ) × (skipped (kept k c) b u ≡ skips (kept k' c'))) → Passed k' s → Passed k (b ∷ s)
+passed_cons k k' b s e h w =
     record {
       front = b ∷ w.front;
       split = rw (skip-on k b s e) (ap (λ (u : List ℕ). b ∷ u) w.split);
@@ -50,14 +50,14 @@ passed_none : (s : List ℕ) → skip_from between s ≡ s → Passed between s
 passed_none s e = record { front = []; split = sym e; again = λ c u. refl }
 
 -- a comment begins, or goes on
-comment-begins : (k : Skipping) (b : ℕ) (s : List ℕ) → skipped between b s ≡ skips k → left_in k ≡ b ∷ s → ((u : List ℕ) → (c : List ℕ) × (skipped between b u ≡ skips (kept k c))) → Ended k s
+comment_begins : (k : Skipping) (b : ℕ) (s : List ℕ) → skipped between b s ≡ skips k → left_in k ≡ b ∷ s → ((u : List ℕ) → (c : List ℕ) × (skipped between b u ≡ skips (kept k c))) → Ended k s
     → Passed between (b ∷ s)
-comment-begins k b s e f h (inl i) = passed_none (b ∷ s) (skip-on between b s e ∙ (i ∙ f))
-comment-begins k b s e f h (inr p) = passed-cons between k b s e (λ c u. h u) p
+comment_begins k b s e f h (inl i) = passed_none (b ∷ s) (skip-on between b s e ∙ (i ∙ f))
+comment_begins k b s e f h (inr p) = passed_cons between k b s e (λ c u. h u) p
 
-comment-cons : (k : Skipping) (b : ℕ) (s : List ℕ) → skipped k b s ≡ skips k → ((c u : List ℕ) → skipped (kept k c) b u ≡ skips (kept k c)) → Ended k s → Ended k (b ∷ s)
-comment-cons k b s e h (inl i) = inl (skip-on k b s e ∙ i)
-comment-cons k b s e h (inr p) = inr (passed-cons k k b s e (λ c u. (c, h c u)) p)
+comment_cons : (k : Skipping) (b : ℕ) (s : List ℕ) → skipped k b s ≡ skips k → ((c u : List ℕ) → skipped (kept k c) b u ≡ skips (kept k c)) → Ended k s → Ended k (b ∷ s)
+comment_cons k b s e h (inl i) = inl (skip-on k b s e ∙ i)
+comment_cons k b s e h (inr p) = inr (passed_cons k k b s e (λ c u. (c, h c u)) p)
 
 walk : (k : Skipping) (s : List ℕ) → Walked k s
 unfolding skip_from left_in skipped
@@ -67,21 +67,21 @@ walk (hashed c) [] = inl refl
 walk between (b ∷ s) = go (is blank b) (is slash b) (is hash b) refl refl refl (walk between s) (walk (slashed (b ∷ s)) s) (walk (hashed (b ∷ s)) s)
   where
     go : (u v w : Bool) → is blank b ≡ u → is slash b ≡ v → is hash b ≡ w → Passed between s → Ended (slashed (b ∷ s)) s → Ended (hashed (b ∷ s)) s → Passed between (b ∷ s)
-    go true v w e₁ e₂ e₃ p q r = passed-cons between between b s (rw (e₁, skipped)) (λ c u. (c, rw (e₁, skipped))) p
-    go false true w e₁ e₂ e₃ p q r = comment-begins (slashed (b ∷ s)) b s (rw (e₁, skipped) (rw e₂)) refl (λ u. (b ∷ u, rw (e₁, skipped) (rw e₂))) q
-    go false false true e₁ e₂ e₃ p q r = comment-begins (hashed (b ∷ s)) b s (rw (e₁, skipped) (rw e₂ (rw e₃))) refl (λ u. (b ∷ u, rw (e₁, skipped) (rw e₂ (rw e₃)))) r
+    go true v w e₁ e₂ e₃ p q r = passed_cons between between b s (rw (e₁, skipped)) (λ c u. (c, rw (e₁, skipped))) p
+    go false true w e₁ e₂ e₃ p q r = comment_begins (slashed (b ∷ s)) b s (rw (e₁, skipped) (rw e₂)) refl (λ u. (b ∷ u, rw (e₁, skipped) (rw e₂))) q
+    go false false true e₁ e₂ e₃ p q r = comment_begins (hashed (b ∷ s)) b s (rw (e₁, skipped) (rw e₂ (rw e₃))) refl (λ u. (b ∷ u, rw (e₁, skipped) (rw e₂ (rw e₃)))) r
     go false false false e₁ e₂ e₃ p q r = passed_none (b ∷ s) (skip-end between b s (rw (e₁, skipped) (rw e₂ (rw e₃))))
 walk (slashed c) (b ∷ s) = go (is slash b) (is_comment b) refl refl (walk between s) (walk (slashed c) s)
   where
     go : (u v : Bool) → is slash b ≡ u → is_comment b ≡ v → Passed between s → Ended (slashed c) s → Ended (slashed c) (b ∷ s)
-    go true v e₁ e₂ p q = inr (passed-cons (slashed c) between b s (rw (e₁, skipped)) (λ c u. (c, rw (e₁, skipped))) p)
-    go false true e₁ e₂ p q = comment-cons (slashed c) b s (rw (e₁, skipped) (rw e₂)) (λ c u. rw (e₁, skipped) (rw e₂)) q
+    go true v e₁ e₂ p q = inr (passed_cons (slashed c) between b s (rw (e₁, skipped)) (λ c u. (c, rw (e₁, skipped))) p)
+    go false true e₁ e₂ p q = comment_cons (slashed c) b s (rw (e₁, skipped) (rw e₂)) (λ c u. rw (e₁, skipped) (rw e₂)) q
     go false false e₁ e₂ p q = inl (skip-end (slashed c) b s (rw (e₁, skipped) (rw e₂)))
 walk (hashed c) (b ∷ s) = go (eqb b 0x0a) (is_comment b) refl refl (walk between s) (walk (hashed c) s)
   where
     go : (u v : Bool) → eqb b 0x0a ≡ u → is_comment b ≡ v → Passed between s → Ended (hashed c) s → Ended (hashed c) (b ∷ s)
-    go true v e₁ e₂ p q = inr (passed-cons (hashed c) between b s (rw (e₁, skipped)) (λ c u. (c, rw (e₁, skipped))) p)
-    go false true e₁ e₂ p q = comment-cons (hashed c) b s (rw (e₁, skipped) (rw e₂)) (λ c u. rw (e₁, skipped) (rw e₂)) q
+    go true v e₁ e₂ p q = inr (passed_cons (hashed c) between b s (rw (e₁, skipped)) (λ c u. (c, rw (e₁, skipped))) p)
+    go false true e₁ e₂ p q = comment_cons (hashed c) b s (rw (e₁, skipped) (rw e₂)) (λ c u. rw (e₁, skipped) (rw e₂)) q
     go false false e₁ e₂ p q = inl (skip-end (hashed c) b s (rw (e₁, skipped) (rw e₂)))
 
 -- SKIPPING

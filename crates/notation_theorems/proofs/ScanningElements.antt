@@ -8,7 +8,7 @@ use lib.Dec.{T, ltb, eqb}
 use lib.ListN.{get_or, replicate}
 use borrow.Author.Tests.{ltb-true, ltb-false, eqb-true}
 use Rattle.cbor.specs.Utf8.{Range, ◌to◌, is_in}
-use Rattle.cbor.proofs.Utf8Laws.{both_true, is-in}
+use Rattle.cbor.proofs.Utf8Laws.{both_true, is_in_lem}
 use Rattle.cbor.proofs.Table.{every, between}
 use Rattle.cbor.proofs.Tests.{is_true, clash, either_true}
 use Rattle.notation.specs.Classes.{Class, other, blank, digit, letter, underscore, minus, dot, quote, apostrophe, slash, hash, comma, colon, open_paren, close_paren, open_bracket, close_bracket, open_brace, close_brace, less, greater, end_mark, class_number, ClassRow, class_rows, class_in, class_of, is, is_word, goes_on}
@@ -22,13 +22,13 @@ word_on b e = rw e
 one_on : (c : ℕ) → goes_on c ≡ true → (b : ℕ) → eqb b c ≡ true → goes_on b ≡ true
 one_on c h b e = rw (eqb-true b c e) h
 
-range-on : (g : Range) → T (every (λ k x. goes_on k) g.low (replicate (suc g.high - g.low) 0)) → (b : ℕ) → is_in g b ≡ true → goes_on b ≡ true
-range-on g t b e = let i = is-in g b e in is_true (goes_on b) (between goes_on g.low (suc g.high) t b i.0 (omega arith))
+range_on : (g : Range) → T (every (λ k x. goes_on k) g.low (replicate (suc g.high - g.low) 0)) → (b : ℕ) → is_in g b ≡ true → goes_on b ≡ true
+range_on g t b e = let i = is_in_lem g b e in is_true (goes_on b) (between goes_on g.low (suc g.high) t b i.0 (omega arith))
 
 -- a fact of a digit in each of its ranges, and of none
-pub digit-cases : (P : Digit → Type 0) (b : ℕ) → (is_in (0x30 to 0x39) b ≡ true → P (worth (b - 0x30))) → (is_in (0x61 to 0x66) b ≡ true → P (worth (b - 0x57)))
+pub digit_cases : (P : Digit → Type 0) (b : ℕ) → (is_in (0x30 to 0x39) b ≡ true → P (worth (b - 0x30))) → (is_in (0x61 to 0x66) b ≡ true → P (worth (b - 0x57)))
     → (is_in (0x41 to 0x46) b ≡ true → P (worth (b - 0x37))) → P no_digit → P (digit_at b)
-digit-cases P b f g h k = go (is_in (0x30 to 0x39) b) (is_in (0x61 to 0x66) b) (is_in (0x41 to 0x46) b) f g h
+digit_cases P b f g h k = go (is_in (0x30 to 0x39) b) (is_in (0x61 to 0x66) b) (is_in (0x41 to 0x46) b) f g h
   where
     go : (u v w : Bool) → (u ≡ true → P (worth (b - 0x30))) → (v ≡ true → P (worth (b - 0x57))) → (w ≡ true → P (worth (b - 0x37)))
         → P (elim u [ true ↦ worth (b - 0x30) | false ↦ elim v [ true ↦ worth (b - 0x57) | false ↦ elim w [ true ↦ worth (b - 0x37) | false ↦ no_digit ] ] ])
@@ -40,8 +40,8 @@ digit-cases P b f g h k = go (is_in (0x30 to 0x39) b) (is_in (0x61 to 0x66) b) (
 pub digit-on : (radix b : ℕ) → is_digit radix b ≡ true → goes_on b ≡ true
 unfolding is_digit goes_on is_word is class_number class_of class_in class_rows is_in
 digit-on radix b =
-    digit-cases (λ d. ◌≡◌ {A = Bool} (elim d [ worth v ↦ ltb v radix | no_digit ↦ false ]) true → goes_on b ≡ true) b
-    (λ i e. range-on (0x30 to 0x39) tt b i) (λ i e. range-on (0x61 to 0x66) tt b i) (λ i e. range-on (0x41 to 0x46) tt b i) (λ e. absurd (clash (sym e)))
+    digit_cases (λ d. ◌≡◌ {A = Bool} (elim d [ worth v ↦ ltb v radix | no_digit ↦ false ]) true → goes_on b ≡ true) b
+    (λ i e. range_on (0x30 to 0x39) tt b i) (λ i e. range_on (0x61 to 0x66) tt b i) (λ i e. range_on (0x41 to 0x46) tt b i) (λ e. absurd (clash (sym e)))
 
 pub float-on : (radix b : ℕ) → makes_float radix b ≡ true → goes_on b ≡ true
 unfolding makes_float goes_on is_word is class_number class_of class_in class_rows is_in
@@ -60,16 +60,16 @@ off test h b g = go (test b) refl
     go true e = absurd (clash (sym (h b e) ∙ g))
     go false e = refl
 
-pub off-is : (c : ℕ) → goes_on c ≡ true → (b : ℕ) → goes_on b ≡ false → eqb b c ≡ false
-off-is c h = off (λ b. eqb b c) (one_on c h)
+pub off_is : (c : ℕ) → goes_on c ≡ true → (b : ℕ) → goes_on b ≡ false → eqb b c ≡ false
+off_is c h = off (λ b. eqb b c) (one_on c h)
 
 pub radix-none : (c : ℕ) → goes_on c ≡ false → radix_of c ≡ no_radix
 unfolding radix_of goes_on is_word is class_number class_of class_in class_rows is_in
-radix-none c h = rw (off-is 0x78 refl c h, radix_of) (rw (off-is 0x6f refl c h) (rw (off-is 0x62 refl c h)))
+radix-none c h = rw (off_is 0x78 refl c h, radix_of) (rw (off_is 0x6f refl c h) (rw (off_is 0x62 refl c h)))
 
 -- BLANKS
-pub blank-is-not : (c : ℕ) → is blank c ≡ false → (b : ℕ) → is blank b ≡ true → eqb b c ≡ false
-blank-is-not c h b e = go (eqb b c) refl
+pub blank-is_not : (c : ℕ) → is blank c ≡ false → (b : ℕ) → is blank b ≡ true → eqb b c ≡ false
+blank-is_not c h b e = go (eqb b c) refl
   where
     go : (v : Bool) → eqb b c ≡ v → v ≡ false
     go true i = absurd (clash (sym e ∙ (ap (is blank) (eqb-true b c i) ∙ h)))
@@ -125,7 +125,7 @@ class-other (w ∷ ws) n b h k = let p = both_true (narrow w) (all_narrow ws) n 
   where
     out : is_in w.bytes b ≡ true → narrow w ≡ true → ⊥
     out e t =
-        let i = is-in w.bytes b e in
+        let i = is_in_lem w.bytes b e in
         either_true (ltb w.bytes.high 128) (eqb w.bytes.low 256 && eqb w.bytes.high 256) t (λ l. omega (arith, ltb-true w.bytes.high 128 l))
         (λ l. let m = both_true (eqb w.bytes.low 256) (eqb w.bytes.high 256) l in k (omega (arith, eqb-true w.bytes.low 256 m.0, eqb-true w.bytes.high 256 m.1)))
 

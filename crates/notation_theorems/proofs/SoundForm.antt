@@ -21,7 +21,7 @@ use Rattle.notation.specs.Tokens.{Opener, bracket, brace, tagging, embedding, Be
 use Rattle.notation.specs.Cutting.{place}
 use Rattle.notation.specs.Form.{Position, at_start, behind_comma, Wanted, only, Name, one, items, pairs, chunks, Closed, Chunks, Value, Rule, give, deny, deny_first, take, call, then, strays, shape_number, closing_rule, width_rule, contains, embeds, tag_rule, after_tag, inside, literal_item, beginning, one_rule, add_item, after_item, items_rule, after_value, after_key, pairs_rule, add_chunk, after_chunk, is_wanted, chunk_rule, chunks_rule, rules, Calls, obey, reads_within, reads}
 use Rattle.notation_theorems.proofs.TextScan.{tested, Leaves, leaves-bind}
-use Rattle.notation_theorems.proofs.SoundToken.{most, OpenerSound, TokenSound, weight, head-most, Chose, choose-fits, Next, next-sound}
+use Rattle.notation_theorems.proofs.SoundToken.{most, OpenerSound, TokenSound, weight, head-most, Chose, choose-fits, Next, next_sound}
 
 -- LENGTHS OF CODE
 
@@ -89,8 +89,8 @@ Sound (items h b d) j c = HeldClosed d j c
 Sound (pairs b d) j ps = HeldPairs d j ps
 Sound (chunks w d) j c = HeldChunks w j c
 
-item-later : {d i : ℕ} (j : ℕ) {x : Item} → i ≤ j → HeldItem d i x → HeldItem d j x
-item-later j l h = record { good = h.good; deep = h.deep; size = omega arith }
+item_later : {d i : ℕ} (j : ℕ) {x : Item} → i ≤ j → HeldItem d i x → HeldItem d j x
+item_later j l h = record { good = h.good; deep = h.deep; size = omega arith }
 
 none-held : (d j : ℕ) → HeldItems d j none
 unfolding ValidAll levels_all encode_all
@@ -132,170 +132,170 @@ keeps_then P Q (deny_first n) k m l h g = tt
 keeps_then P Q (take f) k m l h g = λ t j c. keeps_then P Q (f t) k j c.short (h t j c) g
 keeps_then P Q (call n c) k m l h g = λ x j b s. keeps_then P Q (c x) k (m + j) b (h x j b s) g
 
-keeps-closing : {A : Type 0} (P : ℕ → A → Type 0) (m d : ℕ) (h h' : Shape) (i : Indicator) (x : A) → P m x → Keeps P m (closing_rule d h h' i x)
+keeps_closing : {A : Type 0} (P : ℕ → A → Type 0) (m d : ℕ) (h h' : Shape) (i : Indicator) (x : A) → P m x → Keeps P m (closing_rule d h h' i x)
 unfolding closing_rule strays
-keeps-closing P m d h h' i x p = tested (Keeps P m) (eqb (shape_number h) (shape_number h')) _ _ (λ e. p) (λ e. tt)
+keeps_closing P m d h h' i x p = tested (Keeps P m) (eqb (shape_number h) (shape_number h')) _ _ (λ e. p) (λ e. tt)
 
 -- CONTAINERS
 
-keeps-sized : (P : ℕ → Item → Type 0) (m n : ℕ) (c : Chosen) (make : Width → Item) → Chose n c → ((w : Width) → n ≤ limit w → P m (make w)) → Keeps P m (width_rule c make)
+keeps_sized : (P : ℕ → Item → Type 0) (m n : ℕ) (c : Chosen) (make : Width → Item) → Chose n c → ((w : Width) → n ≤ limit w → P m (make w)) → Keeps P m (width_rule c make)
 unfolding width_rule
-keeps-sized P m n (chosen w) make h k = k w h
-keeps-sized P m n misfit make h k = tt
+keeps_sized P m n (chosen w) make h k = k w h
+keeps_sized P m n misfit make h k = tt
 
-keeps-contains : (P : ℕ → Item → Type 0) (m n : ℕ) (i : Indicator) (make : Size → Item) → n ≤ limit w8 → ((z : Size) → Fits z n → P m (make z)) → Keeps P m (contains i n make)
+keeps_contains : (P : ℕ → Item → Type 0) (m n : ℕ) (i : Indicator) (make : Size → Item) → n ≤ limit w8 → ((z : Size) → Fits z n → P m (make z)) → Keeps P m (contains i n make)
 unfolding contains Fits
-keeps-contains P m n absent make h k = keeps-sized P m n (choose absent n) (λ w. make (definite w)) (choose-fits absent n h) (λ w. k (definite w))
-keeps-contains P m n indefinitely make h k = k indefinite tt
-keeps-contains P m n unknown make h k = keeps-sized P m n (choose unknown n) (λ w. make (definite w)) (choose-fits unknown n h) (λ w. k (definite w))
-keeps-contains P m n (wide w) make h k = keeps-sized P m n (choose (wide w) n) (λ w. make (definite w)) (choose-fits (wide w) n h) (λ w. k (definite w))
+keeps_contains P m n absent make h k = keeps_sized P m n (choose absent n) (λ w. make (definite w)) (choose-fits absent n h) (λ w. k (definite w))
+keeps_contains P m n indefinitely make h k = k indefinite tt
+keeps_contains P m n unknown make h k = keeps_sized P m n (choose unknown n) (λ w. make (definite w)) (choose-fits unknown n h) (λ w. k (definite w))
+keeps_contains P m n (wide w) make h k = keeps_sized P m n (choose (wide w) n) (λ w. make (definite w)) (choose-fits (wide w) n h) (λ w. k (definite w))
 
-keeps-embeds : (d m : ℕ) (c : Closed) → m ≤ most → 9 + length (encode_all c.all) ≤ 9 * m → ValidAll c.all → Keeps (HeldItem d) m (embeds c)
+keeps_embeds : (d m : ℕ) (c : Closed) → m ≤ most → 9 + length (encode_all c.all) ≤ 9 * m → ValidAll c.all → Keeps (HeldItem d) m (embeds c)
 unfolding embeds limit Valid levels encode is_text
-keeps-embeds d m c l h v =
-    keeps-sized (HeldItem d) m (length (encode_all c.all)) (choose c.indicator (length (encode_all c.all))) (λ w. string byte_string w (encode_all c.all))
+keeps_embeds d m c l h v =
+    keeps_sized (HeldItem d) m (length (encode_all c.all)) (choose c.indicator (length (encode_all c.all))) (λ w. string byte_string w (encode_all c.all))
     (choose-fits c.indicator (length (encode_all c.all)) (omega arith))
     (λ w f. record { good = record { fit = f; bytes = encode-all-bytes c.all v; good = refl }; deep = omega arith; size = omega (arith, string-most byte_string w (encode_all c.all)) })
 
-keeps-tag : (d i : ℕ) (w : Width) (n : ℕ) (x : Item) → n ≤ limit w → HeldItem d i x → (t : Token) (m : ℕ) → Taken i t m
+keeps_tag : (d i : ℕ) (w : Width) (n : ℕ) (x : Item) → n ≤ limit w → HeldItem d i x → (t : Token) (m : ℕ) → Taken i t m
     → Keeps (HeldItem (suc d)) m (after_tag d w n x t)
 unfolding after_tag strays tag_rule Valid levels encode
-keeps-tag d i w n x f h (begins g) m c = tt
-keeps-tag d i w n x f h a_comma m c = tt
-keeps-tag d i w n x f h a_colon m c = tt
-keeps-tag d i w n x f h (closes s o) m c =
+keeps_tag d i w n x f h (begins g) m c = tt
+keeps_tag d i w n x f h a_comma m c = tt
+keeps_tag d i w n x f h a_colon m c = tt
+keeps_tag d i w n x f h (closes s o) m c =
     keeps_then (λ j y. HeldItem d i y × (m ≤ j)) (HeldItem (suc d)) (closing_rule d round s o x) (tag_rule w n) m c.short
-    (keeps-closing (λ j y. HeldItem d i y × (m ≤ j)) m d round s o x (h, omega arith)) go
+    (keeps_closing (λ j y. HeldItem d i y × (m ≤ j)) m d round s o x (h, omega arith)) go
   where
     go : (y : Item) (j : ℕ) → j ≤ most → HeldItem d i y × (m ≤ j) → Keeps (HeldItem (suc d)) j (tag_rule w n y)
     go y j b k =
         tested (Keeps (HeldItem (suc d)) j) (may_tag n y) _ _
         (λ e. record { good = (f, e, k.0.good); deep = omega arith; size = rw length-append (omega (arith, head-most tag_heads w n)) }) (λ e. tt)
 
-keeps-inside : (d : ℕ) (o : Opener) (m : ℕ) → 1 ≤ m → OpenerSound o → Keeps (HeldItem (suc d)) m (inside d o)
+keeps_inside : (d : ℕ) (o : Opener) (m : ℕ) → 1 ≤ m → OpenerSound o → Keeps (HeldItem (suc d)) m (inside d o)
 unfolding inside limit Valid levels encode
-keeps-inside d (bracket i) m l s = λ c j b h.
-    keeps-contains (HeldItem (suc d)) (m + j) (count c.all) i (λ z. array z c.all) (omega (arith, count_most c.all))
+keeps_inside d (bracket i) m l s = λ c j b h.
+    keeps_contains (HeldItem (suc d)) (m + j) (count c.all) i (λ z. array z c.all) (omega (arith, count_most c.all))
     (λ z f. record { good = (f, h.good); deep = omega arith; size = omega (arith, enclosed-most arrays z (count c.all) (encode_all c.all)) })
-keeps-inside d (brace i) m l s = λ ps j b h.
-    keeps-contains (HeldItem (suc d)) (m + j) (count₂ ps) i (λ z. map z ps) (omega (arith, count₂-most ps))
+keeps_inside d (brace i) m l s = λ ps j b h.
+    keeps_contains (HeldItem (suc d)) (m + j) (count₂ ps) i (λ z. map z ps) (omega (arith, count₂-most ps))
     (λ z f. record { good = (f, h.good); deep = omega arith; size = omega (arith, enclosed-most maps z (count₂ ps) (encode_all₂ ps)) })
-keeps-inside d (tagging w n) m l s = λ x j b h t i c. keeps-tag d (m + j) w n x s (item-later (m + j) (omega arith) h) t i c
-keeps-inside d embedding m l s = λ c j b h. keeps-embeds (suc d) (m + j) c b (omega (arith, h.size)) h.good
+keeps_inside d (tagging w n) m l s = λ x j b h t i c. keeps_tag d (m + j) w n x s (item_later (m + j) (omega arith) h) t i c
+keeps_inside d embedding m l s = λ c j b h. keeps_embeds (suc d) (m + j) c b (omega (arith, h.size)) h.good
 
 -- AN ITEM
 
-keeps-literal : (d : ℕ) (k : Kind) (z : Size) (b : List ℕ) (m : ℕ) → Taken 0 (begins (literal k z b)) m → HeldItem d m (literal_item k z b)
+keeps_literal : (d : ℕ) (k : Kind) (z : Size) (b : List ℕ) (m : ℕ) → Taken 0 (begins (literal k z b)) m → HeldItem d m (literal_item k z b)
 unfolding literal_item Valid levels encode ValidChunks encode_chunks
-keeps-literal d k (definite w) b m c = record { good = c.sound; deep = omega arith; size = omega (arith, string-most k w b) }
-keeps-literal d k indefinite b m c = record { good = tt; deep = omega arith; size = omega (arith, enclosed-most (strings k) indefinite 0 []) }
+keeps_literal d k (definite w) b m c = record { good = c.sound; deep = omega arith; size = omega (arith, string-most k w b) }
+keeps_literal d k indefinite b m c = record { good = tt; deep = omega arith; size = omega (arith, enclosed-most (strings k) indefinite 0 []) }
 
-keeps-beginning : (d : ℕ) (g : Beginning) (m : ℕ) → Taken 0 (begins g) m → Keeps (HeldItem d) m (beginning d g)
+keeps_beginning : (d : ℕ) (g : Beginning) (m : ℕ) → Taken 0 (begins g) m → Keeps (HeldItem d) m (beginning d g)
 unfolding beginning Valid levels encode
-keeps-beginning d (leaf x) m c =
+keeps_beginning d (leaf x) m c =
     tested (Keeps (HeldItem d) m) (leb (levels x) d) _ _ (λ e. record { good = c.sound.0; deep = leb-true (levels x) d e; size = omega (arith, c.sound.1) }) (λ e. tt)
-keeps-beginning d (literal k z b) m c = keeps-literal d k z b m c
-keeps-beginning d chunking m c = λ cs j b h.
+keeps_beginning d (literal k z b) m c = keeps_literal d k z b m c
+keeps_beginning d chunking m c = λ cs j b h.
     record { good = h.good; deep = omega arith; size = omega (arith, h.size, enclosed-most (strings cs.kind) indefinite 0 (encode_chunks cs.kind cs.all)) }
-keeps-beginning zero (opens o) m c = tt
-keeps-beginning (suc d) (opens o) m c = keeps-inside d o m (omega arith) c.sound
+keeps_beginning zero (opens o) m c = tt
+keeps_beginning (suc d) (opens o) m c = keeps_inside d o m (omega arith) c.sound
 
 -- ITEMS
 
-keeps-after-item : (h : Shape) (d : ℕ) (x : Item) (i : ℕ) → HeldItem d i x → (t : Token) (m : ℕ) → Taken i t m
+keeps_after-item : (h : Shape) (d : ℕ) (x : Item) (i : ℕ) → HeldItem d i x → (t : Token) (m : ℕ) → Taken i t m
     → Keeps (HeldClosed d) m (after_item h d x t)
 unfolding after_item strays add_item
-keeps-after-item h d x i p (begins g) m c = tt
-keeps-after-item h d x i p (closes h' o) m c =
-    keeps-closing (HeldClosed d) m d h h' o (record { all = more x none; indicator = o }) (more-held m (omega arith) p (none-held d 0))
-keeps-after-item h d x i p a_comma m c = λ xs j b q. more-held (m + j) (omega arith) p q
-keeps-after-item h d x i p a_colon m c = tt
+keeps_after-item h d x i p (begins g) m c = tt
+keeps_after-item h d x i p (closes h' o) m c =
+    keeps_closing (HeldClosed d) m d h h' o (record { all = more x none; indicator = o }) (more-held m (omega arith) p (none-held d 0))
+keeps_after-item h d x i p a_comma m c = λ xs j b q. more-held (m + j) (omega arith) p q
+keeps_after-item h d x i p a_colon m c = tt
 
-keeps-items : (h : Shape) (b : Position) (d : ℕ) (t : Token) (m : ℕ) → Taken 0 t m → Keeps (HeldClosed d) m (items_rule h b d t)
+keeps_items : (h : Shape) (b : Position) (d : ℕ) (t : Token) (m : ℕ) → Taken 0 t m → Keeps (HeldClosed d) m (items_rule h b d t)
 unfolding items_rule strays
-keeps-items h b d (begins g) m c =
-    keeps_then (HeldItem d) (HeldClosed d) (beginning d g) (λ x. take (after_item h d x)) m c.short (keeps-beginning d g m c) (λ x i k p. keeps-after-item h d x i p)
-keeps-items h at_start d (closes h' o) m c = keeps-closing (HeldClosed d) m d h h' o (record { all = none; indicator = o }) (none-held d m)
-keeps-items h behind_comma d (closes h' o) m c = tt
-keeps-items h b d a_comma m c = tt
-keeps-items h b d a_colon m c = tt
+keeps_items h b d (begins g) m c =
+    keeps_then (HeldItem d) (HeldClosed d) (beginning d g) (λ x. take (after_item h d x)) m c.short (keeps_beginning d g m c) (λ x i k p. keeps_after-item h d x i p)
+keeps_items h at_start d (closes h' o) m c = keeps_closing (HeldClosed d) m d h h' o (record { all = none; indicator = o }) (none-held d m)
+keeps_items h behind_comma d (closes h' o) m c = tt
+keeps_items h b d a_comma m c = tt
+keeps_items h b d a_colon m c = tt
 
 -- PAIRS
 
-keeps-after-value : (d : ℕ) (k x : Item) (h i : ℕ) → HeldItem d h k → HeldItem d i x → (t : Token) (m : ℕ) → Taken (h + i) t m
+keeps_after-value : (d : ℕ) (k x : Item) (h i : ℕ) → HeldItem d h k → HeldItem d i x → (t : Token) (m : ℕ) → Taken (h + i) t m
     → Keeps (HeldPairs d) m (after_value d k x t)
 unfolding after_value strays
-keeps-after-value d k x h i p q (begins g) m c = tt
-keeps-after-value d k x h i p q (closes h' o) m c = keeps-closing (HeldPairs d) m d curly h' o (more₂ k x none₂) (more₂-held m (omega arith) p q (none₂-held d 0))
-keeps-after-value d k x h i p q a_comma m c = λ ps j b r. more₂-held (m + j) (omega arith) p q r
-keeps-after-value d k x h i p q a_colon m c = tt
+keeps_after-value d k x h i p q (begins g) m c = tt
+keeps_after-value d k x h i p q (closes h' o) m c = keeps_closing (HeldPairs d) m d curly h' o (more₂ k x none₂) (more₂-held m (omega arith) p q (none₂-held d 0))
+keeps_after-value d k x h i p q a_comma m c = λ ps j b r. more₂-held (m + j) (omega arith) p q r
+keeps_after-value d k x h i p q a_colon m c = tt
 
-keeps-after-key : (d : ℕ) (k : Item) (i : ℕ) → HeldItem d i k → (t : Token) (m : ℕ) → Taken i t m → Keeps (HeldPairs d) m (after_key d k t)
+keeps_after-key : (d : ℕ) (k : Item) (i : ℕ) → HeldItem d i k → (t : Token) (m : ℕ) → Taken i t m → Keeps (HeldPairs d) m (after_key d k t)
 unfolding after_key strays
-keeps-after-key d k i p (begins g) m c = tt
-keeps-after-key d k i p (closes h o) m c = tt
-keeps-after-key d k i p a_comma m c = tt
-keeps-after-key d k i p a_colon m c = λ x j b q t n e. keeps-after-value d k x m j (item-later m (omega arith) p) q t n e
+keeps_after-key d k i p (begins g) m c = tt
+keeps_after-key d k i p (closes h o) m c = tt
+keeps_after-key d k i p a_comma m c = tt
+keeps_after-key d k i p a_colon m c = λ x j b q t n e. keeps_after-value d k x m j (item_later m (omega arith) p) q t n e
 
-keeps-pairs : (b : Position) (d : ℕ) (t : Token) (m : ℕ) → Taken 0 t m → Keeps (HeldPairs d) m (pairs_rule b d t)
+keeps_pairs : (b : Position) (d : ℕ) (t : Token) (m : ℕ) → Taken 0 t m → Keeps (HeldPairs d) m (pairs_rule b d t)
 unfolding pairs_rule strays
-keeps-pairs b d (begins g) m c = keeps_then (HeldItem d) (HeldPairs d) (beginning d g) (λ k. take (after_key d k)) m c.short (keeps-beginning d g m c) (λ k i e p. keeps-after-key d k i p)
-keeps-pairs at_start d (closes h o) m c = keeps-closing (HeldPairs d) m d curly h o none₂ (none₂-held d m)
-keeps-pairs behind_comma d (closes h o) m c = tt
-keeps-pairs b d a_comma m c = tt
-keeps-pairs b d a_colon m c = tt
+keeps_pairs b d (begins g) m c = keeps_then (HeldItem d) (HeldPairs d) (beginning d g) (λ k. take (after_key d k)) m c.short (keeps_beginning d g m c) (λ k i e p. keeps_after-key d k i p)
+keeps_pairs at_start d (closes h o) m c = keeps_closing (HeldPairs d) m d curly h o none₂ (none₂-held d m)
+keeps_pairs behind_comma d (closes h o) m c = tt
+keeps_pairs b d a_comma m c = tt
+keeps_pairs b d a_colon m c = tt
 
 -- CHUNKS
 
-wanted-is : (k k' : Kind) → is_wanted (only k) k' ≡ true → k' ≡ k
+wanted_is : (k k' : Kind) → is_wanted (only k) k' ≡ true → k' ≡ k
 unfolding is_wanted
-wanted-is byte_string byte_string e = refl
-wanted-is byte_string text_string e = cc
-wanted-is text_string byte_string e = cc
-wanted-is text_string text_string e = refl
+wanted_is byte_string byte_string e = refl
+wanted_is byte_string text_string e = cc
+wanted_is text_string byte_string e = cc
+wanted_is text_string text_string e = refl
 
-keeps-after-chunk : (want : Wanted) (d : ℕ) (k : Kind) (w : Width) (b : List ℕ) → is_wanted want k ≡ true → ValidString k w b → (i : ℕ) → 9 + length b ≤ 9 * i
+keeps_after_chunk : (want : Wanted) (d : ℕ) (k : Kind) (w : Width) (b : List ℕ) → is_wanted want k ≡ true → ValidString k w b → (i : ℕ) → 9 + length b ≤ 9 * i
     → (t : Token) (m : ℕ) → Taken i t m → Keeps (HeldChunks want) m (after_chunk d k (record { width = w; content = b }) t)
 unfolding after_chunk strays add_chunk ValidChunks encode_chunks
-keeps-after-chunk want d k w b e v i h (begins g) m c = tt
-keeps-after-chunk want d k w b e v i h (closes h' o) m c =
-    keeps-closing (HeldChunks want) m d round h' o (record { kind = k; all = record { width = w; content = b } ∷ [] })
+keeps_after_chunk want d k w b e v i h (begins g) m c = tt
+keeps_after_chunk want d k w b e v i h (closes h' o) m c =
+    keeps_closing (HeldChunks want) m d round h' o (record { kind = k; all = record { width = w; content = b } ∷ [] })
     (record { good = (v, tt); wanted = e; size = rw length-append (omega (arith, string-most k w b)) })
-keeps-after-chunk want d k w b e v i h a_comma m c = λ cs j a q.
-    let f = wanted-is k cs.kind q.wanted in
+keeps_after_chunk want d k w b e v i h a_comma m c = λ cs j a q.
+    let f = wanted_is k cs.kind q.wanted in
     record { good = (rw f v, q.good); wanted = rw f e; size = rw length-append (omega (arith, string-most cs.kind w b, q.size)) }
-keeps-after-chunk want d k w b e v i h a_colon m c = tt
+keeps_after_chunk want d k w b e v i h a_colon m c = tt
 
-keeps-chunk : (want : Wanted) (d : ℕ) (k : Kind) (z : Size) (b : List ℕ) (m : ℕ) → Taken 0 (begins (literal k z b)) m → Keeps (HeldChunks want) m (chunk_rule want d k z b)
+keeps_chunk : (want : Wanted) (d : ℕ) (k : Kind) (z : Size) (b : List ℕ) (m : ℕ) → Taken 0 (begins (literal k z b)) m → Keeps (HeldChunks want) m (chunk_rule want d k z b)
 unfolding chunk_rule
-keeps-chunk want d k (definite w) b m c = tested (Keeps (HeldChunks want) m) (is_wanted want k) _ _ (λ e. keeps-after-chunk want d k w b e c.sound m (omega arith)) (λ e. tt)
-keeps-chunk want d k indefinite b m c = tt
+keeps_chunk want d k (definite w) b m c = tested (Keeps (HeldChunks want) m) (is_wanted want k) _ _ (λ e. keeps_after_chunk want d k w b e c.sound m (omega arith)) (λ e. tt)
+keeps_chunk want d k indefinite b m c = tt
 
-keeps-chunks : (want : Wanted) (d : ℕ) (t : Token) (m : ℕ) → Taken 0 t m → Keeps (HeldChunks want) m (chunks_rule want d t)
+keeps_chunks : (want : Wanted) (d : ℕ) (t : Token) (m : ℕ) → Taken 0 t m → Keeps (HeldChunks want) m (chunks_rule want d t)
 unfolding chunks_rule strays
-keeps-chunks want d (begins (leaf x)) m c = tt
-keeps-chunks want d (begins (literal k z b)) m c = keeps-chunk want d k z b m c
-keeps-chunks want d (begins chunking) m c = tt
-keeps-chunks want d (begins (opens o)) m c = tt
-keeps-chunks want d (closes h o) m c = tt
-keeps-chunks want d a_comma m c = tt
-keeps-chunks want d a_colon m c = tt
+keeps_chunks want d (begins (leaf x)) m c = tt
+keeps_chunks want d (begins (literal k z b)) m c = keeps_chunk want d k z b m c
+keeps_chunks want d (begins chunking) m c = tt
+keeps_chunks want d (begins (opens o)) m c = tt
+keeps_chunks want d (closes h o) m c = tt
+keeps_chunks want d a_comma m c = tt
+keeps_chunks want d a_colon m c = tt
 
 -- THE TABLE
 
-keeps-one : (d : ℕ) (t : Token) (m : ℕ) → Taken 0 t m → Keeps (HeldItem d) m (one_rule d t)
+keeps_one : (d : ℕ) (t : Token) (m : ℕ) → Taken 0 t m → Keeps (HeldItem d) m (one_rule d t)
 unfolding one_rule strays
-keeps-one d (begins g) m c = keeps-beginning d g m c
-keeps-one d (closes h o) m c = tt
-keeps-one d a_comma m c = tt
-keeps-one d a_colon m c = tt
+keeps_one d (begins g) m c = keeps_beginning d g m c
+keeps_one d (closes h o) m c = tt
+keeps_one d a_comma m c = tt
+keeps_one d a_colon m c = tt
 
-keeps-rules : (n : Name) (t : Token) (m : ℕ) → Taken 0 t m → Keeps (Sound n) m (rules n t)
+keeps_rules : (n : Name) (t : Token) (m : ℕ) → Taken 0 t m → Keeps (Sound n) m (rules n t)
 unfolding rules
-keeps-rules (one d) t m c = keeps-one d t m c
-keeps-rules (items h b d) t m c = keeps-items h b d t m c
-keeps-rules (pairs b d) t m c = keeps-pairs b d t m c
-keeps-rules (chunks w d) t m c = keeps-chunks w d t m c
+keeps_rules (one d) t m c = keeps_one d t m c
+keeps_rules (items h b d) t m c = keeps_items h b d t m c
+keeps_rules (pairs b d) t m c = keeps_pairs b d t m c
+keeps_rules (chunks w d) t m c = keeps_chunks w d t m c
 
 -- READING, of n altogether, with k left
 
@@ -303,26 +303,26 @@ abbrev pub Reads : {A : Type 0} → (ℕ → A → Type 0) → ℕ → A → ℕ
 Reads P n x k = (j : ℕ) × (j + k ≡ n) × P j x
 
 module _ (c : Calls) (c-sound : (n : Name) (s : List ℕ) → Text true [] s → length s ≤ most → Leaves (Reads (Sound n) (length s)) (c n s)) where
-  obey-sound : {A : Type 0} (P : ℕ → A → Type 0) (r : Rule A) (m p q n : ℕ) (s : List ℕ) → Text true [] s → m + length s ≡ n → n ≤ most → Keeps P m r → Leaves (Reads P n) (obey c r p q s)
+  obey_sound : {A : Type 0} (P : ℕ → A → Type 0) (r : Rule A) (m p q n : ℕ) (s : List ℕ) → Text true [] s → m + length s ≡ n → n ≤ most → Keeps P m r → Leaves (Reads P n) (obey c r p q s)
   unfolding obey
-  obey-sound P (give x) m p q n s t e l h = (t, (m, e, h))
-  obey-sound P (deny k) m p q n s t e l h = tt
-  obey-sound P (deny_first k) m p q n s t e l h = tt
-  obey-sound P (take f) m p q n s t e l h =
-      leaves-bind (Next (length s)) (Reads P n) _ _ (next-sound s t (omega arith))
-      (λ x r u g. obey-sound P (f x) (n - length r) p (place s) n r u (omega (arith, g.1)) l (h x (n - length r) (record { short = omega arith; fed = omega (arith, g.1); sound = g.0 })))
-  obey-sound P (call a k) m p q n s t e l h =
+  obey_sound P (give x) m p q n s t e l h = (t, (m, e, h))
+  obey_sound P (deny k) m p q n s t e l h = tt
+  obey_sound P (deny_first k) m p q n s t e l h = tt
+  obey_sound P (take f) m p q n s t e l h =
+      leaves-bind (Next (length s)) (Reads P n) _ _ (next_sound s t (omega arith))
+      (λ x r u g. obey_sound P (f x) (n - length r) p (place s) n r u (omega (arith, g.1)) l (h x (n - length r) (record { short = omega arith; fed = omega (arith, g.1); sound = g.0 })))
+  obey_sound P (call a k) m p q n s t e l h =
       leaves-bind (Reads (Sound a) (length s)) (Reads P n) _ _ (c-sound a s t (omega arith))
-      (λ x r u g. obey-sound P (k x) (m + g.0) p q n r u (omega (arith, g.1)) l (h x g.0 (omega (arith, g.1)) g.2))
+      (λ x r u g. obey_sound P (k x) (m + g.0) p q n r u (omega (arith, g.1)) l (h x g.0 (omega (arith, g.1)) g.2))
 
-within-sound : (f : ℕ) (n : Name) (s : List ℕ) → Text true [] s → length s ≤ most → Leaves (Reads (Sound n) (length s)) (reads_within f n s)
+within_sound : (f : ℕ) (n : Name) (s : List ℕ) → Text true [] s → length s ≤ most → Leaves (Reads (Sound n) (length s)) (reads_within f n s)
 unfolding reads_within
-within-sound zero n s t l = tt
-within-sound (suc f) n s t l =
-    leaves-bind (Next (length s)) (Reads (Sound n) (length s)) _ _ (next-sound s t l)
-    (λ x r u g. obey-sound (reads_within f) (within-sound f) (Sound n) (rules n x) (length s - length r) (place s) (place s) (length s) r u (omega (arith, g.1)) l
-    (keeps-rules n x (length s - length r) (record { short = omega arith; fed = omega (arith, g.1); sound = g.0 })))
+within_sound zero n s t l = tt
+within_sound (suc f) n s t l =
+    leaves-bind (Next (length s)) (Reads (Sound n) (length s)) _ _ (next_sound s t l)
+    (λ x r u g. obey_sound (reads_within f) (within_sound f) (Sound n) (rules n x) (length s - length r) (place s) (place s) (length s) r u (omega (arith, g.1)) l
+    (keeps_rules n x (length s - length r) (record { short = omega arith; fed = omega (arith, g.1); sound = g.0 })))
 
-pub reads-sound : (n : Name) (s : List ℕ) → Text true [] s → length s ≤ most → Leaves (Reads (Sound n) (length s)) (reads n s)
+pub reads_sound : (n : Name) (s : List ℕ) → Text true [] s → length s ≤ most → Leaves (Reads (Sound n) (length s)) (reads n s)
 unfolding reads
-reads-sound n s t l = within-sound (suc (length s)) n s t l
+reads_sound n s t l = within_sound (suc (length s)) n s t l

@@ -19,16 +19,16 @@ use Rattle.notation.specs.Form.{at_start, one, items, stray}
 use Rattle.notation.specs.Theorems.{TextValid, ItemValid}
 use Rattle.notation.specs.Reading.{marked, checked, sequence, read_text, outside, alone, single, read_item}
 use Rattle.notation_theorems.proofs.TextScan.{tested, Leaves, leaves-bind}
-use Rattle.notation_theorems.proofs.SoundForm.{Sound, Reads, reads-sound}
+use Rattle.notation_theorems.proofs.SoundForm.{Sound, Reads, reads_sound}
 
 abbrev Accepts : {A : Type 0} → (A → Type 0) → Verdict A → Type 0
 Accepts P (accepted x) = P x
 Accepts P (refused n p) = Unit {0}
 
-verdict-accepts : {A : Type 0} (P : A → Type 0) (n : ℕ) (R : Result A) → Leaves (λ x k. P x) R → Accepts P (verdict_of n R)
+verdict_accepts : {A : Type 0} (P : A → Type 0) (n : ℕ) (R : Result A) → Leaves (λ x k. P x) R → Accepts P (verdict_of n R)
 unfolding verdict_of
-verdict-accepts P n (ok x r) h = h.1
-verdict-accepts P n (refuse k w) h = tt
+verdict_accepts P n (ok x r) h = h.1
+verdict_accepts P n (refuse k w) h = tt
 
 checked-accepts : {A : Type 0} (P : A → Type 0) (s : List ℕ) (v : Verdict A) → (length s ≤ most_bytes → is_utf8 s ≡ true → Accepts P v) → Accepts P (checked s v)
 unfolding checked
@@ -40,15 +40,15 @@ checked-accepts P s v h =
 abbrev AllSound : Items → Type 0
 AllSound xs = ValidAll xs × (levels_all xs ≤ most_levels)
 
-sequence-sound : (s : List ℕ) → length s ≤ most_bytes → is_utf8 s ≡ true → Leaves (λ xs k. AllSound xs) (bind (sequence s) (λ c r. ok c.all r))
+sequence_sound : (s : List ℕ) → length s ≤ most_bytes → is_utf8 s ≡ true → Leaves (λ xs k. AllSound xs) (bind (sequence s) (λ c r. ok c.all r))
 unfolding sequence marked
-sequence-sound s l e =
+sequence_sound s l e =
     leaves-bind (Reads (Sound (items whole at_start most_levels)) (length (marked s))) (λ xs k. AllSound xs) _ _
-    (reads-sound (items whole at_start most_levels) (marked s) (text-marked (text_of s e)) (rw length-append (omega arith))) (λ c r t h. (t, (h.2.good, h.2.deep)))
+    (reads_sound (items whole at_start most_levels) (marked s) (text-marked (text_of s e)) (rw length-append (omega arith))) (λ c r t h. (t, (h.2.good, h.2.deep)))
 
 text-accepts : (s : List ℕ) → Accepts AllSound (read_text s)
 unfolding read_text
-text-accepts s = checked-accepts AllSound s _ (λ l f. verdict-accepts AllSound (suc (length s)) _ (sequence-sound s l f))
+text-accepts s = checked-accepts AllSound s _ (λ l f. verdict_accepts AllSound (suc (length s)) _ (sequence_sound s l f))
 
 pub text-valid : TextValid
 text-valid s xs e = rw e at (text-accepts s)
@@ -64,22 +64,22 @@ module _ (d : ℕ) where
   denied s (ok t r) = tt
   denied s (refuse k w) = tt
 
-  alone-sound : (x : Item) (r : List ℕ) → Text true [] r → OneSound x → Leaves (λ x k. OneSound x) (alone d x r)
+  alone_sound : (x : Item) (r : List ℕ) → Text true [] r → OneSound x → Leaves (λ x k. OneSound x) (alone d x r)
   unfolding alone outside
-  alone-sound x [] t h = (t, h)
-  alone-sound x (b ∷ r) t h = tested (Leaves (λ x k. OneSound x)) (eqb (place (b ∷ r)) (length (b ∷ r))) _ _ (λ e. denied (b ∷ r) (next (b ∷ r))) (λ e. tt)
+  alone_sound x [] t h = (t, h)
+  alone_sound x (b ∷ r) t h = tested (Leaves (λ x k. OneSound x)) (eqb (place (b ∷ r)) (length (b ∷ r))) _ _ (λ e. denied (b ∷ r) (next (b ∷ r))) (λ e. tt)
 
-  single-sound : (s : List ℕ) → length s ≤ most_bytes → is_utf8 s ≡ true → Leaves (λ x k. OneSound x) (single d s)
+  single_sound : (s : List ℕ) → length s ≤ most_bytes → is_utf8 s ≡ true → Leaves (λ x k. OneSound x) (single d s)
   unfolding single
-  single-sound s l e =
+  single_sound s l e =
       tested (Leaves (λ x k. OneSound x)) (eqb (place s) (length s)) _ _
-      (λ f. leaves-bind (Reads (Sound (one d)) (length s)) (λ x k. OneSound x) _ _ (reads-sound (one d) s (text_of s e) (omega arith))
-      (λ x r t h. alone-sound x r t (h.2.good, h.2.deep)))
+      (λ f. leaves-bind (Reads (Sound (one d)) (length s)) (λ x k. OneSound x) _ _ (reads_sound (one d) s (text_of s e) (omega arith))
+      (λ x r t h. alone_sound x r t (h.2.good, h.2.deep)))
       (λ f. tt)
 
   item-accepts : (s : List ℕ) → Accepts OneSound (read_item d s)
   unfolding read_item
-  item-accepts s = checked-accepts OneSound s _ (λ l f. verdict-accepts OneSound (length s) _ (single-sound s l f))
+  item-accepts s = checked-accepts OneSound s _ (λ l f. verdict_accepts OneSound (length s) _ (single_sound s l f))
 
 pub item-valid : ItemValid
 item-valid d s x e = rw e at (item-accepts d s)

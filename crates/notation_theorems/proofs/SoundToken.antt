@@ -16,8 +16,8 @@ use Rattle.cbor.specs.Heads.{Major, integers, simples, head}
 use Rattle.cbor.specs.Encode.{encode}
 use Rattle.cbor.specs.Utf8.{Range, is_utf8}
 use Rattle.cbor.specs.Valid.{Bytes, is_text, ValidString, is_simple, Valid}
-use Rattle.cbor.proofs.Arguments.{length-big}
-use Rattle.cbor.proofs.Utf8Text.{Text, text-utf8, text-bytes, text-past, text-tail}
+use Rattle.cbor.proofs.Arguments.{length_big}
+use Rattle.cbor.proofs.Utf8Text.{Text, text-utf8, text-bytes, text-past, text_tail}
 use Rattle.notation.specs.Classes.{Class, other, blank, digit, letter, underscore, minus, dot, quote, apostrophe, slash, hash, comma, colon, open_paren, close_paren, open_bracket, close_bracket, open_brace, close_brace, less, greater, end_mark, class_number, class_of, is, is_word}
 use Rattle.notation.specs.Scanning.{skip, fault, expect}
 use Rattle.notation.specs.Indicators.{Indicator, absent, indefinitely, unknown, wide, indicator, Chosen, chosen, misfit, choose}
@@ -28,7 +28,7 @@ use Rattle.notation.specs.Tokens.{Opener, bracket, brace, tagging, embedding, le
 use Rattle.notation.specs.Cutting.{starts_with, after_minus, opening_token, cut_by, cut, place, placed, next}
 use Rattle.notation_theorems.proofs.TextScan.{tested, Leaves, leaves-bind, Upto, class-alone, is-alone, word-alone, digit-alone, skip-text, run-leaves, whether-leaves, expect-leaves, indicator-leaves}
 use Rattle.notation_theorems.proofs.TextQuoted.{Unquoted, unquote-text}
-use Rattle.notation_theorems.proofs.SoundContent.{Holds, hex-content, base64-content}
+use Rattle.notation_theorems.proofs.SoundContent.{Holds, hex-content, base64_content_lem}
 
 -- the most that a text has, the end mark with it
 abbrev pub most : ℕ
@@ -87,7 +87,7 @@ width-most w8 = omega arith
 
 pub head-most : (m : Major) (w : Width) (n : ℕ) → length (head m w n) ≤ 9
 unfolding head
-head-most m w n = omega (arith, width-most w, length-big (argument_bytes w) n)
+head-most m w n = omega (arith, width-most w, length_big (argument_bytes w) n)
 
 abbrev pub Chose : ℕ → Chosen → Type 0
 Chose n (chosen w) = n ≤ limit w
@@ -106,18 +106,18 @@ choose-fits (wide w) n h = tested (Chose n) (leb n (limit w)) _ _ (λ e. leb-tru
 
 -- INTEGERS AND TAGS, read from n
 
-int-sound : (g : Sign) (m : ℕ) (w : Width) → m ≤ limit w → TokenSound (integer_token g m w) × (weight (integer_token g m w) ≡ 0)
+int_sound : (g : Sign) (m : ℕ) (w : Width) → m ≤ limit w → TokenSound (integer_token g m w) × (weight (integer_token g m w) ≡ 0)
 unfolding integer_token Valid encode levels
-int-sound g m w h = ((h, head-most (integers g) w m, refl), refl)
+int_sound g m w h = ((h, head-most (integers g) w m, refl), refl)
 
 -- a letter that gives a radix is ASCII
 abbrev Gives : ℕ → Radix → Type 0
 Gives c (in_radix n) = c < 128
 Gives c no_radix = Unit {0}
 
-radix-of : (c : ℕ) → Gives c (radix_of c)
+radix_of_lem : (c : ℕ) → Gives c (radix_of c)
 unfolding radix_of
-radix-of c =
+radix_of_lem c =
     tested (Gives c) (eqb c 0x78) _ _ (λ e. omega (arith, eqb-true c 0x78 e))
     (λ e. tested (Gives c) (eqb c 0x6f) _ _ (λ e. omega (arith, eqb-true c 0x6f e))
     (λ e. tested (Gives c) (eqb c 0x62) _ _ (λ e. omega (arith, eqb-true c 0x62 e)) (λ e. tt)))
@@ -134,9 +134,9 @@ module _ (n : ℕ) where
 
   integer-cuts : (g : Sign) (m : ℕ) (i : Indicator) (r : List ℕ) → Text true [] r → length r ≤ n → Cut n (integer g m i r)
   unfolding integer
-  integer-cuts unsigned m i r t l = judged-cuts m i (integer_token unsigned m) (int-sound unsigned m) r t l
+  integer-cuts unsigned m i r t l = judged-cuts m i (integer_token unsigned m) (int_sound unsigned m) r t l
   integer-cuts negative zero i r t l = tt
-  integer-cuts negative (suc m) i r t l = judged-cuts m i (integer_token negative m) (int-sound negative m) r t l
+  integer-cuts negative (suc m) i r t l = judged-cuts m i (integer_token negative m) (int_sound negative m) r t l
 
   other-cuts : (g : Sign) (m : ℕ) (s : List ℕ) → Text true [] s → length s ≤ n → Cut n (other_integer g m s)
   unfolding other_integer
@@ -163,7 +163,7 @@ module _ (n : ℕ) where
   unfolding after_zero
   zero-cuts g [] t l = decimal-cuts g 0 [] t l
   zero-cuts g (c ∷ []) t l = decimal-cuts g 0 (c ∷ []) t l
-  zero-cuts g (c ∷ d ∷ s) t l = go (radix_of c) (radix-of c)
+  zero-cuts g (c ∷ d ∷ s) t l = go (radix_of c) (radix_of_lem c)
     where
       go : (x : Radix) → Gives c x
           → Cut n (elim x [ in_radix n ↦ elim (is_digit n d) [ true ↦ based g n (digit_value d) s | false ↦ decimal g 0 (c ∷ d ∷ s) ] | no_radix ↦ decimal g 0 (c ∷ d ∷ s) ])
@@ -193,7 +193,7 @@ body-leaves gs (b ∷ s) t =
     tested (Leaves P) (eqb b 0x27) _ _ (λ e. ((text-past (inl (omega (arith, eqb-true b 0x27 e))) t).1, omega arith))
     (λ e. tested (Leaves P) (eqb b 0x5c) _ _ (λ e. tt)
     (λ e. tested (Leaves P) (is_body b) _ _
-    (λ e. leaves-bind (λ c k. length c + 9 * k ≤ 9 * length s) P _ _ (body-leaves (text-tail t).0 s (text-tail t).1) (λ c r u k. (u, omega arith))) (λ e. tt)))
+    (λ e. leaves-bind (λ c k. length c + 9 * k ≤ 9 * length s) P _ _ (body-leaves (text_tail t).0 s (text_tail t).1) (λ c r u k. (u, omega arith))) (λ e. tt)))
 
 module _ (n : ℕ) (short : n ≤ most) where
   literal-cuts : (k : Kind) (b : List ℕ) (i : Indicator) (r : List ℕ) → Bytes b → is_text k b ≡ true → Text true [] r → length b + 9 * length r ≤ 9 * n → Cut n (literal_token k b i r)
@@ -260,7 +260,7 @@ module _ (n : ℕ) (short : n ≤ most) where
   unfolding prefixed
   prefixed-cuts w r t l =
       tested (Cut n) (same w hex_prefix) _ _ (λ e. encoded-cuts hex_content hex-content r t l)
-      (λ e. tested (Cut n) (same w base64_prefix) _ _ (λ e. encoded-cuts base64_content base64-content r t l) (λ e. tested (Cut n) (is_float_word w) _ _ (λ e. tt) (λ e. tt)))
+      (λ e. tested (Cut n) (same w base64_prefix) _ _ (λ e. encoded-cuts base64_content base64_content_lem r t l) (λ e. tested (Cut n) (is_float_word w) _ _ (λ e. tt) (λ e. tt)))
 
   word-cuts : (b : ℕ) (s : List ℕ) → Text true [] s → length s ≤ n → Cut n (word b s)
   unfolding word
@@ -271,16 +271,16 @@ module _ (n : ℕ) (short : n ≤ most) where
 
   -- EVERY TOKEN
 
-  minus-cuts : (s : List ℕ) → Text true [] s → length s ≤ n → Cut n (after_minus s)
+  minus_cuts : (s : List ℕ) → Text true [] s → length s ≤ n → Cut n (after_minus s)
   unfolding after_minus class_number
-  minus-cuts [] t l = tt
-  minus-cuts (b ∷ s) t l =
+  minus_cuts [] t l = tt
+  minus_cuts (b ∷ s) t l =
       tested (Cut n) (is digit b) _ _ (λ e. number-cuts n negative b s (text-past (is-alone digit b (omega arith) e) t).1 (omega arith))
       (λ e. tested (Cut n) (starts_with infinity_word (b ∷ s)) _ _ (λ e. tt) (λ e. tt))
 
-  opening-cuts : (o : Indicator → Opener) → ((i : Indicator) → OpenerSound (o i)) → (s : List ℕ) → Text true [] s → length s ≤ n → Cut n (bind (indicator s) (opening_token o))
+  opening_cuts : (o : Indicator → Opener) → ((i : Indicator) → OpenerSound (o i)) → (s : List ℕ) → Text true [] s → length s ≤ n → Cut n (bind (indicator s) (opening_token o))
   unfolding opening_token
-  opening-cuts o h s t l = then-cut n _ _ (indicator-leaves n s t l) go
+  opening_cuts o h s t l = then-cut n _ _ (indicator-leaves n s t l) go
     where
       go : (i : Indicator) (r : List ℕ) → Text true [] r → length r ≤ n → Cut n (opening_token o i r)
       go absent r u k = (u, (h absent, omega arith))
@@ -296,12 +296,12 @@ module _ (n : ℕ) (short : n ≤ most) where
   cut_by_lem : (c : Class) (b : ℕ) (s : List ℕ) → (1 ≤ class_number c → Text true [] s) → length s ≤ n → Cut n (cut_by c b s)
   unfolding cut_by class_number
   cut_by_lem digit b s h l = number-cuts n unsigned b s (h (omega arith)) l
-  cut_by_lem minus b s h l = minus-cuts s (h (omega arith)) l
+  cut_by_lem minus b s h l = minus_cuts s (h (omega arith)) l
   cut_by_lem letter b s h l = word-cuts b s (h (omega arith)) l
   cut_by_lem quote b s h l = quoted-cuts text_string 0x22 (omega arith) s (h (omega arith)) l
   cut_by_lem apostrophe b s h l = quoted-cuts byte_string 0x27 (omega arith) s (h (omega arith)) l
-  cut_by_lem open_bracket b s h l = opening-cuts bracket (λ i. tt) s (h (omega arith)) l
-  cut_by_lem open_brace b s h l = opening-cuts brace (λ i. tt) s (h (omega arith)) l
+  cut_by_lem open_bracket b s h l = opening_cuts bracket (λ i. tt) s (h (omega arith)) l
+  cut_by_lem open_brace b s h l = opening_cuts brace (λ i. tt) s (h (omega arith)) l
   cut_by_lem open_paren b s h l = expect-cuts 0x5f no_token (omega arith) _ (λ u r t k. (t, (tt, omega arith))) s (h (omega arith)) l
   cut_by_lem less b s h l = expect-cuts 0x3c no_token (omega arith) _ (λ u r t k. (t, (tt, omega arith))) s (h (omega arith)) l
   cut_by_lem greater b s h l =
@@ -323,9 +323,9 @@ module _ (n : ℕ) (short : n ≤ most) where
 abbrev pub Next : ℕ → Token → ℕ → Type 0
 Next n t k = TokenSound t × (9 + weight t + 9 * k ≤ 9 * n)
 
-pub next-sound : (s : List ℕ) → Text true [] s → length s ≤ most → Leaves (Next (length s)) (next s)
+pub next_sound : (s : List ℕ) → Text true [] s → length s ≤ most → Leaves (Next (length s)) (next s)
 unfolding next placed cut
-next-sound s t l = let p = skip-text s t in go (skip s) p.0 p.1
+next_sound s t l = let p = skip-text s t in go (skip s) p.0 p.1
   where
     shut : (n : ℕ) → n < length s → (R : Result Token) → Cut n R → Leaves (Next (length s)) (placed (place s) R)
     shut n h (ok x r) k = (k.0, (k.1.0, omega arith))

@@ -4,12 +4,12 @@ use mathlib.Core.Path.{◌≡◌, refl, ◌∙◌}
 use mathlib.Core.List.{List, ◌++◌, append_assoc}
 use Rattle.cbor.specs.Refusals.{Result, ok, refuse, bind}
 use Rattle.cbor.specs.Items.{Item}
-use Rattle.cbor.proofs.Results.{refuse-not-ok}
+use Rattle.cbor.proofs.Results.{refuse_not_ok}
 use Rattle.notation.specs.Scanning.{skip}
 use Rattle.notation.specs.Tokens.{Token}
 use Rattle.notation.specs.Cutting.{next, place}
 use Rattle.notation.specs.Form.{Name, one, Value, Rule, take, call, stray, obey, reads}
-use Rattle.notation_theorems.proofs.Good.{Like, like-app, Hard, Took}
+use Rattle.notation_theorems.proofs.Good.{Like, like_app, Hard, Took}
 use Rattle.notation_theorems.proofs.ByName.{bind_ok, took, took-next}
 
 -- RESULTS
@@ -17,12 +17,12 @@ use Rattle.notation_theorems.proofs.ByName.{bind_ok, took, took-next}
 pub bind_inv : {A B : Type 0} (R : Result A) (f : A → List ℕ → Result B) {y : B} {u : List ℕ} → bind R f ≡ ok y u → (x : A) × (t : List ℕ) × (R ≡ ok x t) × (f x t ≡ ok y u)
 unfolding bind
 bind_inv (ok x t) f e = (x, t, refl, e)
-bind_inv (refuse k w) f e = absurd (refuse-not-ok e)
+bind_inv (refuse k w) f e = absurd (refuse_not_ok e)
 
 pub bind-map : {A B : Type 0} (R : Result A) (f : A → B) {y : B} {u : List ℕ} → bind R (λ x t. ok (f x) t) ≡ ok y u → (x : A) × (R ≡ ok x u) × (f x ≡ y)
 unfolding bind
 bind-map (ok x t) f e = (x, cc, cc)
-bind-map (refuse k w) f e = absurd (refuse-not-ok e)
+bind-map (refuse k w) f e = absurd (refuse_not_ok e)
 
 -- a refusal by the number k
 abbrev pub Refuses : {A : Type 0} → ℕ → Result A → Type 0
@@ -44,9 +44,9 @@ unfolding bind
 refuses-bind k (ok x r) f h = absurd h
 refuses-bind k (refuse k' w) f h = h
 
-pub refuses-blocks : (d k : ℕ) (R : Result Item) → Refuses k R → Blocked d k R
-refuses-blocks d k (ok x r) h = absurd h
-refuses-blocks d k (refuse k' w) h = h
+pub refuses_blocks : (d k : ℕ) (R : Result Item) → Refuses k R → Blocked d k R
+refuses_blocks d k (ok x r) h = absurd h
+refuses_blocks d k (refuse k' w) h = h
 
 -- A HOLE
 
@@ -78,11 +78,11 @@ pub record Hole {A : Type 0} (E : List ℕ → List ℕ → Type 0) (B : ℕ →
 
 module _ {A : Type 0} (E : List ℕ → List ℕ → Type 0) (B : ℕ → Result A → Type 0) (N : List ℕ → Type 0) (e : ℕ) (b a : List ℕ) (Holds : A → Type 0) (g : Item → A → A) where
   -- behind what rd₁ reads
-  pub hole-step : {C : Type 0} (rd₁ : List ℕ → Result C) (rd₂ rd : ℕ → ℕ → List ℕ → Result A) {s s' r : List ℕ} {z : C} {x : A} → Took (λ p q. rd₁) s z s'
+  pub hole_step : {C : Type 0} (rd₁ : List ℕ → Result C) (rd₂ rd : ℕ → ℕ → List ℕ → Result A) {s s' r : List ℕ} {z : C} {x : A} → Took (λ p q. rd₁) s z s'
       → ((p q : ℕ) (u t : List ℕ) → rd₁ u ≡ ok z t → (p' q' : ℕ) × (rd p q u ≡ rd₂ p' q' t)) → Hole E B N e b a Holds g rd₂ s' x r → Hole E B N e b a Holds g rd s x r
-  hole-step rd₁ rd₂ rd {s} {s'} {r} {z} {x} k goes h =
+  hole_step rd₁ rd₂ rd {s} {s'} {r} {z} {x} k goes h =
       let redo : (b' : List ℕ) → Like b b' → (p q : ℕ) → (p' q' : ℕ) × (rd p q ((k.used ++ h.front) ++ b') ≡ rd₂ p' q' (h.front ++ b'))
-      = λ b' l p q. rw append_assoc (goes p q _ (h.front ++ b') (k.again 0 0 (h.front ++ b') (rw h.split (like-app h.front b b' l)))) in
+      = λ b' l p q. rw append_assoc (goes p q _ (h.front ++ b') (k.again 0 0 (h.front ++ b') (rw h.split (like_app h.front b b' l)))) in
       record {
         front = k.used ++ h.front;
         split = cc (append_assoc k.used h.front b);
@@ -93,13 +93,13 @@ module _ {A : Type 0} (E : List ℕ → List ℕ → Type 0) (B : ℕ → Result
       }
 
   -- in front of what k makes of it
-  pub hole-over : {C : Type 0} (E' : List ℕ → List ℕ → Type 0) (B' : ℕ → Result C → Type 0) (N' : List ℕ → Type 0) (Holds' : C → Type 0) (g' : Item → C → C) (rd₁ : ℕ → ℕ → List ℕ → Result A) (rd : ℕ → ℕ → List ℕ → Result C)
+  pub hole_over : {C : Type 0} (E' : List ℕ → List ℕ → Type 0) (B' : ℕ → Result C → Type 0) (N' : List ℕ → Type 0) (Holds' : C → Type 0) (g' : Item → C → C) (rd₁ : ℕ → ℕ → List ℕ → Result A) (rd : ℕ → ℕ → List ℕ → Result C)
       (k : A → ℕ → ℕ → List ℕ → Result C) {s t r : List ℕ} {z : A} {x : C} → Hole E B N e b a Holds g rd₁ s z t
       → ((p q : ℕ) (u : List ℕ) (z' : A) (t' : List ℕ) → rd₁ p q u ≡ ok z' t' → (p' q' : ℕ) × (rd p q u ≡ k z' p' q' t'))
       → ((p q : ℕ) (u : List ℕ) (n : ℕ) → Hard n → B n (rd₁ p q u) → B' n (rd p q u))
       → Holds' x → (N' r → N t) → ((y : Item) (p q : ℕ) (t' : List ℕ) → E t' t → (r' : List ℕ) × E' r' r × (k (g y z) p q t' ≡ ok (g' y x) r'))
       → Hole E' B' N' e b a Holds' g' rd s x r
-  hole-over E' B' N' Holds' g' rd₁ rd k {s} {t} {r} {z} {x} h goes stays u on redo =
+  hole_over E' B' N' Holds' g' rd₁ rd k {s} {t} {r} {z} {x} h goes stays u on redo =
       record {
         front = h.front;
         split = h.split;
@@ -117,12 +117,12 @@ module _ {A : Type 0} (E : List ℕ → List ℕ → Type 0) (B : ℕ → Result
 
 module _ {A : Type 0} (E : List ℕ → List ℕ → Type 0) (B : ℕ → Result A → Type 0) (N : List ℕ → Type 0) (e : ℕ) (b a : List ℕ) (Holds : A → Type 0) (g : Item → A → A) where
   -- behind a token
-  pub hole-take : (f : Token → Rule A) {s u r : List ℕ} {t : Token} {x : A} → next s ≡ ok t u → Hole E B N e b a Holds g (obey reads (f t)) u x r → Hole E B N e b a Holds g (obey reads (take f)) s x r
+  pub hole_take : (f : Token → Rule A) {s u r : List ℕ} {t : Token} {x : A} → next s ≡ ok t u → Hole E B N e b a Holds g (obey reads (f t)) u x r → Hole E B N e b a Holds g (obey reads (take f)) s x r
   unfolding obey
-  hole-take f {s} {u} {r} {t} i h = hole-step E B N e b a Holds g next (obey reads (f t)) (obey reads (take f)) (took-next s i) (λ p q u t e. (p, place u, bind_ok _ e)) h
+  hole_take f {s} {u} {r} {t} i h = hole_step E B N e b a Holds g next (obey reads (f t)) (obey reads (take f)) (took-next s i) (λ p q u t e. (p, place u, bind_ok _ e)) h
 
   -- behind what is called
-  pub hole-past : (n : Name) (f : Value n → Rule A) {s u r : List ℕ} {z : Value n} {x : A} → reads n s ≡ ok z u → Hole E B N e b a Holds g (obey reads (f z)) u x r
+  pub hole_past : (n : Name) (f : Value n → Rule A) {s u r : List ℕ} {z : Value n} {x : A} → reads n s ≡ ok z u → Hole E B N e b a Holds g (obey reads (f z)) u x r
       → Hole E B N e b a Holds g (obey reads (call n f)) s x r
   unfolding obey
-  hole-past n f {s} {u} {r} {z} i h = hole-step E B N e b a Holds g (reads n) (obey reads (f z)) (obey reads (call n f)) (took n s i) (λ p q u t e. (p, q, bind_ok _ e)) h
+  hole_past n f {s} {u} {r} {z} i h = hole_step E B N e b a Holds g (reads n) (obey reads (f z)) (obey reads (call n f)) (took n s i) (λ p q u t e. (p, q, bind_ok _ e)) h

@@ -12,7 +12,7 @@ use Rattle.cbor.specs.Refusals.{Result, ok, refuse, bind, not_allowed}
 use Rattle.cbor.specs.Items.{Item}
 use Rattle.cbor.specs.Decode.{most_levels}
 use Rattle.cbor.specs.Paths.{Spot, found, onward, descend, locate, change_in}
-use Rattle.cbor.proofs.Results.{refuse-not-ok}
+use Rattle.cbor.proofs.Results.{refuse_not_ok}
 use Rattle.notation.specs.Classes.{blank, is}
 use Rattle.notation.specs.Scanning.{skip}
 use Rattle.notation.specs.Tokens.{Beginning, whole, Token, begins, closes, a_comma, a_colon}
@@ -20,65 +20,65 @@ use Rattle.notation.specs.Cutting.{next, place, placed, cut}
 use Rattle.notation.specs.Form.{at_start, one, items, Closed, Rule, stray, shape_number, obey, reads}
 use Rattle.notation.specs.Reading.{marked, sequence, outside, alone, single}
 use Rattle.notation.specs.Places.{into, to_element, toward, levels_at, around, Span, span_of, span_at, edited}
-use Rattle.notation_theorems.proofs.Good.{blank-at, blank-stop, Like, like, like-more, Hard}
+use Rattle.notation_theorems.proofs.Good.{blank-at, blank_stop, Like, like, like_more, Hard}
 use Rattle.notation_theorems.proofs.Locality.{lexing}
-use Rattle.notation_theorems.proofs.ByName.{took, refused-stays, took-next, reads-skips}
+use Rattle.notation_theorems.proofs.ByName.{took, refused_stays, took-next, reads-skips}
 use Rattle.notation_theorems.proofs.Splice.{bind_inv, Refuses, Behind, Blocked, Equal, Skips, Next, Any, Hole}
 use Rattle.notation_theorems.proofs.Equations.{one-starts}
-use Rattle.notation_theorems.proofs.Replace.{HasNth, Has, change_all, has-down, spot-within, items-hole, into-hole}
+use Rattle.notation_theorems.proofs.Replace.{HasNth, Has, change_all, has_down, spot-within, items_hole, into_hole}
 
 -- DOWN A PATH
 
 into-begins : (d : ℕ) (go : Rule Unit) (k : ℕ) (t : Token) (p q : ℕ) (u : List ℕ) {b : List ℕ} → obey reads (into d go k t) p q u ≡ ok tt b → (w : Beginning) × (t ≡ begins w)
 unfolding into obey
 into-begins d go k (begins w) p q u e = (w, refl)
-into-begins d go k (closes h i) p q u e = absurd (refuse-not-ok e)
-into-begins d go k a_comma p q u e = absurd (refuse-not-ok e)
-into-begins d go k a_colon p q u e = absurd (refuse-not-ok e)
+into-begins d go k (closes h i) p q u e = absurd (refuse_not_ok e)
+into-begins d go k a_comma p q u e = absurd (refuse_not_ok e)
+into-begins d go k a_colon p q u e = absurd (refuse_not_ok e)
 
 toward-starts : (p : List ℕ) (d : ℕ) (b a : List ℕ) (y : Item) → reads (one (levels_at d p)) b ≡ ok y a → (m n : ℕ) (s : List ℕ) → obey reads (toward d p) m n s ≡ ok tt b
     → (w : Beginning) × (r : List ℕ) × (next s ≡ ok (begins w) r)
 unfolding toward levels_at obey
 toward-starts [] d b a y ey m n s o = let e : s ≡ b = cc in one-starts d s (ap (reads (one d)) e ∙ ey)
-toward-starts (k ∷ p) zero b a y ey m n s o = absurd (refuse-not-ok o)
+toward-starts (k ∷ p) zero b a y ey m n s o = absurd (refuse_not_ok o)
 toward-starts (k ∷ p) (suc d) b a y ey m n s o =
     let i = bind_inv (next s) _ o in
     let w = into-begins d (toward d p) k i.0 m (place s) i.1 i.3 in
     (w.0, i.1, i.2 ∙ ap (λ t. ok t i.1) w.1)
 
-one-hole : (p : List ℕ) (d : ℕ) (b a : List ℕ) (y : Item) → reads (one (levels_at d p)) b ≡ ok y a → (m n : ℕ) (s : List ℕ) → obey reads (toward d p) m n s ≡ ok tt b
+one_hole : (p : List ℕ) (d : ℕ) (b a : List ℕ) (y : Item) → reads (one (levels_at d p)) b ≡ ok y a → (m n : ℕ) (s : List ℕ) → obey reads (toward d p) m n s ≡ ok tt b
     → (x : Item) (r : List ℕ) → reads (one d) s ≡ ok x r
     → Hole Skips (Blocked d) Next (levels_at d p) b a (Has p y) (λ z. change_in p (λ x. z)) (λ p q. reads (one d)) s x r
 unfolding toward levels_at obey change_in descend
-one-hole [] d b a y ey m n s o x r er =
+one_hole [] d b a y ey m n s o x r er =
     let e : s ≡ b = cc in
     let f : ok x r ≡ ok y a = sym er ∙ ap (reads (one d)) e ∙ ey in
     let g : a ≡ r = cc in
     record { front = []; split = e; holds = λ i. (_, refl, cc); ends = λ n. rw g n; fill = λ b' a' z l i n p q. (a', n ∙ ap skip g, i); block = λ b' k l hard i p q. i }
-one-hole (k ∷ p) zero b a y ey m n s o x r er = absurd (refuse-not-ok o)
-one-hole (k ∷ p) (suc d) b a y ey m n s o x r er =
+one_hole (k ∷ p) zero b a y ey m n s o x r er = absurd (refuse_not_ok o)
+one_hole (k ∷ p) (suc d) b a y ey m n s o x r er =
     let i = bind_inv (next s) _ o in
-    let h = into-hole (levels_at d p) b a d k (toward d p) (Has p y) (λ z. change_in p (λ x. z)) (toward-starts p d b a y ey) (one-hole p d b a y ey) i.0 s i.1 m (place s) i.2 i.3 x r er in
-    record { front = h.front; split = h.split; holds = has-down k p y x h.holds; ends = h.ends; fill = h.fill; block = h.block }
+    let h = into_hole (levels_at d p) b a d k (toward d p) (Has p y) (λ z. change_in p (λ x. z)) (toward-starts p d b a y ey) (one_hole p d b a y ey) i.0 s i.1 m (place s) i.2 i.3 x r er in
+    record { front = h.front; split = h.split; holds = has_down k p y x h.holds; ends = h.ends; fill = h.fill; block = h.block }
 
 -- THE TEXT OF ONE ITEM, in front of a blank
 
-outside-not : {A : Type 0} (d : ℕ) (s : List ℕ) {x : A} {r : List ℕ} → outside d s ≡ ok x r → ⊥
+outside_not : {A : Type 0} (d : ℕ) (s : List ℕ) {x : A} {r : List ℕ} → outside d s ≡ ok x r → ⊥
 unfolding outside bind
-outside-not {A} d s {x} {r} e = go (eqb (place s) (length s)) e
+outside_not {A} d s {x} {r} e = go (eqb (place s) (length s)) e
   where
     at-token : (R : Result Token) → bind {B = A} R (λ t u. refuse (stray d t) (length s)) ≡ ok x r → ⊥
-    at-token (ok t u) f = refuse-not-ok f
-    at-token (refuse k w) f = refuse-not-ok f
+    at-token (ok t u) f = refuse_not_ok f
+    at-token (refuse k w) f = refuse_not_ok f
 
     go : (v : Bool) → ◌≡◌ {A = Result A} (elim v [ true ↦ bind (next s) (λ t u. refuse (stray d t) (length s)) | false ↦ refuse not_allowed (length s) ]) (ok x r) → ⊥
     go true f = at-token (next s) f
-    go false f = refuse-not-ok f
+    go false f = refuse_not_ok f
 
 alone-ok : (d : ℕ) (x : Item) (z : List ℕ) {y : Item} {r : List ℕ} → alone d x z ≡ ok y r → ok x z ≡ ok y []
 unfolding alone
 alone-ok d x [] e = ap (λ (v : Item). ok v []) (cc)
-alone-ok d x (b ∷ z) e = absurd (outside-not d (b ∷ z) e)
+alone-ok d x (b ∷ z) e = absurd (outside_not d (b ∷ z) e)
 
 pub single-ok : (d : ℕ) (new : List ℕ) {y : Item} {r : List ℕ} → single d new ≡ ok y r → reads (one d) new ≡ ok y []
 unfolding single
@@ -86,18 +86,18 @@ single-ok d new {y} {r} e = go (eqb (place new) (length new)) e
   where
     go : (v : Bool) → elim v [ true ↦ bind (reads (one d) new) (alone d) | false ↦ refuse not_allowed (length new) ] ≡ ok y r → reads (one d) new ≡ ok y []
     go true f = let i = bind_inv (reads (one d) new) (alone d) f in i.2 ∙ alone-ok d i.0 i.1 i.3
-    go false f = absurd (refuse-not-ok f)
+    go false f = absurd (refuse_not_ok f)
 
 module _ (d b₁ b₂ : ℕ) (h₁ : is blank b₁ ≡ true) (h₂ : is blank b₂ ≡ true) (new t : List ℕ) where
-  between-blanks : reads (one d) (b₁ ∷ (new ++ (b₂ ∷ t))) ≡ reads (one d) (new ++ (b₂ ∷ t))
-  between-blanks = reads-skips (one d) (new ++ (b₂ ∷ t)) (b₁ ∷ (new ++ (b₂ ∷ t))) (lexing.blank_skip b₁ (new ++ (b₂ ∷ t)) h₁)
+  between_blanks : reads (one d) (b₁ ∷ (new ++ (b₂ ∷ t))) ≡ reads (one d) (new ++ (b₂ ∷ t))
+  between_blanks = reads-skips (one d) (new ++ (b₂ ∷ t)) (b₁ ∷ (new ++ (b₂ ∷ t))) (lexing.blank_skip b₁ (new ++ (b₂ ∷ t)) h₁)
 
   single-fills : {y : Item} {r : List ℕ} → single d new ≡ ok y r → reads (one d) (b₁ ∷ (new ++ (b₂ ∷ t))) ≡ ok y (b₂ ∷ t)
   single-fills e =
       let k = took (one d) new (single-ok d new e) in
-      between-blanks
+      between_blanks
       ∙ ap (λ (u : List ℕ). reads (one d) (u ++ (b₂ ∷ t))) (k.split ∙ append-nil k.used)
-      ∙ k.again 0 0 (b₂ ∷ t) (like (blank-stop (blank-at h₂)))
+      ∙ k.again 0 0 (b₂ ∷ t) (like (blank_stop (blank-at h₂)))
 
   -- behind an item, a token that is refused, or may not stand there
   outside_behind : (n w : ℕ) → Hard n → (z : List ℕ) → outside {A = Item} d z ≡ refuse n w → Behind d n (next (z ++ (b₂ ∷ t)))
@@ -107,7 +107,7 @@ module _ (d b₁ b₂ : ℕ) (h₁ : is blank b₁ ≡ true) (h₂ : is blank b�
       at-token : (R : Result Token) → next z ≡ R → bind {B = Item} R (λ t u. refuse (stray d t) (length z)) ≡ refuse n w → Behind d n (next (z ++ (b₂ ∷ t)))
       at-token (ok k u) i f =
           let h = took-next z i in
-          let j : next (z ++ (b₂ ∷ t)) ≡ ok k (u ++ (b₂ ∷ t)) = rw (h.split, append_assoc) (h.again 0 0 (u ++ (b₂ ∷ t)) (like-more u (b₂ ∷ t) (blank-stop (blank-at h₂)))) in
+          let j : next (z ++ (b₂ ∷ t)) ≡ ok k (u ++ (b₂ ∷ t)) = rw (h.split, append_assoc) (h.again 0 0 (u ++ (b₂ ∷ t)) (like_more u (b₂ ∷ t) (blank_stop (blank-at h₂)))) in
           rw j (cc)
       at-token (refuse k v) i f =
           let m : k ≡ n = cc in
@@ -121,21 +121,21 @@ module _ (d b₁ b₂ : ℕ) (h₁ : is blank b₁ ≡ true) (h₂ : is blank b�
 
   alone-behind : (n w : ℕ) → Hard n → (x : Item) (z : List ℕ) → alone d x z ≡ refuse n w → Behind d n (next (z ++ (b₂ ∷ t)))
   unfolding alone
-  alone-behind n w hard x [] e = absurd (refuse-not-ok (sym e))
+  alone-behind n w hard x [] e = absurd (refuse_not_ok (sym e))
   alone-behind n w hard x (b ∷ z) e = outside_behind n w hard (b ∷ z) e
 
-  single-blocks : (n w : ℕ) → Hard n → single d new ≡ refuse n w → Blocked d n (reads (one d) (b₁ ∷ (new ++ (b₂ ∷ t))))
+  single_blocks : (n w : ℕ) → Hard n → single d new ≡ refuse n w → Blocked d n (reads (one d) (b₁ ∷ (new ++ (b₂ ∷ t))))
   unfolding single bind
-  single-blocks n w hard e = rw between-blanks (go (eqb (place new) (length new)) e)
+  single_blocks n w hard e = rw between_blanks (go (eqb (place new) (length new)) e)
     where
       at_item : (R : Result Item) → reads (one d) new ≡ R → bind R (alone d) ≡ refuse n w → Blocked d n (reads (one d) (new ++ (b₂ ∷ t)))
       at_item (ok x z) i f =
           let h = took (one d) new i in
-          let j : reads (one d) (new ++ (b₂ ∷ t)) ≡ ok x (z ++ (b₂ ∷ t)) = rw (h.split, append_assoc) (h.again 0 0 (z ++ (b₂ ∷ t)) (like-more z (b₂ ∷ t) (blank-stop (blank-at h₂)))) in
+          let j : reads (one d) (new ++ (b₂ ∷ t)) ≡ ok x (z ++ (b₂ ∷ t)) = rw (h.split, append_assoc) (h.again 0 0 (z ++ (b₂ ∷ t)) (like_more z (b₂ ∷ t) (blank_stop (blank-at h₂)))) in
           rw j (alone-behind n w hard x z f)
       at_item (refuse k v) i f =
           let m : k ≡ n = cc in
-          let h = refused-stays (one d) new i (rw m hard) (b₂ ∷ t) (blank-at h₂) in
+          let h = refused_stays (one d) new i (rw m hard) (b₂ ∷ t) (blank-at h₂) in
           rw h.1 m
 
       go : (v : Bool) → ◌≡◌ {A = Result Item} (elim v [ true ↦ bind (reads (one d) new) (alone d) | false ↦ refuse not_allowed (length new) ]) (refuse n w) → Blocked d n (reads (one d) (new ++ (b₂ ∷ t)))
@@ -180,10 +180,10 @@ cut-front s m f v e h = sym (take-append-le (length f) s m h) ∙ ap (takeN (len
 cut-back : (s m f v : List ℕ) → s ++ m ≡ f ++ v → length f ≤ length s → dropN (length f) s ++ m ≡ v
 cut-back s m f v e h = sym (drop-append-le (length f) s m h) ∙ ap (dropN (length f)) e ∙ drop_at f v (length f) refl
 
-pub not-empty : (s : List ℕ) → Next s → 0 < length s
+pub not_empty : (s : List ℕ) → Next s → 0 < length s
 unfolding next place placed cut
-not-empty [] n = absurd (refuse-not-ok (rw lexing.skip-nil at n.2))
-not-empty (b ∷ s) n = omega arith
+not_empty [] n = absurd (refuse_not_ok (rw lexing.skip_nil at n.2))
+not_empty (b ∷ s) n = omega arith
 
 join : (t f g new d m v : List ℕ) (b₁ b₂ : ℕ) → t ≡ f ++ g → d ++ m ≡ v → (t ++ (b₁ ∷ (new ++ (b₂ ∷ d)))) ++ m ≡ f ++ (g ++ (b₁ ∷ (new ++ (b₂ ∷ v))))
 join t f g new d m v b₁ b₂ i j = rw (i, ← j) (simp append_assoc)
@@ -192,56 +192,56 @@ module _ (k : ℕ) (p s : List ℕ) (z : Span) (c : Closed) (r : List ℕ) (read
   abbrev pub e : ℕ
   e = levels_at most_levels p
 
-  pub text-hole : Hole Equal Refuses Any e sp.from sp.behind (λ c. HasNth k (Has p sp.old) c.all) (λ y. change_all k (change_in p (λ x. y))) (λ p q. reads (items whole at_start most_levels)) (marked s) c r
+  pub text_hole : Hole Equal Refuses Any e sp.from sp.behind (λ c. HasNth k (Has p sp.old) c.all) (λ y. change_all k (change_in p (λ x. y))) (λ p q. reads (items whole at_start most_levels)) (marked s) c r
   unfolding sequence shape_number
-  text-hole =
-      items-hole e sp.from sp.behind most_levels (toward most_levels p) (Has p sp.old) (λ y. change_in p (λ x. y)) (toward-starts p most_levels sp.from sp.behind sp.old sp.was)
-      (one-hole p most_levels sp.from sp.behind sp.old sp.was) whole refl k at_start (marked s) 0 0 sp.way c r reading
+  text_hole =
+      items_hole e sp.from sp.behind most_levels (toward most_levels p) (Has p sp.old) (λ y. change_in p (λ x. y)) (toward-starts p most_levels sp.from sp.behind sp.old sp.was)
+      (one_hole p most_levels sp.from sp.behind sp.old sp.was) whole refl k at_start (marked s) 0 0 sp.way c r reading
 
   -- all in front of the item's first token
   front : List ℕ
-  front = text-hole.front ++ (lexing.skips sp.from).0
+  front = text_hole.front ++ (lexing.skips sp.from).0
 
-  front-split : s ++ 256 ∷ [] ≡ front ++ skip sp.from
+  front_split : s ++ 256 ∷ [] ≡ front ++ skip sp.from
   unfolding front marked
-  front-split = text-hole.split ∙ ap (λ (u : List ℕ). text-hole.front ++ u) (lexing.skips sp.from).1 ∙ sym (append_assoc text-hole.front (lexing.skips sp.from).0 (skip sp.from))
+  front_split = text_hole.split ∙ ap (λ (u : List ℕ). text_hole.front ++ u) (lexing.skips sp.from).1 ∙ sym (append_assoc text_hole.front (lexing.skips sp.from).0 (skip sp.from))
 
   -- all up to the item's last byte
   upto : List ℕ
-  upto = text-hole.front ++ (took (one e) sp.from sp.was).used
+  upto = text_hole.front ++ (took (one e) sp.from sp.was).used
 
-  upto-split : s ++ 256 ∷ [] ≡ upto ++ sp.behind
+  upto_split : s ++ 256 ∷ [] ≡ upto ++ sp.behind
   unfolding upto marked
-  upto-split =
-      text-hole.split ∙ ap (λ (u : List ℕ). text-hole.front ++ u) (took (one e) sp.from sp.was).split ∙ sym (append_assoc text-hole.front (took (one e) sp.from sp.was).used sp.behind)
+  upto_split =
+      text_hole.split ∙ ap (λ (u : List ℕ). text_hole.front ++ u) (took (one e) sp.from sp.was).split ∙ sym (append_assoc text_hole.front (took (one e) sp.from sp.was).used sp.behind)
 
   pub first-token : (b : ℕ) × (u : List ℕ) × (skip sp.from ≡ b ∷ u) × ((b < 128) ⊎ (b ≡ 256))
   first-token = let st = one-starts e sp.from sp.was in lexing.ascii sp.from (begins st.0) st.1 st.2
 
   front-least : length front ≤ length s
   front-least =
-      let l = simp length-append at (ap length front-split) in
+      let l = simp length-append at (ap length front_split) in
       let f = ap length first-token.2 in
       omega arith
 
   start_is : z.start ≡ length front
-  start_is = let l = simp length-append at (ap length front-split) in sp.start ∙ omega arith
+  start_is = let l = simp length-append at (ap length front_split) in sp.start ∙ omega arith
 
   front_cut : takeN z.start s ≡ front
-  front_cut = ap (λ (n : ℕ). takeN n s) start_is ∙ cut-front s (256 ∷ []) front (skip sp.from) front-split front-least
+  front_cut = ap (λ (n : ℕ). takeN n s) start_is ∙ cut-front s (256 ∷ []) front (skip sp.from) front_split front-least
 
   pub start-cut : marked (dropN z.start s) ≡ skip sp.from
   unfolding marked
-  start-cut = ap (λ (n : ℕ). dropN n s ++ 256 ∷ []) start_is ∙ cut-back s (256 ∷ []) front (skip sp.from) front-split front-least
+  start-cut = ap (λ (n : ℕ). dropN n s ++ 256 ∷ []) start_is ∙ cut-back s (256 ∷ []) front (skip sp.from) front_split front-least
 
   pub behind-cut : marked (dropN z.end s) ≡ sp.behind
   unfolding marked
   behind-cut =
-      let l = simp length-append at (ap length upto-split) in
-      let f = not-empty sp.behind (text-hole.ends tt) in
+      let l = simp length-append at (ap length upto_split) in
+      let f = not_empty sp.behind (text_hole.ends tt) in
       let h : length upto ≤ length s = omega arith in
       let q : z.end ≡ length upto = sp.end ∙ omega arith in
-      ap (λ (n : ℕ). dropN n s ++ 256 ∷ []) q ∙ cut-back s (256 ∷ []) upto sp.behind upto-split h
+      ap (λ (n : ℕ). dropN n s ++ 256 ∷ []) q ∙ cut-back s (256 ∷ []) upto sp.behind upto_split h
 
   -- the edited text, as the hole has it
   pre : List ℕ
@@ -250,35 +250,35 @@ module _ (k : ℕ) (p s : List ℕ) (z : Span) (c : Closed) (r : List ℕ) (read
   inserted : ℕ → List ℕ → ℕ → List ℕ
   inserted b₁ new b₂ = pre ++ (b₁ ∷ (new ++ (b₂ ∷ sp.behind)))
 
-  edited-is : (b₁ : ℕ) (new : List ℕ) (b₂ : ℕ) → marked (edited s z b₁ new b₂) ≡ text-hole.front ++ inserted b₁ new b₂
+  edited-is : (b₁ : ℕ) (new : List ℕ) (b₂ : ℕ) → marked (edited s z b₁ new b₂) ≡ text_hole.front ++ inserted b₁ new b₂
   unfolding marked edited inserted front pre
-  edited-is b₁ new b₂ = join (takeN z.start s) text-hole.front pre new (dropN z.end s) (256 ∷ []) sp.behind b₁ b₂ front_cut behind-cut
+  edited-is b₁ new b₂ = join (takeN z.start s) text_hole.front pre new (dropN z.end s) (256 ∷ []) sp.behind b₁ b₂ front_cut behind-cut
 
   module _ (b₁ b₂ : ℕ) (h₁ : is blank b₁ ≡ true) (h₂ : is blank b₂ ≡ true) (new : List ℕ) where
-    inserted-like : Like sp.from (inserted b₁ new b₂)
+    inserted_like : Like sp.from (inserted b₁ new b₂)
     unfolding inserted pre
-    inserted-like = record { shared = pre; old = skip sp.from; new = b₁ ∷ (new ++ (b₂ ∷ sp.behind)); was = (lexing.skips sp.from).1; now = refl; ends = blank-stop (blank-at h₁) }
+    inserted_like = record { shared = pre; old = skip sp.from; new = b₁ ∷ (new ++ (b₂ ∷ sp.behind)); was = (lexing.skips sp.from).1; now = refl; ends = blank_stop (blank-at h₁) }
 
-    inserted-reads : reads (one e) (inserted b₁ new b₂) ≡ reads (one e) (b₁ ∷ (new ++ (b₂ ∷ sp.behind)))
+    inserted_reads : reads (one e) (inserted b₁ new b₂) ≡ reads (one e) (b₁ ∷ (new ++ (b₂ ∷ sp.behind)))
     unfolding inserted pre
-    inserted-reads = reads-skips (one e) (b₁ ∷ (new ++ (b₂ ∷ sp.behind))) (inserted b₁ new b₂) ((lexing.skips sp.from).2 (b₁ ∷ (new ++ (b₂ ∷ sp.behind))))
+    inserted_reads = reads-skips (one e) (b₁ ∷ (new ++ (b₂ ∷ sp.behind))) (inserted b₁ new b₂) ((lexing.skips sp.from).2 (b₁ ∷ (new ++ (b₂ ∷ sp.behind))))
 
     pub filled : {y : Item} {v : List ℕ} → single e new ≡ ok y v → sequence (edited s z b₁ new b₂) ≡ ok (change_all k (change_in p (λ x. y)) c) r
     unfolding sequence
     filled {y} i =
-        let f = text-hole.fill (inserted b₁ new b₂) (b₂ ∷ sp.behind) y inserted-like (inserted-reads ∙ single-fills e b₁ b₂ h₁ h₂ new sp.behind i) (lexing.blank_skip b₂ sp.behind h₂) 0 0 in
+        let f = text_hole.fill (inserted b₁ new b₂) (b₂ ∷ sp.behind) y inserted_like (inserted_reads ∙ single-fills e b₁ b₂ h₁ h₂ new sp.behind i) (lexing.blank_skip b₂ sp.behind h₂) 0 0 in
         ap (reads (items whole at_start most_levels)) (edited-is b₁ new b₂) ∙ f.2 ∙ ap (λ (u : List ℕ). ok (change_all k (change_in p (λ x. y)) c) u) f.1
 
     pub blocked : (n w : ℕ) → Hard n → single e new ≡ refuse n w → Refuses n (sequence (edited s z b₁ new b₂))
     unfolding sequence
     blocked n w hard i =
-        rw (edited-is b₁ new b₂) (text-hole.block (inserted b₁ new b₂) n inserted-like hard (rw inserted-reads (single-blocks e b₁ b₂ h₁ h₂ new sp.behind n w hard i)) 0 0)
+        rw (edited-is b₁ new b₂) (text_hole.block (inserted b₁ new b₂) n inserted_like hard (rw inserted_reads (single_blocks e b₁ b₂ h₁ h₂ new sp.behind n w hard i)) 0 0)
 
 -- what is found at the path in the items is what stands there in the text
 pub located : (k : ℕ) (p s : List ℕ) (z : Span) (c : Closed) (r : List ℕ) → sequence s ≡ ok c r → (sp : Spanned k p s z)
     → (o : Spot) × (locate (k ∷ p) c.all ≡ found o) × (o.item ≡ sp.old)
 unfolding locate onward
 located k p s z c r reading sp =
-    let h = (text-hole k p s z c r reading sp).holds 0 in
+    let h = (text_hole k p s z c r reading sp).holds 0 in
     let d = spot-within h.0.before h.0.behind (λ x. x ≡ sp.old) (descend 1 p h.0.item) (h.2 1) in
     (d.0, ap (λ f. onward f (descend 1 p)) h.1 ∙ d.1, d.2)

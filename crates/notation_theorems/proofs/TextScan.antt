@@ -11,14 +11,14 @@ use borrow.Author.Tests.{eqb-true, ltb-true}
 use Rattle.cbor.specs.Refusals.{Result, ok, refuse, bind}
 use Rattle.cbor.specs.Utf8.{Range, ◌to◌, is_in}
 use Rattle.cbor.proofs.Table.{both}
-use Rattle.cbor.proofs.Utf8Laws.{is-in}
-use Rattle.cbor.proofs.Utf8Text.{Text, text-nil, Alone, text-past, text-tail}
+use Rattle.cbor.proofs.Utf8Laws.{is_in_lem}
+use Rattle.cbor.proofs.Utf8Text.{Text, text_nil, Alone, text-past, text_tail}
 use Rattle.cbor.proofs.Tests.{clash}
 use Rattle.notation.specs.Classes.{Class, blank, slash, hash, letter, digit, class_number, ClassRow, class_rows, class_in, class_of, is, is_word}
 use Rattle.notation.specs.Scanning.{is_comment, Skipping, between, slashed, hashed, Skipped, skips, stops, skipped, left_in, skip_from, skip, run, whether, expect}
 use Rattle.notation.specs.Indicators.{indicator}
 use Rattle.notation.specs.Numbers.{Digit, worth, no_digit, digit_at, is_digit, digit_value}
-use Rattle.notation_theorems.proofs.ScanningElements.{digit-cases}
+use Rattle.notation_theorems.proofs.ScanningElements.{digit_cases}
 
 -- a fact of either case of a test is one of the test
 pub tested : {A : Type 0} (P : A → Type 0) (v : Bool) (x y : A) → (v ≡ true → P x) → (v ≡ false → P y) → P (elim v [ true ↦ x | false ↦ y ])
@@ -48,13 +48,13 @@ abbrev alone_rows : List ClassRow → Bool
 alone_rows [] = true
 alone_rows (w ∷ ws) = alone_row w && alone_rows ws
 
-row-alone : (w : ClassRow) (b : ℕ) → T (alone_row w) → is_in w.bytes b ≡ true → Alone b
-row-alone w b t e = go (leb w.bytes.high 127) refl t
+row_alone : (w : ClassRow) (b : ℕ) → T (alone_row w) → is_in w.bytes b ≡ true → Alone b
+row_alone w b t e = go (leb w.bytes.high 127) refl t
   where
     go : (v : Bool) → leb w.bytes.high 127 ≡ v → T (v || (leb 256 w.bytes.low && leb w.bytes.high 256)) → Alone b
-    go true h t = let i = is-in w.bytes b e in inl (omega (arith, leb→le w.bytes.high 127 (rw h tt)))
+    go true h t = let i = is_in_lem w.bytes b e in inl (omega (arith, leb→le w.bytes.high 127 (rw h tt)))
     go false h t =
-        let i = is-in w.bytes b e in
+        let i = is_in_lem w.bytes b e in
         let p = both (leb 256 w.bytes.low) (leb w.bytes.high 256) t in
         inr (omega (arith, leb→le 256 w.bytes.low p.0, leb→le w.bytes.high 256 p.1))
 
@@ -64,7 +64,7 @@ rows-alone [] b t h = absurd (omega arith)
 rows-alone (w ∷ ws) b t h = let p = both (alone_row w) (alone_rows ws) t in go (is_in w.bytes b) refl p.0 (rows-alone ws b p.1) h
   where
     go : (v : Bool) → is_in w.bytes b ≡ v → T (alone_row w) → (1 ≤ class_number (class_in ws b) → Alone b) → 1 ≤ class_number (elim v [ true ↦ w.class | false ↦ class_in ws b ]) → Alone b
-    go true e t ih h = row-alone w b t e
+    go true e t ih h = row_alone w b t e
     go false e t ih h = ih h
 
 pub class-alone : (b : ℕ) → 1 ≤ class_number (class_of b) → Alone b
@@ -89,13 +89,13 @@ word-alone b e = go (is letter b) refl (is digit b) refl e
 pub digit-alone : (radix b : ℕ) → is_digit radix b ≡ true → Alone b
 unfolding is_digit
 digit-alone radix b =
-    digit-cases (λ d. ◌≡◌ {A = Bool} (elim d [ worth v ↦ ltb v radix | no_digit ↦ false ]) true → Alone b) b
-    (λ i e. let k = is-in (0x30 to 0x39) b i in inl (omega arith)) (λ i e. let k = is-in (0x61 to 0x66) b i in inl (omega arith))
-    (λ i e. let k = is-in (0x41 to 0x46) b i in inl (omega arith)) (λ e. absurd (clash (sym e)))
+    digit_cases (λ d. ◌≡◌ {A = Bool} (elim d [ worth v ↦ ltb v radix | no_digit ↦ false ]) true → Alone b) b
+    (λ i e. let k = is_in_lem (0x30 to 0x39) b i in inl (omega arith)) (λ i e. let k = is_in_lem (0x61 to 0x66) b i in inl (omega arith))
+    (λ i e. let k = is_in_lem (0x41 to 0x46) b i in inl (omega arith)) (λ e. absurd (clash (sym e)))
 
-pub digit-less : (radix b : ℕ) → is_digit radix b ≡ true → digit_value b < radix
+pub digit_less : (radix b : ℕ) → is_digit radix b ≡ true → digit_value b < radix
 unfolding is_digit digit_value
-digit-less radix b = go (digit_at b)
+digit_less radix b = go (digit_at b)
   where
     go : (d : Digit) → ◌≡◌ {A = Bool} (elim d [ worth v ↦ ltb v radix | no_digit ↦ false ]) true → elim d [ worth v ↦ v | no_digit ↦ 0 ] < radix
     go (worth v) e = ltb-true v radix e
@@ -121,14 +121,14 @@ skipped-text n between gs b s k t l =
     (λ e. tested (Skips n s) (is hash b) _ _ (λ e. ([], (text-past (is-alone hash b (omega arith) e) u).1, (u, l))) (λ e. (u, l))))
 skipped-text n (slashed c) gs b s k t l =
     tested (Skips n s) (is slash b) _ _ (λ e. ([], (text-past (is-alone slash b (omega arith) e) t).1, refl))
-    (λ e. tested (Skips n s) (is_comment b) _ _ (λ e. ((text-tail t).0, (text-tail t).1, k)) (λ e. k))
+    (λ e. tested (Skips n s) (is_comment b) _ _ (λ e. ((text_tail t).0, (text_tail t).1, k)) (λ e. k))
 skipped-text n (hashed c) gs b s k t l =
     tested (Skips n s) (eqb b 0x0a) _ _ (λ e. ([], (text-past (inl (omega (arith, eqb-true b 0x0a e))) t).1, refl))
-    (λ e. tested (Skips n s) (is_comment b) _ _ (λ e. ((text-tail t).0, (text-tail t).1, k)) (λ e. k))
+    (λ e. tested (Skips n s) (is_comment b) _ _ (λ e. ((text_tail t).0, (text_tail t).1, k)) (λ e. k))
 
 skip-from : (n : ℕ) (k : Skipping) (gs : List Range) (s : List ℕ) → Kept n gs k → Text true gs s → length s ≤ n → Text true [] (skip_from k s) × (length (skip_from k s) ≤ n)
 unfolding skip_from left_in
-skip-from n between gs [] k t l = (text-nil, l)
+skip-from n between gs [] k t l = (text_nil, l)
 skip-from n (slashed c) gs [] k t l = k
 skip-from n (hashed c) gs [] k t l = k
 skip-from n k gs (b ∷ s) h t l = go (skipped k b s) (skipped-text n k gs b s h t l) (λ k' gs' h' t'. skip-from n k' gs' s h' t' (omega arith))

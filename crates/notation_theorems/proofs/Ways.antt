@@ -10,7 +10,7 @@ use Rattle.cbor.specs.Heads.{arrays, maps}
 use Rattle.cbor.specs.Encode.{encode, opening_head, closing_break as closing_bytes}
 use Rattle.cbor.specs.TypedArrays.{may_tag}
 use Rattle.cbor.specs.Paths.{Spot, Found, found, nowhere, within, nth, nth₂, child, onward}
-use Rattle.cbor.proofs.Results.{refuse-not-ok}
+use Rattle.cbor.proofs.Results.{refuse_not_ok}
 use Rattle.notation.specs.Indicators.{Indicator, absent, indefinitely, unknown, wide, Chosen, chosen, misfit, choose}
 use Rattle.notation.specs.Tokens.{Opener, bracket, brace, tagging, embedding, Beginning, leaf, literal, chunking, opens, Shape, square, curly, round, Token, begins, closes, a_comma, a_colon}
 use Rattle.notation.specs.Cutting.{next, place}
@@ -66,21 +66,21 @@ Gives P (call n k) s = (x : Value n) (u : List ℕ) → reads n s ≡ ok x u →
 pub gives-ok : {A : Type 0} (P : A → List ℕ → Type 0) (r : Rule A) (p q : ℕ) (s : List ℕ) {x : A} {t : List ℕ} → Gives P r s → obey reads r p q s ≡ ok x t → P x t
 unfolding obey
 gives-ok P (give y) p q s {x} {t} g e = let f : y ≡ x = cc in let h : s ≡ t = cc in rw (← f, ← h) g
-gives-ok P (deny k) p q s g e = absurd (refuse-not-ok e)
-gives-ok P (deny_first k) p q s g e = absurd (refuse-not-ok e)
+gives-ok P (deny k) p q s g e = absurd (refuse_not_ok e)
+gives-ok P (deny_first k) p q s g e = absurd (refuse_not_ok e)
 gives-ok P (take f) p q s g e = let i = bind_inv (next s) _ e in gives-ok P (f i.0) p (place s) i.1 (g i.0 i.1 i.2) i.3
 gives-ok P (call n k) p q s g e = let i = bind_inv (reads n s) _ e in gives-ok P (k i.0) p q i.1 (g i.0 i.1 i.2) i.3
 
-closing-gives : {A : Type 0} (P : A → List ℕ → Type 0) (d : ℕ) (h h' : Shape) (i : Indicator) (x : A) (s : List ℕ) → P x s → Gives P (closing_rule d h h' i x) s
+closing_gives : {A : Type 0} (P : A → List ℕ → Type 0) (d : ℕ) (h h' : Shape) (i : Indicator) (x : A) (s : List ℕ) → P x s → Gives P (closing_rule d h h' i x) s
 unfolding closing_rule strays
-closing-gives P d h h' i x s g = tested (λ r. Gives P r s) (eqb (shape_number h) (shape_number h')) _ _ (λ e. g) (λ e. tt)
+closing_gives P d h h' i x s g = tested (λ r. Gives P r s) (eqb (shape_number h) (shape_number h')) _ _ (λ e. g) (λ e. tt)
 
 -- by name, where an element stands or what closes the whole
-named-gives : (n : Name) (d : ℕ) (after : Item → Token → Rule (Value n)) (P : Value n → List ℕ → Type 0)
+named_gives : (n : Name) (d : ℕ) (after : Item → Token → Rule (Value n)) (P : Value n → List ℕ → Type 0)
     → ((g : Beginning) (s r : List ℕ) → next s ≡ ok (begins g) r → reads n s ≡ obey reads (element d after) (place s) (place s) s)
     → ((h : Shape) (i : Indicator) (u : List ℕ) → Gives P (rules n (closes h i)) u) → ((u : List ℕ) → Gives P (rules n a_comma) u) → ((u : List ℕ) → Gives P (rules n a_colon) u)
     → (s : List ℕ) → Gives P (element d after) s → (x : Value n) (r : List ℕ) → reads n s ≡ ok x r → P x r
-named-gives n d after P begin at-close at-comma at-colon s h x r e = go (next s) refl
+named_gives n d after P begin at-close at-comma at-colon s h x r e = go (next s) refl
   where
     on : (t : Token) (u : List ℕ) → next s ≡ ok t u → Gives P (rules n t) u → P x r
     on t u f g = gives-ok P (rules n t) (place s) (place s) u g (sym (reads-is n s ∙ bind_ok _ f) ∙ e)
@@ -90,44 +90,44 @@ named-gives n d after P begin at-close at-comma at-colon s h x r e = go (next s)
     go (ok (closes j i) u) f = on (closes j i) u f (at-close j i u)
     go (ok a_comma u) f = on a_comma u f (at-comma u)
     go (ok a_colon u) f = on a_colon u f (at-colon u)
-    go (refuse k w) f = absurd (refuse-not-ok (sym f ∙ (bind_inv (next s) _ (sym (reads-is n s) ∙ e)).2))
+    go (refuse k w) f = absurd (refuse_not_ok (sym f ∙ (bind_inv (next s) _ (sym (reads-is n s) ∙ e)).2))
 
 -- Items are none; one, the last; or one, a comma and more
-items-cases : (P : Items → Type 0) (h : Shape) (b : Position) (d : ℕ) (s : List ℕ) → P none → ((x : Item) (u : List ℕ) → reads (one d) s ≡ ok x u → P (more x none))
+items_cases : (P : Items → Type 0) (h : Shape) (b : Position) (d : ℕ) (s : List ℕ) → P none → ((x : Item) (u : List ℕ) → reads (one d) s ≡ ok x u → P (more x none))
     → ((x : Item) (u v : List ℕ) (c : Closed) (r : List ℕ) → reads (one d) s ≡ ok x u → next u ≡ ok a_comma v → reads (items h behind_comma d) v ≡ ok c r → P (more x c.all))
     → (c : Closed) (r : List ℕ) → reads (items h b d) s ≡ ok c r → P c.all
 unfolding rules items_rule after_item strays add_item
-items-cases P h b d s empty last further =
-    named-gives (items h b d) d (after_item h d) (λ c r. P c.all) (items-begin h b d) (close b) (λ u. tt) (λ u. tt) s (λ x u e t v f. behind x u e t v f)
+items_cases P h b d s empty last further =
+    named_gives (items h b d) d (after_item h d) (λ c r. P c.all) (items-begin h b d) (close b) (λ u. tt) (λ u. tt) s (λ x u e t v f. behind x u e t v f)
   where
     close : (b : Position) (h' : Shape) (i : Indicator) (u : List ℕ) → Gives (λ c r. P c.all) (items_rule h b d (closes h' i)) u
-    close at_start h' i u = closing-gives (λ c r. P c.all) d h h' i _ u empty
+    close at_start h' i u = closing_gives (λ c r. P c.all) d h h' i _ u empty
     close behind_comma h' i u = tt
 
     behind : (x : Item) (u : List ℕ) → reads (one d) s ≡ ok x u → (t : Token) (v : List ℕ) → next u ≡ ok t v → Gives (λ c r. P c.all) (after_item h d x t) v
     behind x u e (begins g) v f = tt
-    behind x u e (closes h' i) v f = closing-gives (λ c r. P c.all) d h h' i _ v (last x u e)
+    behind x u e (closes h' i) v f = closing_gives (λ c r. P c.all) d h h' i _ v (last x u e)
     behind x u e a_comma v f = λ c r g. further x u v c r e f g
     behind x u e a_colon v f = tt
 
 -- and so are pairs
-pairs-cases : (P : Pairs → Type 0) (b : Position) (d : ℕ) (s : List ℕ) → P none₂
+pairs_cases : (P : Pairs → Type 0) (b : Position) (d : ℕ) (s : List ℕ) → P none₂
     → ((y x : Item) (u v w : List ℕ) → reads (one d) s ≡ ok y u → next u ≡ ok a_colon v → reads (one d) v ≡ ok x w → P (more₂ y x none₂))
     → ((y x : Item) (u v w z : List ℕ) (ps : Pairs) (r : List ℕ) → reads (one d) s ≡ ok y u → next u ≡ ok a_colon v → reads (one d) v ≡ ok x w → next w ≡ ok a_comma z → reads (pairs behind_comma d) z ≡ ok ps r
     → P (more₂ y x ps))
     → (ps : Pairs) (r : List ℕ) → reads (pairs b d) s ≡ ok ps r → P ps
 unfolding rules pairs_rule after_key after_value strays
-pairs-cases P b d s empty last further =
-    named-gives (pairs b d) d (after_key d) (λ ps r. P ps) (pairs-begin b d) (close b) (λ u. tt) (λ u. tt) s (λ y u e t v f. key y u e t v f)
+pairs_cases P b d s empty last further =
+    named_gives (pairs b d) d (after_key d) (λ ps r. P ps) (pairs-begin b d) (close b) (λ u. tt) (λ u. tt) s (λ y u e t v f. key y u e t v f)
   where
     close : (b : Position) (h : Shape) (i : Indicator) (u : List ℕ) → Gives (λ ps r. P ps) (pairs_rule b d (closes h i)) u
-    close at_start h i u = closing-gives (λ ps r. P ps) d curly h i _ u empty
+    close at_start h i u = closing_gives (λ ps r. P ps) d curly h i _ u empty
     close behind_comma h i u = tt
 
     behind : (y : Item) (u v : List ℕ) → reads (one d) s ≡ ok y u → next u ≡ ok a_colon v → (x : Item) (w : List ℕ) → reads (one d) v ≡ ok x w → (t : Token) (z : List ℕ) → next w ≡ ok t z
         → Gives (λ ps r. P ps) (after_value d y x t) z
     behind y u v e f x w e' (begins g) z f' = tt
-    behind y u v e f x w e' (closes h i) z f' = closing-gives (λ ps r. P ps) d curly h i _ z (last y x u v w e f e')
+    behind y u v e f x w e' (closes h i) z f' = closing_gives (λ ps r. P ps) d curly h i _ z (last y x u v w e f e')
     behind y u v e f x w e' a_comma z f' = λ ps r g. further y x u v w z ps r e f e' f' g
     behind y u v e f x w e' a_colon z f' = tt
 
@@ -144,12 +144,12 @@ pub record Way (d : ℕ) (to : Rule Unit → Rule Unit) (s : List ℕ) (x : Item
   pub was : reads (one d) from ≡ ok x behind
   pub on : (go : Rule Unit) (p q : ℕ) → (p' q' : ℕ) × (obey reads (to go) p q s ≡ obey reads go p' q' from)
 
-way-here : (d : ℕ) {s a : List ℕ} {x : Item} → reads (one d) s ≡ ok x a → Way d (λ go. go) s x
-way-here d {s} {a} e = record { from = s; behind = a; was = e; on = λ go p q. (p, q, refl) }
+way_here : (d : ℕ) {s a : List ℕ} {x : Item} → reads (one d) s ≡ ok x a → Way d (λ go. go) s x
+way_here d {s} {a} e = record { from = s; behind = a; was = e; on = λ go p q. (p, q, refl) }
 
-way-take : (d : ℕ) (f : Rule Unit → Token → Rule Unit) {s u : List ℕ} {t : Token} {x : Item} → next s ≡ ok t u → Way d (λ go. f go t) u x → Way d (λ go. take (f go)) s x
+way_take : (d : ℕ) (f : Rule Unit → Token → Rule Unit) {s u : List ℕ} {t : Token} {x : Item} → next s ≡ ok t u → Way d (λ go. f go t) u x → Way d (λ go. take (f go)) s x
 unfolding obey
-way-take d f {s = s} e w =
+way_take d f {s = s} e w =
     record { from = w.from; behind = w.behind; was = w.was; on = λ go p q. let m = w.on go p (place s) in (m.0, m.1, bind_ok _ e ∙ m.2) }
 
 past_is : (d : ℕ) (c : Separator) (go : Rule Unit) (p q : ℕ) (s : List ℕ) {u v : List ℕ} {y : Item} → reads (one d) s ≡ ok y u → next u ≡ ok (token_of c) v
@@ -158,9 +158,9 @@ unfolding past separated token_of obey
 past_is d by_comma go p q s e f = bind_ok _ e ∙ bind_ok _ f
 past_is d by_colon go p q s e f = bind_ok _ e ∙ bind_ok _ f
 
-way-past : (d : ℕ) (c : Separator) (to : Rule Unit → Rule Unit) {s u v : List ℕ} {y x : Item} → reads (one d) s ≡ ok y u → next u ≡ ok (token_of c) v → Way d to v x
+way_past : (d : ℕ) (c : Separator) (to : Rule Unit → Rule Unit) {s u v : List ℕ} {y x : Item} → reads (one d) s ≡ ok y u → next u ≡ ok (token_of c) v → Way d to v x
     → Way d (λ go. past d c (to go)) s x
-way-past d c to {s = s} {u = u} e f w =
+way_past d c to {s = s} {u = u} e f w =
     record { from = w.from; behind = w.behind; was = w.was; on = λ go p q. let m = w.on go p (place u) in (m.0, m.1, past_is d c (to go) p q s e f ∙ m.2) }
 
 -- to the item number k of a sequence, and to the value number k of a map
@@ -170,24 +170,24 @@ ToElement d s k = Way d (λ go. to_element d go k) s
 abbrev ToValue : ℕ → List ℕ → ℕ → Item → Type 0
 ToValue d s k = Way d (λ go. to_value d go k) s
 
-pub items-lead : (k i : ℕ) (h : Shape) (b : Position) (d : ℕ) (s : List ℕ) (c : Closed) (r : List ℕ) → reads (items h b d) s ≡ ok c r → Leads (ToElement d s k) (nth i k c.all)
+pub items_lead : (k i : ℕ) (h : Shape) (b : Position) (d : ℕ) (s : List ℕ) (c : Closed) (r : List ℕ) → reads (items h b d) s ≡ ok c r → Leads (ToElement d s k) (nth i k c.all)
 unfolding nth to_element token_of within
-items-lead zero i h b d s = items-cases (λ xs. Leads (ToElement d s 0) (nth i 0 xs)) h b d s tt (λ x u e. way-here d e) (λ x u v c r e f g. way-here d e)
-items-lead (suc k) i h b d s =
-    items-cases (λ xs. Leads (ToElement d s (suc k)) (nth i (suc k) xs)) h b d s tt (λ x u e. tt)
+items_lead zero i h b d s = items_cases (λ xs. Leads (ToElement d s 0) (nth i 0 xs)) h b d s tt (λ x u e. way_here d e) (λ x u v c r e f g. way_here d e)
+items_lead (suc k) i h b d s =
+    items_cases (λ xs. Leads (ToElement d s (suc k)) (nth i (suc k) xs)) h b d s tt (λ x u e. tt)
     (λ x u v c r e f g. leads-within (ToElement d s (suc k)) (encode x) [] (nth i k c.all)
-    (leads-map (ToElement d v k) (ToElement d s (suc k)) (nth i k c.all) (λ y w. way-past d by_comma (λ go. to_element d go k) e f w) (items-lead k i h behind_comma d v c r g)))
+    (leads-map (ToElement d v k) (ToElement d s (suc k)) (nth i k c.all) (λ y w. way_past d by_comma (λ go. to_element d go k) e f w) (items_lead k i h behind_comma d v c r g)))
 
-pairs-lead : (k i : ℕ) (b : Position) (d : ℕ) (s : List ℕ) (ps : Pairs) (r : List ℕ) → reads (pairs b d) s ≡ ok ps r → Leads (ToValue d s k) (nth₂ i k ps)
+pairs_lead : (k i : ℕ) (b : Position) (d : ℕ) (s : List ℕ) (ps : Pairs) (r : List ℕ) → reads (pairs b d) s ≡ ok ps r → Leads (ToValue d s k) (nth₂ i k ps)
 unfolding nth₂ to_value token_of within
-pairs-lead zero i b d s =
-    pairs-cases (λ ps. Leads (ToValue d s 0) (nth₂ i 0 ps)) b d s tt (λ y x u v w e f e'. way-past d by_colon (λ go. go) e f (way-here d e'))
-    (λ y x u v w z ps r e f e' f' g. way-past d by_colon (λ go. go) e f (way-here d e'))
-pairs-lead (suc k) i b d s =
-    pairs-cases (λ ps. Leads (ToValue d s (suc k)) (nth₂ i (suc k) ps)) b d s tt (λ y x u v w e f e'. tt)
+pairs_lead zero i b d s =
+    pairs_cases (λ ps. Leads (ToValue d s 0) (nth₂ i 0 ps)) b d s tt (λ y x u v w e f e'. way_past d by_colon (λ go. go) e f (way_here d e'))
+    (λ y x u v w z ps r e f e' f' g. way_past d by_colon (λ go. go) e f (way_here d e'))
+pairs_lead (suc k) i b d s =
+    pairs_cases (λ ps. Leads (ToValue d s (suc k)) (nth₂ i (suc k) ps)) b d s tt (λ y x u v w e f e'. tt)
     (λ y x u v w z ps r e f e' f' g. leads-within (ToValue d s (suc k)) (encode y ++ encode x) [] (nth₂ i k ps)
     (leads-map (ToValue d z k) (ToValue d s (suc k)) (nth₂ i k ps)
-    (λ y q. way-past d by_colon (λ go. past d by_comma (to_value d go k)) e f (way-past d by_comma (λ go. to_value d go k) e' f' q)) (pairs-lead k i behind_comma d z ps r g)))
+    (λ y q. way_past d by_colon (λ go. past d by_comma (to_value d go k)) e f (way_past d by_comma (λ go. to_value d go k) e' f' q)) (pairs_lead k i behind_comma d z ps r g)))
 
 -- ONE STEP INTO AN ITEM x, read at s with d levels left and a behind it: there is a way to its child y, or x is written as one token
 pub data Step (d k : ℕ) (s : List ℕ) (x : Item) (a : List ℕ) (y : Item) : Type 0 where
@@ -224,13 +224,13 @@ module _ (i k : ℕ) (s : List ℕ) where
   inside-gives d (bracket j) u f = λ c a e.
       contains-gives (Stepped (suc d)) j (count c.all) (λ z. array z c.all) a
       (λ z. leads-within (Step (suc d) k s (array z c.all) a) (opening_head arrays z (count c.all)) (closing_bytes z) (nth i k c.all)
-      (leads-map (ToElement d u k) (Step (suc d) k s (array z c.all) a) (nth i k c.all) (λ y w. enters d refl (way-take d (λ go. into d go k) f w))
-      (items-lead k i square at_start d u c a e)))
+      (leads-map (ToElement d u k) (Step (suc d) k s (array z c.all) a) (nth i k c.all) (λ y w. enters d refl (way_take d (λ go. into d go k) f w))
+      (items_lead k i square at_start d u c a e)))
   inside-gives d (brace j) u f = λ ps a e.
       contains-gives (Stepped (suc d)) j (count₂ ps) (λ z. map z ps) a
       (λ z. leads-within (Step (suc d) k s (map z ps) a) (opening_head maps z (count₂ ps)) (closing_bytes z) (nth₂ i k ps)
-      (leads-map (ToValue d u k) (Step (suc d) k s (map z ps) a) (nth₂ i k ps) (λ y w. enters d refl (way-take d (λ go. into d go k) f w))
-      (pairs-lead k i at_start d u ps a e)))
+      (leads-map (ToValue d u k) (Step (suc d) k s (map z ps) a) (nth₂ i k ps) (λ y w. enters d refl (way_take d (λ go. into d go k) f w))
+      (pairs_lead k i at_start d u ps a e)))
   inside-gives d (tagging w n) u f = λ x v e t z g. tag-gives d (suc d) w n x t z
   inside-gives d embedding u f = λ c a e. sized-gives (Stepped (suc d)) _ _ a (λ w. tt)
 

@@ -28,55 +28,55 @@ many (b ∷ []) h = absurd (omega arith)
 many (b ∷ c ∷ l) h = refl
 
 module _ {s : List ℕ} {from end : ℕ} (ran : Ran s is_word from end) where
-  pub name-none : end - from ≡ 0 → 1 ≡ indicator_number (indicated (span from end (marked s)))
+  pub name_none : end - from ≡ 0 → 1 ≡ indicator_number (indicated (span from end (marked s)))
   unfolding indicator_number indicated
-  name-none e = let f : end ≡ from = omega (arith, ran.ahead) in rw (f, span_none from (marked s))
+  name_none e = let f : end ≡ from = omega (arith, ran.ahead) in rw (f, span_none from (marked s))
 
-  pub name-long : 1 < end - from → 2 ≡ indicator_number (indicated (span from end (marked s)))
-  name-long h =
+  pub name_long : 1 < end - from → 2 ≡ indicator_number (indicated (span from end (marked s)))
+  name_long h =
       many (span from end (marked s)) (rw (span-length from end (marked s) ran.ahead (omega (arith, ran.inside, length_marked s))) h)
 
   module _ (n : end - from ≡ 0 → ⊥) (h : end - from ≤ 1) where
-    pub name-index : from < length s
-    name-index = omega (arith, n, ran.inside)
+    pub name_index : from < length s
+    name_index = omega (arith, n, ran.inside)
 
     one : span from end (marked s) ≡ get_or s from 0 ∷ []
     one =
         let e : end ≡ from + 1 = omega (arith, n) in
         ap (λ (k : ℕ). span from k (marked s)) e
-        ∙ (span_more from from (marked s) (omega arith) (omega (arith, name-index, length_marked s)) ∙ rw (span_none from (marked s)) (ap (λ (b : ℕ). b ∷ []) (byte_at s from name-index)))
+        ∙ (span_more from from (marked s) (omega arith) (omega (arith, name_index, length_marked s)) ∙ rw (span_none from (marked s)) (ap (λ (b : ℕ). b ∷ []) (byte_at s from name_index)))
 
-    named-as : {b : ℕ} (k : ℕ) → get_or s from 0 ≡ b → k ≡ indicator_number (indicated (b ∷ [])) → k ≡ indicator_number (indicated (span from end (marked s)))
-    named-as k e i = i ∙ ap (λ (l : List ℕ). indicator_number (indicated l)) (ap (λ (b : ℕ). b ∷ []) (sym e) ∙ sym one)
+    named_as : {b : ℕ} (k : ℕ) → get_or s from 0 ≡ b → k ≡ indicator_number (indicated (b ∷ [])) → k ≡ indicator_number (indicated (span from end (marked s)))
+    named_as k e i = i ∙ ap (λ (l : List ℕ). indicator_number (indicated l)) (ap (λ (b : ℕ). b ∷ []) (sym e) ∙ sym one)
 
-    pub name-i : get_or s from 0 ≡ 0x69 → 3 ≡ indicator_number (indicated (span from end (marked s)))
+    pub name_i : get_or s from 0 ≡ 0x69 → 3 ≡ indicator_number (indicated (span from end (marked s)))
     unfolding indicator_number indicated width_number
-    name-i e = named-as 3 e refl
+    name_i e = named_as 3 e refl
 
-    pub name-0 : get_or s from 0 ≡ 0x30 → 4 ≡ indicator_number (indicated (span from end (marked s)))
+    pub name_0 : get_or s from 0 ≡ 0x30 → 4 ≡ indicator_number (indicated (span from end (marked s)))
     unfolding indicator_number indicated width_number
-    name-0 e = named-as 4 e refl
+    name_0 e = named_as 4 e refl
 
-    pub name-1 : get_or s from 0 ≡ 0x31 → 5 ≡ indicator_number (indicated (span from end (marked s)))
+    pub name_1 : get_or s from 0 ≡ 0x31 → 5 ≡ indicator_number (indicated (span from end (marked s)))
     unfolding indicator_number indicated width_number
-    name-1 e = named-as 5 e refl
+    name_1 e = named_as 5 e refl
 
-    pub name-2 : get_or s from 0 ≡ 0x32 → 6 ≡ indicator_number (indicated (span from end (marked s)))
+    pub name_2 : get_or s from 0 ≡ 0x32 → 6 ≡ indicator_number (indicated (span from end (marked s)))
     unfolding indicator_number indicated width_number
-    name-2 e = named-as 6 e refl
+    name_2 e = named_as 6 e refl
 
-    pub name-3 : get_or s from 0 ≡ 0x33 → 7 ≡ indicator_number (indicated (span from end (marked s)))
+    pub name_3 : get_or s from 0 ≡ 0x33 → 7 ≡ indicator_number (indicated (span from end (marked s)))
     unfolding indicator_number indicated width_number
-    name-3 e = named-as 7 e refl
+    name_3 e = named_as 7 e refl
 
-    pub name-other : (get_or s from 0 ≡ 0x69 → ⊥) → (get_or s from 0 ≡ 0x30 → ⊥) → (get_or s from 0 ≡ 0x31 → ⊥) → (get_or s from 0 ≡ 0x32 → ⊥) → (get_or s from 0 ≡ 0x33 → ⊥)
+    pub name_other : (get_or s from 0 ≡ 0x69 → ⊥) → (get_or s from 0 ≡ 0x30 → ⊥) → (get_or s from 0 ≡ 0x31 → ⊥) → (get_or s from 0 ≡ 0x32 → ⊥) → (get_or s from 0 ≡ 0x33 → ⊥)
         → 2 ≡ indicator_number (indicated (span from end (marked s)))
     unfolding indicator_number indicated
-    name-other ni n0 n1 n2 n3 =
+    name_other ni n0 n1 n2 n3 =
         let b = get_or s from 0 in
-        named-as 2 refl (simp (indicated, ne_eqb b 0x69 ni, ne_eqb b 0x30 n0, ne_eqb b 0x31 n1, ne_eqb b 0x32 n2, ne_eqb b 0x33 n3))
+        named_as 2 refl (simp (indicated, ne_eqb b 0x69 ni, ne_eqb b 0x30 n0, ne_eqb b 0x31 n1, ne_eqb b 0x32 n2, ne_eqb b 0x33 n3))
 
-pub ruleset name-ways = (name-none, name-long, name-i, name-0, name-1, name-2, name-3, name-other)
+pub ruleset name_ways = (name_none, name_long, name_i, name_0, name_1, name_2, name_3, name_other)
 
 -- INDICATORS
 module _ {s : List ℕ} {at : ℕ} {t : Bool} (p : Peeked s at 0x5f t) where
@@ -101,45 +101,45 @@ module _ {s : List ℕ} {at : ℕ} {t : Bool} (p : Peeked s at 0x5f t) where
 
 -- WIDTHS
 module _ (m n : ℕ) where
-  pub limit-0 : m ≡ 3 → 23 ≡ limit_by m
+  pub limit_0 : m ≡ 3 → 23 ≡ limit_by m
   unfolding limit_by limit
-  limit-0 e = rw e
+  limit_0 e = rw e
 
-  pub limit-1 : m ≡ 4 → 0xff ≡ limit_by m
+  pub limit_1 : m ≡ 4 → 0xff ≡ limit_by m
   unfolding limit_by limit
-  limit-1 e = rw e
+  limit_1 e = rw e
 
-  pub limit-2 : m ≡ 5 → 0xffff ≡ limit_by m
+  pub limit_2 : m ≡ 5 → 0xffff ≡ limit_by m
   unfolding limit_by limit
-  limit-2 e = rw e
+  limit_2 e = rw e
 
-  pub limit-4 : m ≡ 6 → 0xffff_ffff ≡ limit_by m
+  pub limit_4 : m ≡ 6 → 0xffff_ffff ≡ limit_by m
   unfolding limit_by limit
-  limit-4 e = rw e
+  limit_4 e = rw e
 
-  pub limit-8 : (m ≡ 3 → ⊥) → (m ≡ 4 → ⊥) → (m ≡ 5 → ⊥) → (m ≡ 6 → ⊥) → 0xffff_ffff_ffff_ffff ≡ limit_by m
+  pub limit_8 : (m ≡ 3 → ⊥) → (m ≡ 4 → ⊥) → (m ≡ 5 → ⊥) → (m ≡ 6 → ⊥) → 0xffff_ffff_ffff_ffff ≡ limit_by m
   unfolding limit_by limit
-  limit-8 n3 n4 n5 n6 = simp (limit_by, ne_eqb m 3 n3, ne_eqb m 4 n4, ne_eqb m 5 n5, ne_eqb m 6 n6)
+  limit_8 n3 n4 n5 n6 = simp (limit_by, ne_eqb m 3 n3, ne_eqb m 4 n4, ne_eqb m 5 n5, ne_eqb m 6 n6)
 
-  pub short-0 : n ≤ 23 → 3 ≡ width_number (shortest n)
+  pub short_0 : n ≤ 23 → 3 ≡ width_number (shortest n)
   unfolding shortest fits limit width_number
-  short-0 h = rw (le-leb n 23 h, shortest)
+  short_0 h = rw (le-leb n 23 h, shortest)
 
-  pub short-1 : 23 < n → n ≤ 0xff → 4 ≡ width_number (shortest n)
+  pub short_1 : 23 < n → n ≤ 0xff → 4 ≡ width_number (shortest n)
   unfolding shortest fits limit width_number
-  short-1 l h = rw (lt-leb n 23 l, shortest) (rw (le-leb n 0xff h))
+  short_1 l h = rw (lt-leb n 23 l, shortest) (rw (le-leb n 0xff h))
 
-  pub short-2 : 23 < n → 0xff < n → n ≤ 0xffff → 5 ≡ width_number (shortest n)
+  pub short_2 : 23 < n → 0xff < n → n ≤ 0xffff → 5 ≡ width_number (shortest n)
   unfolding shortest fits limit width_number
-  short-2 l l₁ h = rw (lt-leb n 23 l, shortest) (rw (lt-leb n 0xff l₁) (rw (le-leb n 0xffff h)))
+  short_2 l l₁ h = rw (lt-leb n 23 l, shortest) (rw (lt-leb n 0xff l₁) (rw (le-leb n 0xffff h)))
 
-  pub short-4 : 23 < n → 0xff < n → 0xffff < n → n ≤ 0xffff_ffff → 6 ≡ width_number (shortest n)
+  pub short_4 : 23 < n → 0xff < n → 0xffff < n → n ≤ 0xffff_ffff → 6 ≡ width_number (shortest n)
   unfolding shortest fits limit width_number
-  short-4 l l₁ l₂ h = rw (lt-leb n 23 l, shortest) (rw (lt-leb n 0xff l₁) (rw (lt-leb n 0xffff l₂) (rw (le-leb n 0xffff_ffff h))))
+  short_4 l l₁ l₂ h = rw (lt-leb n 23 l, shortest) (rw (lt-leb n 0xff l₁) (rw (lt-leb n 0xffff l₂) (rw (le-leb n 0xffff_ffff h))))
 
-  pub short-8 : 23 < n → 0xff < n → 0xffff < n → 0xffff_ffff < n → 7 ≡ width_number (shortest n)
+  pub short_8 : 23 < n → 0xff < n → 0xffff < n → 0xffff_ffff < n → 7 ≡ width_number (shortest n)
   unfolding shortest fits limit width_number
-  short-8 l l₁ l₂ l₄ = rw (lt-leb n 23 l, shortest) (rw (lt-leb n 0xff l₁) (rw (lt-leb n 0xffff l₂) (rw (lt-leb n 0xffff_ffff l₄))))
+  short_8 l l₁ l₂ l₄ = rw (lt-leb n 23 l, shortest) (rw (lt-leb n 0xff l₁) (rw (lt-leb n 0xffff l₂) (rw (lt-leb n 0xffff_ffff l₄))))
 
   pub choose-short : (r : ℕ) → m ≡ 0 → r ≡ width_number (shortest n) → r ≡ choose_by m n
   unfolding choose_by
@@ -158,28 +158,28 @@ module _ (m n : ℕ) where
     unfolding choose_by
     choose-small g = rw (ne_eqb m 0 k, choose_by) (rw (lt-leb m 2 h) (rw (sym e) (rw (lt-leb n l g))))
 
-pub ruleset limit-ways = (limit-0, limit-1, limit-2, limit-4, limit-8)
+pub ruleset limit_ways = (limit_0, limit_1, limit_2, limit_4, limit_8)
 
-pub ruleset short-ways = (short-0, short-1, short-2, short-4, short-8)
+pub ruleset short_ways = (short_0, short_1, short_2, short_4, short_8)
 
-pub ruleset choose-ways = (choose-short, choose-none, choose-wide, choose-small)
+pub ruleset choose_ways = (choose-short, choose-none, choose-wide, choose-small)
 
 -- what the numbers say of the definition
-number-if : (t : Bool) (w : Width) → chosen_number (elim t [ true ↦ chosen w | false ↦ misfit ]) ≡ elim t [ true ↦ width_number w | false ↦ 0 ]
+number_if : (t : Bool) (w : Width) → chosen_number (elim t [ true ↦ chosen w | false ↦ misfit ]) ≡ elim t [ true ↦ width_number w | false ↦ 0 ]
 unfolding chosen_number
-number-if true w = refl
-number-if false w = refl
+number_if true w = refl
+number_if false w = refl
 
 pub choose-is : (i : Indicator) (n : ℕ) → chosen_number (choose i n) ≡ choose_by (indicator_number i) n
 unfolding chosen_number choose choose_by indicator_number width_number limit_by fits
 choose-is absent n = refl
 choose-is indefinitely n = refl
 choose-is unknown n = refl
-choose-is (wide w0) n = number-if (leb n (limit w0)) w0
-choose-is (wide w1) n = number-if (leb n (limit w1)) w1
-choose-is (wide w2) n = number-if (leb n (limit w2)) w2
-choose-is (wide w4) n = number-if (leb n (limit w4)) w4
-choose-is (wide w8) n = number-if (leb n (limit w8)) w8
+choose-is (wide w0) n = number_if (leb n (limit w0)) w0
+choose-is (wide w1) n = number_if (leb n (limit w1)) w1
+choose-is (wide w2) n = number_if (leb n (limit w2)) w2
+choose-is (wide w4) n = number_if (leb n (limit w4)) w4
+choose-is (wide w8) n = number_if (leb n (limit w8)) w8
 
 pub width_some : (w : Width) → 3 ≤ width_number w
 unfolding width_number

@@ -10,22 +10,22 @@ use borrow.Author.Tests.{le-leb, lt-leb, leb-true}
 use Rattle.cbor.specs.Refusals.{Verdict, accepted, refused, no_room}
 use Rattle.cbor.specs.Decode.{most_bytes}
 use Rattle.memory.specs.Buffer.{over}
-use Rattle.cbor.proofs.Results.{refused-not-accepted}
+use Rattle.cbor.proofs.Results.{refused_not_accepted}
 use Rattle.operations.specs.Operations.{and_then, room, fitting, written, zeroed}
 use Rattle.operations.specs.Demands.{Kept, Agree}
 
-pub and-then-ok : {A B : Type 0} (v : Verdict A) (k : A → Verdict B) {y : B} → and_then v k ≡ accepted y → (x : A) × (v ≡ accepted x) × (k x ≡ accepted y)
+pub and_then-ok : {A B : Type 0} (v : Verdict A) (k : A → Verdict B) {y : B} → and_then v k ≡ accepted y → (x : A) × (v ≡ accepted x) × (k x ≡ accepted y)
 unfolding and_then
-and-then-ok (accepted x) k e = (x, refl, e)
-and-then-ok (refused n q) k e = absurd (refused-not-accepted e)
+and_then-ok (accepted x) k e = (x, refl, e)
+and_then-ok (refused n q) k e = absurd (refused_not_accepted e)
 
-pub and-then-is : {A B : Type 0} {v : Verdict A} {x : A} (k : A → Verdict B) → v ≡ accepted x → and_then v k ≡ k x
+pub and_then-is : {A B : Type 0} {v : Verdict A} {x : A} (k : A → Verdict B) → v ≡ accepted x → and_then v k ≡ k x
 unfolding and_then
-and-then-is k e = rw e
+and_then-is k e = rw e
 
-pub and-then-refused : {A B : Type 0} {v : Verdict A} {n q : ℕ} (k : A → Verdict B) → v ≡ refused n q → and_then v k ≡ refused n q
+pub and_then-refused : {A B : Type 0} {v : Verdict A} {n q : ℕ} (k : A → Verdict B) → v ≡ refused n q → and_then v k ≡ refused n q
 unfolding and_then
-and-then-refused k e = rw e
+and_then-refused k e = rw e
 
 pub fitting-yes : (buffer w : List ℕ) → length w ≤ room buffer → fitting buffer w ≡ accepted w
 unfolding fitting
@@ -41,7 +41,7 @@ fitting-ok buffer w {v} e = go (leb (length w) (room buffer)) refl e
   where
     go : (b : Bool) → leb (length w) (room buffer) ≡ b → ◌≡◌ {A = Verdict (List ℕ)} (elim b [ true ↦ accepted w | false ↦ refused no_room 0 ]) (accepted v) → (w ≡ v) × (length w ≤ room buffer)
     go true i f = (cc, leb-true (length w) (room buffer) i)
-    go false i f = absurd (refused-not-accepted f)
+    go false i f = absurd (refused_not_accepted f)
 
 -- only the buffer's length counts
 pub fitting-same : (buffer fresh w : List ℕ) → length fresh ≡ length buffer → fitting fresh w ≡ fitting buffer w
@@ -51,7 +51,7 @@ fitting-same buffer fresh w e = ap (λ (n : ℕ). elim (leb (length w) (min n mo
 pub written-ok : (buffer : List ℕ) (laid : List ℕ → List ℕ) (v : Verdict (List ℕ)) {n : ℕ} → (written buffer laid v).answer ≡ accepted n → (w : List ℕ) × (v ≡ accepted w) × (length w ≡ n)
 unfolding written
 written-ok buffer laid (accepted w) e = (w, refl, cc)
-written-ok buffer laid (refused k q) e = absurd (refused-not-accepted e)
+written-ok buffer laid (refused k q) e = absurd (refused_not_accepted e)
 
 -- what is laid over the front of a buffer stands there
 front : (buffer w v : List ℕ) → take (length w) (over buffer 0 (w ++ v)) ≡ w
@@ -72,20 +72,20 @@ agree_same buffer fresh used (accepted w) =
       bytes = λ n e f. let m : length w ≡ n = cc in rw (← m) (front buffer w (replicate (used - length w) 0) ∙ sym (front-all fresh w));
     }
 agree_same buffer fresh used (refused n q) =
-    record { success = (λ e. e, λ e. e); lengths = λ n m e f. absurd (refused-not-accepted e); bytes = λ n e f. absurd (refused-not-accepted e) }
+    record { success = (λ e. e, λ e. e); lengths = λ n m e f. absurd (refused_not_accepted e); bytes = λ n e f. absurd (refused_not_accepted e) }
 
 -- two refusals
-pub agree-refused : (buffer fresh : List ℕ) (f g : List ℕ → List ℕ) (v w : Verdict (List ℕ)) {n q m r : ℕ} → v ≡ refused n q → w ≡ refused m r → Agree (written buffer f v) (written fresh g w)
+pub agree_refused : (buffer fresh : List ℕ) (f g : List ℕ → List ℕ) (v w : Verdict (List ℕ)) {n q m r : ℕ} → v ≡ refused n q → w ≡ refused m r → Agree (written buffer f v) (written fresh g w)
 unfolding written
-agree-refused buffer fresh f g v w i j =
+agree_refused buffer fresh f g v w i j =
     rw (i, j) (record {
-      success = (λ e. absurd (refused-not-accepted e.1), λ e. absurd (refused-not-accepted e.1));
-      lengths = λ n m e f. absurd (refused-not-accepted e);
-      bytes = λ n e f. absurd (refused-not-accepted e);
+      success = (λ e. absurd (refused_not_accepted e.1), λ e. absurd (refused_not_accepted e.1));
+      lengths = λ n m e f. absurd (refused_not_accepted e);
+      bytes = λ n e f. absurd (refused_not_accepted e);
     })
 
 -- a refusal is written nowhere
 pub written-kept : (buffer : List ℕ) (laid : List ℕ → List ℕ) (v : Verdict (List ℕ)) → Kept buffer (written buffer laid v)
 unfolding written
-written-kept buffer laid (accepted w) n q e = absurd (refused-not-accepted (sym e))
+written-kept buffer laid (accepted w) n q e = absurd (refused_not_accepted (sym e))
 written-kept buffer laid (refused k p) n q e = refl

@@ -31,7 +31,7 @@ fits-yes n m h = go (leb n m) refl
     go true e = sym (le-leb n (min m 65535) (omega (arith, leb-true n m e)))
     go false e = sym (lt-leb n (min m 65535) (omega (arith, leb-false n m e)))
 
-pub ruleset fits-ways = (fits-no, fits-yes)
+pub ruleset fits_ways = (fits-no, fits-yes)
 
 -- THE BUFFER: v says whether w, of n bytes, has room in b
 module _ (b : List ℕ) {n : ℕ} {v : Bool} (f : v ≡ leb n (min (length b) 65535)) where
@@ -54,13 +54,13 @@ module _ (b : List ℕ) {n : ℕ} {v : Bool} (f : v ≡ leb n (min (length b) 65
 
 -- BUFFERS for all that texts of a size can make
 module _ {s m : List ℕ} where
-  pub roomy-tiny : length s ≤ 55 → length m ≡ 504 → Roomy s m
-  roomy-tiny f l = record { room = omega arith }
+  pub roomy_tiny : length s ≤ 55 → length m ≡ 504 → Roomy s m
+  roomy_tiny f l = record { room = omega arith }
 
   pub roomy-small : length s ≤ 511 → length m ≡ 4608 → Roomy s m
   roomy-small f l = record { room = omega arith }
 
-  pub roomy-large : length m ≡ most_bytes → Roomy s m
-  roomy-large l = record { room = omega arith }
+  pub roomy_large : length m ≡ most_bytes → Roomy s m
+  roomy_large l = record { room = omega arith }
 
-pub ruleset roomy-ways = (roomy-tiny, roomy-small, roomy-large)
+pub ruleset roomy_ways = (roomy_tiny, roomy-small, roomy_large)

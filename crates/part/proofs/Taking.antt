@@ -34,7 +34,7 @@ module _ (s : List ℕ) {r : Located} where
     unfolding taken
     take-some = rw f
 
-pub ruleset take-ways = (take_none, take-some)
+pub ruleset take_ways = (take_none, take-some)
 
 -- the bytes taken are the part that a verdict asks for, if the answer told it
 pub taken_is : (s : List ℕ) (r : Located) (v : Verdict Spot) → locate_told r ≡ locate_of v → taken s r ≡ part_of s v

@@ -33,44 +33,44 @@ use Rattle.decimal_output.proofs.DecimalCode.{decimal-length}
 use Rattle.printer.proofs.PrintBounds.{indicator-length}
 use Rattle.printer.specs.PrintAnswers.{Done, PrintTold}
 use Rattle.printer.specs.declared.Printed.{Printed}
-use Rattle.printer.proofs.PrintSeveral.{mapped-is}
+use Rattle.printer.proofs.PrintSeveral.{mapped_is}
 use Rattle.printer.proofs.PrintCycle.{taking-ok, made, content-ok}
 use Rattle.leaf_written.specs.Laying.{Laid}
 use Rattle.leaf_written.specs.declared.Written.{Written}
 use Rattle.leaf_written.proofs.LayCode.{laid_none, laid_more, laid_kept, laid_as, laid-front, laid-prints}
-use Rattle.leaf_written.proofs.LeafCode.{low-information, indicator-none, shortest-0, item-plain}
+use Rattle.leaf_written.proofs.LeafCode.{low-information, indicator-none, shortest_0, item_plain}
 use Rattle.pass_parts.specs.PartAnswers.{comma_of, separator_of, tag_opening, IsItem, ItemTold, Closed, ShortString, MayTag}
 
 -- BETWEEN ITEMS
 
 module _ (map : Bool) (left : ℕ) where
-  pub comma-value : map ≡ true → left % 2 ≡ 1 → 0x3a ≡ comma_of map left
+  pub comma_value : map ≡ true → left % 2 ≡ 1 → 0x3a ≡ comma_of map left
   unfolding comma_of
-  comma-value e h = sym (rw e (rw (eq-eqb (left % 2) 1 h, comma_of)))
+  comma_value e h = sym (rw e (rw (eq-eqb (left % 2) 1 h, comma_of)))
 
-  pub comma-key : map ≡ true → (left % 2 ≡ 1 → ⊥) → 0x2c ≡ comma_of map left
+  pub comma_key : map ≡ true → (left % 2 ≡ 1 → ⊥) → 0x2c ≡ comma_of map left
   unfolding comma_of
-  comma-key e h = sym (rw e (rw (ne_eqb (left % 2) 1 h, comma_of)))
+  comma_key e h = sym (rw e (rw (ne_eqb (left % 2) 1 h, comma_of)))
 
-  pub comma-plain : map ≡ false → 0x2c ≡ comma_of map left
+  pub comma_plain : map ≡ false → 0x2c ≡ comma_of map left
   unfolding comma_of
-  comma-plain e = sym (rw e)
+  comma_plain e = sym (rw e)
 
-pub ruleset comma-ways = (comma-value, comma-key, comma-plain)
+pub ruleset comma_ways = (comma_value, comma_key, comma_plain)
 
 module _ (first : Bool) {c k : ℕ} {b b₁ b₂ : List ℕ} {pos p q : ℕ} (x : Laid b b₁ pos (c ∷ []) p) (y : Laid b₁ b₂ p (k ∷ []) q) where
-  pub separator-none : first ≡ true → Laid b b₂ pos (separator_of first c k) pos
+  pub separator_none : first ≡ true → Laid b b₂ pos (separator_of first c k) pos
   unfolding separator_of
-  separator-none e =
+  separator_none e =
       let z : pos + 0 ≡ pos = omega arith in
       let w : Laid b b₂ pos [] pos = rw z at (laid-front [] (c ∷ k ∷ []) (laid_more x y)) in
       rw e w
 
-  pub separator-some : first ≡ false → Laid b b₂ pos (separator_of first c k) q
+  pub separator_some : first ≡ false → Laid b b₂ pos (separator_of first c k) q
   unfolding separator_of
-  separator-some e = rw e (laid_more x y)
+  separator_some e = rw e (laid_more x y)
 
-pub ruleset separator-ways = (separator-none, separator-some)
+pub ruleset separator_ways = (separator_none, separator_some)
 
 -- BRACKETS
 
@@ -79,18 +79,18 @@ module _ (info n : ℕ) {b : List ℕ} {pos : ℕ} where
   unfolding size_of size_by blank_behind
   mark-none h i l =
       let a : info ≡ 31 → ⊥ = omega arith in
-      let e : size_of (size_by info) n ≡ [] = rw (ne_eqb info 31 a, size_by) (ap blank_behind (ap (λ w. indicator_of w n) (width_low info (omega arith)) ∙ indicator-none w0 n (shortest-0 n i))) in
+      let e : size_of (size_by info) n ≡ [] = rw (ne_eqb info 31 a, size_by) (ap blank_behind (ap (λ w. indicator_of w n) (width_low info (omega arith)) ∙ indicator-none w0 n (shortest_0 n i))) in
       laid_as (laid_none b pos (omega arith)) (sym e)
 
-  pub mark-open : {b₁ b₂ : List ℕ} {p q : ℕ} → info ≡ 31 → Laid b b₁ pos (0x5f ∷ []) p → Laid b₁ b₂ p (0x20 ∷ []) q → Laid b b₂ pos (size_of (size_by info) n) q
+  pub mark_open : {b₁ b₂ : List ℕ} {p q : ℕ} → info ≡ 31 → Laid b b₁ pos (0x5f ∷ []) p → Laid b₁ b₂ p (0x20 ∷ []) q → Laid b b₂ pos (size_of (size_by info) n) q
   unfolding size_of size_by
-  mark-open e x y = rw e (laid_more x y)
+  mark_open e x y = rw e (laid_more x y)
 
   pub mark-wide : {b₁ : List ℕ} {r : ℕ} → length b * 1 < 2 ^ 63 → pos + 3 ≤ length b → length (size_of (size_by info) n) ≤ 3 → Prints b b₁ pos (size_of (size_by info) n) r → Laid b b₁ pos (size_of (size_by info) n) r
   mark-wide u l h p = laid-prints u (omega (arith, p.next)) p
 
-pub opening-laid : {c : ℕ} {ws b b₁ b₂ : List ℕ} {pos p q : ℕ} → Laid b b₁ pos (c ∷ []) p → Laid b₁ b₂ p ws q → Laid b b₂ pos (c ∷ ws) q
-opening-laid x y = laid_more x y
+pub opening_laid : {c : ℕ} {ws b b₁ b₂ : List ℕ} {pos p q : ℕ} → Laid b b₁ pos (c ∷ []) p → Laid b₁ b₂ p ws q → Laid b b₂ pos (c ∷ ws) q
+opening_laid x y = laid_more x y
 
 module _ (info : ℕ) {n : ℕ} (f : Fits bits64 n) where
   number-most : length (decimal_of n ++ indicator_of (width_by info) n) ≤ 22
@@ -136,21 +136,21 @@ module _ {b b₁ : List ℕ} {part : Written} {c q : ℕ} {r : Written} where
         none = λ h. absurd (n (omega arith));
       }
 
-pub ruleset closed-ways = (closed_none, closed_some)
+pub ruleset closed_ways = (closed_none, closed_some)
 
 -- TYPED ARRAYS
 
 module _ {b : ℕ} where
-  pub string-not : (b / 32 ≡ 2 → ⊥) → ShortString b false
-  string-not n = record { major = λ e. absurd (false≢true e); short = λ e. absurd (false≢true e) }
+  pub string_not : (b / 32 ≡ 2 → ⊥) → ShortString b false
+  string_not n = record { major = λ e. absurd (false≢true e); short = λ e. absurd (false≢true e) }
 
   pub string-is : b / 32 ≡ 2 → ShortString b (ltb (b % 32) 24)
   string-is h = record { major = λ e. h; short = λ e. ltb-true (b % 32) 24 e }
 
-pub ruleset string-ways = (string-not, string-is)
+pub ruleset string_ways = (string_not, string-is)
 
-asked-any : (n : ℕ) (v : Bool) → asked n false ≡ true → asked n v ≡ true
-asked-any n v = by (is_typed_array n) (eqb n 76)
+asked_any : (n : ℕ) (v : Bool) → asked n false ≡ true → asked n v ≡ true
+asked_any n v = by (is_typed_array n) (eqb n 76)
   where
     by : (t u : Bool) → elim t [ true ↦ elim u [ true ↦ false | false ↦ false ] | false ↦ true ] ≡ true → elim t [ true ↦ elim u [ true ↦ false | false ↦ v ] | false ↦ true ] ≡ true
     by true true e = absurd (false≢true e)
@@ -163,13 +163,13 @@ record StringOf (n : ℕ) (x : Item) : Type 0 where
   is : x ≡ string byte_string w0 content
   size : length content ≡ n
 
-string-of : (s : List ℕ) (from d : ℕ) (x : Item) (r : List ℕ) → from < length s → get_or s from 0 / 32 ≡ 2 → get_or s from 0 % 32 < 24 → item d (drop from s) ≡ ok x r → StringOf (get_or s from 0 % 32) x
+string_of : (s : List ℕ) (from d : ℕ) (x : Item) (r : List ℕ) → from < length s → get_or s from 0 / 32 ≡ 2 → get_or s from 0 % 32 < 24 → item d (drop from s) ≡ ok x r → StringOf (get_or s from 0 % 32) x
 unfolding item_by is_float is_allowed argument_bytes started value_from major_of
-string-of s from d x r h m l e =
+string_of s from d x r h m l e =
     let n = get_or s from 0 % 32 in
     let t = drop (from + 1 + 0) s in
     let g : major_of (get_or s from 0 / 32) ≡ strings byte_string = ap major_of m in
-    let p = item-plain s from w0 (omega arith) (low-information n l) (ap (λ (z : Major). is_float z w0) g) (ap (λ (z : Major). is_allowed z w0 n) g) d in
+    let p = item_plain s from w0 (omega arith) (low-information n l) (ap (λ (z : Major). is_float z w0) g) (ap (λ (z : Major). is_allowed z w0 n) g) d in
     let q : item_by (enter_at d) (strings byte_string) (definite w0) n (length (drop from s)) t ≡ ok x r = ap (λ (z : Major). item_by (enter_at d) z (definite w0) n (length (drop from s)) t) (sym g) ∙ sym p ∙ e in
     let i = made (string byte_string w0) (content_at byte_string n (length (drop from s)) t) q in
     let k = taking-ok n 0 t (content-ok byte_string n (length (drop from s)) t i.read) in
@@ -183,12 +183,12 @@ unfolding may_tag_by may_tag divides
 may-by {s} {from} {n} {v} {t} h w e = record { is = by v w e }
   where
     by : (v : Bool) → ShortString (get_or s from 0) v → t ≡ may_tag_by n v (get_or s from 0 % 32) → t ≡ true → (d : ℕ) (x : Item) (r : List ℕ) → item d (drop from s) ≡ ok x r → may_tag n x ≡ true
-    by false w e y d x r g = asked-any n (divides (element_size n) x) (sym e ∙ y)
+    by false w e y d x r g = asked_any n (divides (element_size n) x) (sym e ∙ y)
     by true w e y d x r g =
-        let o = string-of s from d x r h (w.major refl) (w.short refl) g in
+        let o = string_of s from d x r h (w.major refl) (w.short refl) g in
         ap (may_tag n) o.is ∙ ap (λ (k : ℕ). asked n (eqb (k % element_size n) 0)) o.size ∙ sym e ∙ y
 
-pub ruleset may-ways = (may_none, may-by)
+pub ruleset may_ways = (may_none, may-by)
 
 -- ANY ITEM
 
@@ -212,14 +212,14 @@ module _ (s : List ℕ) (at d : ℕ) where
 
 module _ {s : List ℕ} {at d : ℕ} {b b₁ : List ℕ} {pos : ℕ} {p : Printed} (i : IsItem s at d) (l : pos ≤ length b) (f : PrintTold s (at + 1) b b₁ pos p (mapped print_item (item d (drop at s)))) where
   whole-done : Done s (at + 1) b b₁ pos p (print_item i.value) i.rest
-  whole-done = f.done (print_item i.value) i.rest (mapped-is print_item i.is refl)
+  whole-done = f.done (print_item i.value) i.rest (mapped_is print_item i.is refl)
 
   whole-kept : take pos b₁ ≡ take pos b
   unfolding clipped
   whole-kept = let g = whole-done.prints in ap (take pos) g.is ∙ take-over b pos (take (length b - pos) (print_item i.value)) l pos (omega arith)
 
-  pub whole-full : {r : Written} → r ≡ record { end = 0; pos = 0 } → ItemTold s at d b b₁ pos r
-  whole-full e = told_none e f.same whole-kept
+  pub whole_full : {r : Written} → r ≡ record { end = 0; pos = 0 } → ItemTold s at d b b₁ pos r
+  whole_full e = told_none e f.same whole-kept
 
   pub whole-made : {r : Written} → length b * 1 < 2 ^ 63 → p.pos ≤ length b₁ → r ≡ record { end = p.end; pos = p.pos } → ItemTold s at d b b₁ pos r
   whole-made {r} u h e =
@@ -237,4 +237,4 @@ module _ {s : List ℕ} {at d : ℕ} {b b₁ : List ℕ} {pos : ℕ} {p : Printe
         };
       }
 
-pub ruleset whole-ways = (whole-made, whole-full)
+pub ruleset whole_ways = (whole-made, whole_full)

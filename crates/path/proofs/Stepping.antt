@@ -23,10 +23,10 @@ use Rattle.head.specs.declared.HeadRead.TheVariants.{Head as HeadV, Refused as H
 use Rattle.walk_answer.specs.declared.Passage.{Passage}
 use Rattle.walk_answer.specs.declared.Passed.{Passed}
 use Rattle.walk_answer.specs.declared.Passed.TheVariants.{Span as SpanV, Refused as RefusedV}
-use Rattle.walk_answer.proofs.Leaves.{Left, Leaves, same, left_cut, left-weak, left-on}
+use Rattle.walk_answer.proofs.Leaves.{Left, Leaves, same, left_cut, left_weak, left-on}
 use Rattle.walk_answer.proofs.ItemLeaves.{HeadLeft, head-left}
 use Rattle.walk_parts.proofs.StringCode.{size-indefinite, size-definite}
-use Rattle.walk_answer.proofs.WalkCycle.{Reached, reached, one-leaves, all-leaves, all_more, all_none, all_one, all-double}
+use Rattle.walk_answer.proofs.WalkCycle.{Reached, reached, one-leaves, all-leaves, all_more, all_none, all_one, all_double}
 use Rattle.walk_parts.proofs.WalkItems.{all_told}
 use Rattle.path.specs.Following.{Place, at, astray, onto, behind_one, past_one, step_to, standing, nth_from, child_by, child_at, child_in, numbered, follow_from, trace}
 use Rattle.path.specs.StepAnswers.{place_of, ReachedInside, ReachedAt, Step, major_by, items_before, past_items, traced_to, Still, Traced}
@@ -38,22 +38,22 @@ use Rattle.path.specs.declared.Trace.TheVariants.{At, Lost}
 -- PAST ONE
 
 -- what is left behind a part is left of the whole
-pub left-of : (k : ℕ) (s : List ℕ) (i : ℕ) (r : List ℕ) {z : ℕ} → i ≤ length s → Left k (drop i s) r z → Left 0 s r z
-left-of k s i r h l = left-weak (omega arith) (omega arith) (left-on (left_cut 0 0 i s (omega arith) (omega arith) h) l)
+pub left_of : (k : ℕ) (s : List ℕ) (i : ℕ) (r : List ℕ) {z : ℕ} → i ≤ length s → Left k (drop i s) r z → Left 0 s r z
+left_of k s i r h l = left_weak (omega arith) (omega arith) (left-on (left_cut 0 0 i s (omega arith) (omega arith) h) l)
 
 past-at : (s : List ℕ) (i : ℕ) (m : Passage) (res : Result ℕ) → i ≤ length s → Leaves 0 same (drop i s) res → Reached (length s) m res → ReachedAt s (To (record { at = m.end })) (behind_one res)
 unfolding place_of ReachedInside behind_one
 past-at s i m (ok k r) h l g =
     let e : g.rest ≡ r = cc g.is in
-    let d = left-of 0 s i r h l in
+    let d = left_of 0 s i r h l in
     let p : m.end ≡ length s - length r = g.ends ∙ ap (λ (t : List ℕ). length s - length t) e in
     record { is = ap at (ap (λ (x : ℕ). drop x s) p ∙ sym d.drops); inside = omega arith }
 past-at s i m (refuse k q) h l g = let f = g.is in let z : ◌≡◌ {A = ℕ} 0 1 = cc in absurd (omega arith)
 
-past-not : (s : List ℕ) (e : Refusal) (res : Result ℕ) → pass_told (RefusedV e) ≡ told_of (length s) res → astray ≡ behind_one res
+past_not : (s : List ℕ) (e : Refusal) (res : Result ℕ) → pass_told (RefusedV e) ≡ told_of (length s) res → astray ≡ behind_one res
 unfolding pass_told told_of behind_one
-past-not s e (ok k r) h = let z : ◌≡◌ {A = ℕ} 0 1 = cc in absurd (omega arith)
-past-not s e (refuse k q) h = refl
+past_not s e (ok k r) h = let z : ◌≡◌ {A = ℕ} 0 1 = cc in absurd (omega arith)
+past_not s e (refuse k q) h = refl
 
 module _ {s : List ℕ} {i : ℕ} (n : ℕ) (w : Within s i) (inner : Passed) (long : length s * 1 < 2 ^ 63)
     (told : pass_told inner ≡ told_of (length (take (length s - i) (drop i s))) (all_of 4 (suc 16) (until_by 0 n) (take (length s - i) (drop i s)))) (part : Passed) (after : pass_told part ≡ after_told i 0 (pass_told inner)) where
@@ -63,13 +63,13 @@ module _ {s : List ℕ} {i : ℕ} (n : ℕ) (w : Within s i) (inner : Passed) (l
 
   pub past-refused : {e : Refusal} → part ≡ RefusedV e → ReachedAt s Nowhere (past_items n (drop i s))
   unfolding place_of ReachedInside past_items
-  past-refused f = record { is = past-not s _ (all_of 4 17 (counted n) (drop i s)) (rw f at items-told); inside = tt }
+  past-refused f = record { is = past_not s _ (all_of 4 17 (counted n) (drop i s)) (rw f at items-told); inside = tt }
 
   pub past_to : {m : Passage} → part ≡ SpanV m → ReachedAt s (To (record { at = m.end })) (past_items n (drop i s))
   unfolding past_items
   past_to {m} f = past-at s i m (all_of 4 17 (counted n) (drop i s)) w.inside (all-leaves 4 17 (counted n) (drop i s)) (reached (all_of 4 17 (counted n) (drop i s)) part items-told f)
 
-pub ruleset past-ways = (past-refused, past_to)
+pub ruleset past_ways = (past-refused, past_to)
 
 -- TO ONE OF SEVERAL
 
@@ -177,9 +177,9 @@ skip major (suc k) broken (b ∷ s) = by (eqb b 255) refl (skip major k broken)
 skip major (suc k) ended [] = sym (skip-over major k ended [] (none-there major))
 skip major (suc k) ended (b ∷ s) = skip-on major k ended ended (b ∷ s) (skip major k ended) refl refl
 
-pub less-mode : (k mode n : ℕ) → less_by k (until_by mode n) ≡ until_by mode (n - k)
+pub less_mode : (k mode n : ℕ) → less_by k (until_by mode n) ≡ until_by mode (n - k)
 unfolding less_by until_by
-less-mode k mode n = by (eqb mode 0) (eqb mode 1)
+less_mode k mode n = by (eqb mode 0) (eqb mode 1)
   where
     by : (a b : Bool)
         → less_by k (elim a [ true ↦ counted n | false ↦ elim b [ true ↦ broken | false ↦ ended ] ]) ≡ elim a [ true ↦ counted (n - k) | false ↦ elim b [ true ↦ broken | false ↦ ended ] ]
@@ -189,14 +189,14 @@ less-mode k mode n = by (eqb mode 0) (eqb mode 1)
 
 before-is : (pairs : Bool) (k : ℕ) (s : List ℕ) → past_items (items_before pairs k) s ≡ past_some (major_by pairs) k s
 unfolding past_items items_before past_some major_by
-before-is true k s = ap behind_one (all-double 17 k s)
+before-is true k s = ap behind_one (all_double 17 k s)
 before-is false k s = refl
 
 module _ (pairs : Bool) (k : ℕ) {s : List ℕ} (i : ℕ) {n : ℕ} (en : n ≡ items_before pairs k) {move : Destination} (mv : ReachedAt s move (past_items n (drop i s))) (mode count : ℕ) where
   on : nth_from (major_by pairs) k (until_by mode count) (drop i s) ≡ onto (place_of s move) (standing (until_by mode (count - k)))
   on =
       skip (major_by pairs) k (until_by mode count) (drop i s)
-      ∙ (λ z. onto (sym (mv.is ∙ ap (λ (x : ℕ). past_items x (drop i s)) en ∙ before-is pairs k (drop i s)) z) (standing (less-mode k mode count z)))
+      ∙ (λ z. onto (sym (mv.is ∙ ap (λ (x : ℕ). past_items x (drop i s)) en ∙ before-is pairs k (drop i s)) z) (standing (less_mode k mode count z)))
 
   pub nth-lost : move ≡ Nowhere → ReachedAt s Nowhere (nth_from (major_by pairs) k (until_by mode count) (drop i s))
   unfolding place_of ReachedInside onto
@@ -218,17 +218,17 @@ module _ (pairs : Bool) (k : ℕ) {s : List ℕ} (i : ℕ) {n : ℕ} (en : n ≡
     unfolding place_of ReachedInside step_to step_by
     nth_here y = record { is = sym (there ∙ ap (λ (v : Bool). step_to (step_by v mode x s c.at) (λ v. at (drop c.at s))) y); inside = rw e at mv.inside }
 
-pub ruleset nth-ways = (nth-lost, nth-over, nth_here)
+pub ruleset nth_ways = (nth-lost, nth-over, nth_here)
 
 pub before-pairs : {pairs : Bool} {k w : ℕ} → pairs ≡ true → Step k w → w * 2 ≡ items_before pairs k
 unfolding items_before
 before-pairs e st = rw e (ap (λ (x : ℕ). x * 2) st.is)
 
-pub before-each : {pairs : Bool} {k w : ℕ} → pairs ≡ false → Step k w → w ≡ items_before pairs k
+pub before_each : {pairs : Bool} {k w : ℕ} → pairs ≡ false → Step k w → w ≡ items_before pairs k
 unfolding items_before
-before-each e st = rw e st.is
+before_each e st = rw e st.is
 
-pub ruleset before-ways = (before-pairs, before-each)
+pub ruleset before_ways = (before-pairs, before_each)
 
 -- INTO AN ITEM
 
@@ -236,9 +236,9 @@ pub ruleset before-ways = (before-pairs, before-each)
 pub extent_by : ℕ → ℕ → Until
 extent_by info n = elim (eqb info 31) [ true ↦ broken | false ↦ counted n ]
 
-pub mode-is : (info n : ℕ) → until_by (mode_by info) n ≡ extent_by info n
+pub mode_is : (info n : ℕ) → until_by (mode_by info) n ≡ extent_by info n
 unfolding until_by mode_by extent_by
-mode-is info n = by (eqb info 31)
+mode_is info n = by (eqb info 31)
   where
     by : (t : Bool) → until_by (elim t [ true ↦ 1 | false ↦ 0 ]) n ≡ elim t [ true ↦ broken | false ↦ counted n ]
     by true = refl
@@ -256,9 +256,9 @@ pub record Got (s : List ℕ) (i : ℕ) (h : HeadAt) : Type 0 where
   pub drops : drop h.end s ≡ rest
   pub early : i < length s
 
-extends-of : {s r : List ℕ} {m : Major} (h : Head) (l : HeadLeft s m h r) (info n : ℕ) → info ≡ size_information h.size h.argument → n ≡ h.argument → extent_by info n ≡ extent h.size h.argument
+extends_of : {s r : List ℕ} {m : Major} (h : Head) (l : HeadLeft s m h r) (info n : ℕ) → info ≡ size_information h.size h.argument → n ≡ h.argument → extent_by info n ≡ extent h.size h.argument
 unfolding extent_by extent
-extends-of h l info n e f = by (eqb info 31) refl
+extends_of h l info n e f = by (eqb info 31) refl
   where
     open_is : info ≡ 31 → broken ≡ extent h.size h.argument
     open_is i = sym (ap (λ (z : Size). extent z h.argument) (size-indefinite l (sym e ∙ i)))
@@ -282,11 +282,11 @@ got_of s i h (ok d r) e f =
       rest = r;
       is = e;
       major = cc;
-      extends = extends-of d l h.info h.argument j k;
+      extends = extends_of d l h.info h.argument j k;
       info = j;
       argument = k;
       ends = n;
-      drops = ap (λ (x : ℕ). drop x s) n ∙ sym (left-of 1 s i r le l.left).drops;
+      drops = ap (λ (x : ℕ). drop x s) n ∙ sym (left_of 1 s i r le l.left).drops;
       early = early;
     }
 got_of s i h (refuse n left) e f = let z : ◌≡◌ {A = ℕ} 0 1 = cc in absurd (omega arith)
@@ -320,18 +320,18 @@ module _ (k : ℕ) (s : List ℕ) (i : ℕ) (a : HeadRead) (told : head_told a �
     into-other p q = record { is = sym (child-is ∙ rw (ne_eqb h.major 4 p, child_by) (rw (ne_eqb h.major 5 q))); inside = tt }
 
     module _ {mode : ℕ} (v : mode ≡ mode_by h.info) where
-      until-is : until_by mode h.argument ≡ extent_by h.info h.argument
-      until-is = ap (λ (m : ℕ). until_by m h.argument) v ∙ mode-is h.info h.argument
+      until_is : until_by mode h.argument ≡ extent_by h.info h.argument
+      until_is = ap (λ (m : ℕ). until_by m h.argument) v ∙ mode_is h.info h.argument
 
       pub into-array : {move : Destination} → h.major ≡ 4 → ReachedAt s move (nth_from (major_by false) k (until_by mode h.argument) (drop h.end s)) → ReachedAt s move (child_in k (drop i s))
       unfolding child_by major_by
       into-array e mv =
-          record { is = mv.is ∙ ap (λ (x : Until). nth_from 4 k x (drop h.end s)) until-is ∙ sym (child-is ∙ rw (eq-eqb h.major 4 e, child_by)); inside = mv.inside }
+          record { is = mv.is ∙ ap (λ (x : Until). nth_from 4 k x (drop h.end s)) until_is ∙ sym (child-is ∙ rw (eq-eqb h.major 4 e, child_by)); inside = mv.inside }
 
       module _ {move : Destination} (p : h.major ≡ 4 → ⊥) (e : h.major ≡ 5) (mv : ReachedAt s move (nth_from (major_by true) k (until_by mode h.argument) (drop h.end s))) where
         value-is : child_in k (drop i s) ≡ onto (place_of s move) (past_one 4)
         unfolding child_by major_by
-        value-is = child-is ∙ rw (ne_eqb h.major 4 p, child_by) (rw (eq-eqb h.major 5 e) (ap (λ (x : Place). onto x (past_one 4)) (sym (mv.is ∙ ap (λ (x : Until). nth_from 5 k x (drop h.end s)) until-is))))
+        value-is = child-is ∙ rw (ne_eqb h.major 4 p, child_by) (rw (eq-eqb h.major 5 e) (ap (λ (x : Place). onto x (past_one 4)) (sym (mv.is ∙ ap (λ (x : Until). nth_from 5 k x (drop h.end s)) until_is))))
 
         pub into-none : move ≡ Nowhere → ReachedAt s Nowhere (child_in k (drop i s))
         unfolding place_of ReachedInside onto
@@ -349,7 +349,7 @@ module _ (k : ℕ) (s : List ℕ) (i : ℕ) (a : HeadRead) (told : head_told a �
               inside = m.inside;
             }
 
-pub ruleset into-ways = (into-refused, into-other, into-array, into-none, into-value)
+pub ruleset into_ways = (into-refused, into-other, into-array, into-none, into-value)
 
 -- A PATH
 
@@ -407,4 +407,4 @@ module _ {s path : List ℕ} {move : Destination} {i : ℕ} (run : Tracing s pat
               ∙ ap (λ (x : Place). numbered (suc i) x (follow_from (suc (suc i)) (drop (suc (suc i)) path))) (sym (mv.is ∙ ap (λ (x : ℕ). child_in x (drop c.at s)) q));
         })
 
-pub ruleset trace-ways = (trace-none, trace-lost, trace-at)
+pub ruleset trace_ways = (trace-none, trace-lost, trace-at)

@@ -27,7 +27,7 @@ pub below-no : {b : ℕ} → 0x20 ≤ b → 0 ≡ more_below b
 unfolding more_below
 below-no {b} h = sym (rw (le-ltb b 0x20 h, more_below))
 
-pub ruleset below-ways = (below-yes, below-no)
+pub ruleset below_ways = (below-yes, below-no)
 
 pub at-yes : {b c : ℕ} → b ≡ c → 1 ≡ more_at b c
 unfolding more_at
@@ -37,7 +37,7 @@ pub at-no : {b c : ℕ} → (b ≡ c → ⊥) → 0 ≡ more_at b c
 unfolding more_at
 at-no {b} {c} h = sym (rw (ne_eqb b c h, more_at))
 
-pub ruleset at-ways = (at-yes, at-no)
+pub ruleset at_ways = (at-yes, at-no)
 
 module _ (b : ℕ) {x y z : ℕ} (ex : x ≡ more_below b) (ey : y ≡ more_at b 0x22) (ez : z ≡ more_at b 0x5c) where
   sums : (1 + (x + y + z) ≡ length (escape_of b)) × (x + y + z ≤ 5)
@@ -70,10 +70,10 @@ below-fits b {x} {y} ex ey = by (ltb b 0x20) (eqb b 0x22) ex ey
     by false true a c = record { fits = omega arith }
     by false false a c = record { fits = omega arith }
 
-pub escaped-append : (x y : List ℕ) → escaped_of (x ++ y) ≡ escaped_of x ++ escaped_of y
+pub escaped_append : (x y : List ℕ) → escaped_of (x ++ y) ≡ escaped_of x ++ escaped_of y
 unfolding escaped_of
-escaped-append [] y = refl
-escaped-append (b ∷ x) y = rw (escaped-append x y, append_assoc (escape_of b) (escaped_of x) (escaped_of y))
+escaped_append [] y = refl
+escaped_append (b ∷ x) y = rw (escaped_append x y, append_assoc (escape_of b) (escaped_of x) (escaped_of y))
 
 -- RUNS
 
@@ -88,14 +88,14 @@ plain_byte b h = by (eqb b 0x22 || eqb b 0x5c) (ltb b 0x20) h
     by false true e = absurd (omega arith)
     by false false e = refl
 
-plain-all : (s : List ℕ) → ((j : ℕ) → j < length s → length (escape_of (get_or s j 0)) ≡ 1) → escaped_of s ≡ s
+plain_all : (s : List ℕ) → ((j : ℕ) → j < length s → length (escape_of (get_or s j 0)) ≡ 1) → escaped_of s ≡ s
 unfolding escaped_of
-plain-all [] f = refl
-plain-all (b ∷ s) f = let e = plain-all s (λ j h. f (suc j) (omega arith)) in let g = plain_byte b (f 0 (omega arith)) in λ z. g z ++ e z
+plain_all [] f = refl
+plain_all (b ∷ s) f = let e = plain_all s (λ j h. f (suc j) (omega arith)) in let g = plain_byte b (f 0 (omega arith)) in λ z. g z ++ e z
 
-pub content-plain : {s : List ℕ} → AllPlain s → s ≡ content_of true s
+pub content_plain : {s : List ℕ} → AllPlain s → s ≡ content_of true s
 unfolding content_of
-content-plain {s} p = sym (plain-all s p.is)
+content_plain {s} p = sym (plain_all s p.is)
 
 -- none of the first i bytes takes more than 1 + m
 pub record Most (s : List ℕ) (i m : ℕ) : Type 0 where
@@ -134,13 +134,13 @@ module _ {s : List ℕ} where
                 let v = (p.is (not-false t y)).is (j - at) w in
                 rw z at (rw (get_or-take (at + 32 - at) (drop at s) (j - at) 0 q, get_or-drop at s (j - at) 0) at v)
 
-  pub run-plain : {from at : ℕ} → PlainRun s from at → AllPlain (take (at - from) (drop from s))
-  run-plain {from} {at} r =
+  pub run_plain : {from at : ℕ} → PlainRun s from at → AllPlain (take (at - from) (drop from s))
+  run_plain {from} {at} r =
       record {
         is = λ j h.
             let q : j < at - from = omega (arith, length-take (at - from) (drop from s)) in
             rw (get_or-take (at - from) (drop from s) j 0 q, get_or-drop from s j 0) (r.is (from + j) (omega arith) (omega arith));
       }
 
-pub plain-yes : {s : List ℕ} {t : Bool} → Plain s t → t ≡ true → AllPlain s
-plain-yes p e = p.is e
+pub plain_yes : {s : List ℕ} {t : Bool} → Plain s t → t ≡ true → AllPlain s
+plain_yes p e = p.is e

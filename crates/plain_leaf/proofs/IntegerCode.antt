@@ -24,10 +24,10 @@ use Rattle.notation.specs.Numbers.{digit_value, is_digit, digits, is_floating, j
 use Rattle.notation.specs.Tokens.{Token, tagging, leaf, opens, begins}
 use Rattle.notation.specs.Cutting.{after_minus, cut_by, cut}
 use Rattle.notation.specs.Reading.{marked}
-use Rattle.notation_theorems.proofs.PrintNumbers.{digit-range, digit-class, indicator-absent, whether-no}
+use Rattle.notation_theorems.proofs.PrintNumbers.{digit_range, digit-class, indicator-absent, whether-no}
 use Rattle.scanning.specs.ScanAnswers.{Peeked}
 use Rattle.scanning.proofs.Marked.{length_marked, at_byte}
-use Rattle.scanning.proofs.ScanCode.{peeked-yes}
+use Rattle.scanning.proofs.ScanCode.{peeked_yes}
 use Rattle.numbers.specs.NumberAnswers.{DigitAt}
 use Rattle.encoding.specs.ReadAnswers.{held_of, Tells}
 use Rattle.encoding.specs.Cuts.{CutAt}
@@ -37,7 +37,7 @@ use Rattle.decimals.specs.DigitParts.{Ends, EndsAt, Tally, Leads, Behind, DigitT
 use Rattle.plain_leaf.specs.LeafParts.{IntegerMajor, argument_by, NumberAt}
 use Rattle.leaf_answer.specs.declared.LeafRead.{LeafRead as LeafS}
 use Rattle.leaf_answer.specs.declared.Found.TheVariants.{Leaf, Tag}
-use Rattle.leaf_answer.proofs.LeafCode.{leaf-odd, leaf-made, leaf-whole, tag-opened}
+use Rattle.leaf_answer.proofs.LeafCode.{leaf_odd, leaf-made, leaf-whole, tag-opened}
 use Rattle.leaf_head.proofs.HeadsCode.{head-is, some-head}
 use Rattle.decimals.proofs.DigitCode.{worth-value, outside-paren, digits-none}
 
@@ -110,10 +110,10 @@ decimal-tag v r h = judged-short v (λ w. begins (opens (tagging w v))) r h
 
 -- ANSWERS
 
-sign-minus : (minus : Bool) → sign_of minus ≡ negative → minus ≡ true
+sign_minus : (minus : Bool) → sign_of minus ≡ negative → minus ≡ true
 unfolding sign_of
-sign-minus true e = refl
-sign-minus false e = let z : ◌≡◌ {A = ℕ} 0 1 = cc in absurd (omega arith)
+sign_minus true e = refl
+sign_minus false e = let z : ◌≡◌ {A = ℕ} 0 1 = cc in absurd (omega arith)
 
 argument-most : (g : Sign) (v : ℕ) → argument_by g v ≤ v
 unfolding argument_by
@@ -128,7 +128,7 @@ module _ {s : List ℕ} {place at end v : ℕ} {minus t : Bool} (x : NumberAt s 
       let o = z.is e in
       let p : whether 0x28 (drop end (marked s)) ≡ ok false (drop end (marked s)) = rw o.left (whether-no 0x28 (o.next ∷ o.rest) (z.paren e)) in
       record {
-        is = x.is ∙ (number_is x y k f o ∙ decimal-token (sign_of minus) v (drop end (marked s)) (ended-mark o) p y.most (λ j. number-some x y k f (sign-minus minus j)));
+        is = x.is ∙ (number_is x y k f o ∙ decimal-token (sign_of minus) v (drop end (marked s)) (ended-mark o) p y.most (λ j. number-some x y k f (sign_minus minus j)));
         inside = omega (arith, length_marked s, y.inside);
         ahead = omega (arith, x.before, y.ahead);
       }
@@ -157,7 +157,7 @@ module _ {s : List ℕ} {place at end v : ℕ} {minus t : Bool} (x : NumberAt s 
       → q ≡ record { found = Tag; next = end + 1; size = 0; binary = false; length = 0; number = v } → LeafTold s b b place pos q
   unfolding sign_of limit
   integer-tag m p e r =
-      let d = peeked-yes p e in
+      let d = peeked_yes p e in
       let o : Ends s end = record { next = 0x28; rest = drop (end + 1) (marked s); left = d; outside = outside-paren } in
       let c : number (sign_of minus) (get_or s at 0) (drop (at + 1) (marked s)) ≡ decimal unsigned v (0x28 ∷ drop (end + 1) (marked s)) = number_is x y k f o ∙ (rw (m, d)) in
       tag-opened r
@@ -167,46 +167,46 @@ module _ {s : List ℕ} {place at end v : ℕ} {minus t : Bool} (x : NumberAt s 
         ahead = omega (arith, x.before, y.ahead);
       })
 
-pub ruleset integer-ways = (integer-leaf, integer-tag, leaf-odd)
+pub ruleset integer_ways = (integer-leaf, integer-tag, leaf_odd)
 
 -- SMALL FUNCTIONS
 
 module _ {minus : Bool} where
-  pub major-negative : minus ≡ true → IntegerMajor minus 1
+  pub major_negative : minus ≡ true → IntegerMajor minus 1
   unfolding major_number sign_of
-  major-negative e = rw e (record { is = refl; most = omega arith })
+  major_negative e = rw e (record { is = refl; most = omega arith })
 
   pub major-unsigned : minus ≡ false → IntegerMajor minus 0
   unfolding major_number sign_of
   major-unsigned e = rw e (record { is = refl; most = omega arith })
 
-  pub argument-negative : (v : ℕ) → minus ≡ true → v - 1 ≡ argument_by (sign_of minus) v
+  pub argument_negative : (v : ℕ) → minus ≡ true → v - 1 ≡ argument_by (sign_of minus) v
   unfolding argument_by sign_of
-  argument-negative v e = rw e
+  argument_negative v e = rw e
 
   pub argument-unsigned : (v : ℕ) → minus ≡ false → v ≡ argument_by (sign_of minus) v
   unfolding argument_by sign_of
   argument-unsigned v e = rw e
 
-  pub argument-sub : {v : ℕ} → minus ≡ true → (minus ≡ true → 1 ≤ v) → 1 ≤ v
-  argument-sub e f = f e
+  pub argument_sub : {v : ℕ} → minus ≡ true → (minus ≡ true → 1 ≤ v) → 1 ≤ v
+  argument_sub e f = f e
 
-pub ruleset major-ways = (major-negative, major-unsigned)
+pub ruleset major_ways = (major_negative, major-unsigned)
 
-pub ruleset argument-ways = (argument-negative, argument-unsigned)
+pub ruleset argument_ways = (argument_negative, argument-unsigned)
 
 -- WHERE A NUMBER BEGINS
 
 class-digit : (b : ℕ) → is_digit 10 b ≡ true → class_of b ≡ digit
-class-digit b e = let p = digit-range b e in let z : 0x30 + (b - 0x30) ≡ b = omega (arith, p.0) in rw z at (digit-class (b - 0x30) (omega (arith, p.0, p.1)))
+class-digit b e = let p = digit_range b e in let z : 0x30 + (b - 0x30) ≡ b = omega (arith, p.0) in rw z at (digit-class (b - 0x30) (omega (arith, p.0, p.1)))
 
 cut_digit : (b : ℕ) (r : List ℕ) → class_of b ≡ digit → cut (b ∷ r) ≡ number unsigned b r
 unfolding cut cut_by
 cut_digit b r e = rw (e, cut)
 
-cut-minus : (b : ℕ) (r : List ℕ) → class_of b ≡ digit → cut (0x2d ∷ b ∷ r) ≡ number negative b r
+cut_minus : (b : ℕ) (r : List ℕ) → class_of b ≡ digit → cut (0x2d ∷ b ∷ r) ≡ number negative b r
 unfolding cut cut_by after_minus is class_number class_of class_in class_rows is_in
-cut-minus b r e = rw (e, after_minus)
+cut_minus b r e = rw (e, after_minus)
 
 module _ {s : List ℕ} {at from : ℕ} {minus t : Bool} (e : minus ≡ eqb (get_or s at 0) 0x2d) (l : at < length s) (y : Behind at minus from) (d : DigitThere s from t) (f : not t ≡ false) where
   pub number_at : NumberAt s at from minus
@@ -222,10 +222,10 @@ module _ {s : List ℕ} {at from : ℕ} {minus t : Bool} (e : minus ≡ eqb (get
           let z : get_or s at 0 ≡ 0x2d = eqb-true (get_or s at 0) 0x2d (sym e ∙ q) in
           let n = y.some q in
           let u : drop at (marked s) ≡ 0x2d ∷ get_or s from 0 ∷ drop (from + 1) (marked s) = at_byte s at l ∙ (rw (z, ← n) (ap (λ (r : List ℕ). 0x2d ∷ r) a)) in
-          record { there = h; is = rw q (rw u (cut-minus (get_or s from 0) (drop (from + 1) (marked s)) c)); before = omega arith }
+          record { there = h; is = rw q (rw u (cut_minus (get_or s from 0) (drop (from + 1) (marked s)) c)); before = omega arith }
       go false q h c a =
           let n = y.none q in
           let u : drop at (marked s) ≡ get_or s from 0 ∷ drop (from + 1) (marked s) = ap (λ (k : ℕ). drop k (marked s)) (sym n) ∙ a in
           record { there = h; is = rw q (rw u (cut_digit (get_or s from 0) (drop (from + 1) (marked s)) c)); before = omega arith }
 
-pub ruleset signed-ways = (number_at, leaf-odd)
+pub ruleset signed_ways = (number_at, leaf_odd)

@@ -26,7 +26,7 @@ use Rattle.notation_theorems.proofs.PrintNumbers.{Each, run-all, whether-no}
 use Rattle.scanning.specs.ScanAnswers.{Peeked}
 use Rattle.scanning.proofs.ClassCode.{word_below}
 use Rattle.scanning.proofs.Marked.{length_marked, at_byte, at-end}
-use Rattle.scanning.proofs.ScanCode.{peeked-yes}
+use Rattle.scanning.proofs.ScanCode.{peeked_yes}
 use Rattle.encoding.specs.ReadAnswers.{held_of, Tells}
 use Rattle.leaf_answer.specs.LeafAnswers.{LeafTold}
 use Rattle.leaf_head.specs.HeadParts.{short_head, HeadMade}
@@ -34,7 +34,7 @@ use Rattle.plain_leaf.specs.LeafParts.{Four, NoWord, EndsWord, WordEnds, Spells,
 use Rattle.plain_leaf.specs.declared.word.SimpleWord.{SimpleWord}
 use Rattle.leaf_answer.specs.declared.LeafRead.{LeafRead as LeafS}
 use Rattle.leaf_answer.specs.declared.Found.TheVariants.{Leaf}
-use Rattle.leaf_answer.proofs.LeafCode.{leaf-odd, leaf-made, leaf-whole}
+use Rattle.leaf_answer.proofs.LeafCode.{leaf_odd, leaf-made, leaf-whole}
 use Rattle.leaf_head.proofs.HeadsCode.{head-single, head-is}
 
 -- THE BYTES of a text from a place on
@@ -76,43 +76,43 @@ module _ {s : List ℕ} {at w : ℕ} (l : 4 ≤ length s - at) (f : Four s at w)
   pub spelled : (a b c d : ℕ) → a < 256 → b < 256 → c < 256 → d < 256 → w ≡ a * 0x100_0000 + b * 0x1_0000 + c * 0x100 + d → drop at (marked s) ≡ a ∷ b ∷ c ∷ d ∷ drop (at + 4) (marked s)
   spelled a b c d la lb lc ld e = drop-four a b c d la lb lc ld (omega arith) f e
 
-  pub word-true : w ≡ 0x7472_7565 → KnownWord s at (record { known = true; end = at + 4; value = 21 })
+  pub word_true : w ≡ 0x7472_7565 → KnownWord s at (record { known = true; end = at + 4; value = 21 })
   unfolding worded same is_word is class_number class_of class_in class_rows is_in
-  word-true e =
+  word_true e =
       let d = spelled 0x74 0x72 0x75 0x65 (omega arith) (omega arith) (omega arith) (omega arith) e in
       record { is = λ k. word_at 0x74 (0x72 ∷ 0x75 ∷ 0x65 ∷ []) refl (refl, (refl, (refl, tt))) (λ r. refl) d (omega arith) (omega arith) (omega arith) }
 
-  pub word-null : w ≡ 0x6e75_6c6c → KnownWord s at (record { known = true; end = at + 4; value = 22 })
+  pub word_null : w ≡ 0x6e75_6c6c → KnownWord s at (record { known = true; end = at + 4; value = 22 })
   unfolding worded same is_word is class_number class_of class_in class_rows is_in
-  word-null e =
+  word_null e =
       let d = spelled 0x6e 0x75 0x6c 0x6c (omega arith) (omega arith) (omega arith) (omega arith) e in
       record { is = λ k. word_at 0x6e (0x75 ∷ 0x6c ∷ 0x6c ∷ []) refl (refl, (refl, (refl, tt))) (λ r. refl) d (omega arith) (omega arith) (omega arith) }
 
-  pub word-false : {t : Bool} → w ≡ 0x6661_6c73 → Peeked s (at + 4) 0x65 t → t ≡ true → KnownWord s at (record { known = true; end = at + 5; value = 20 })
+  pub word_false : {t : Bool} → w ≡ 0x6661_6c73 → Peeked s (at + 4) 0x65 t → t ≡ true → KnownWord s at (record { known = true; end = at + 5; value = 20 })
   unfolding worded same is_word is class_number class_of class_in class_rows is_in
-  word-false e p g =
+  word_false e p g =
       let d = spelled 0x66 0x61 0x6c 0x73 (omega arith) (omega arith) (omega arith) (omega arith) e in
       let q : at + 4 + 1 ≡ at + 5 = omega arith in
-      let h : drop (at + 4) (marked s) ≡ 0x65 ∷ drop (at + 5) (marked s) = rw q at (peeked-yes p g) in
+      let h : drop (at + 4) (marked s) ≡ 0x65 ∷ drop (at + 5) (marked s) = rw q at (peeked_yes p g) in
       record { is = λ k. word_at 0x66 (0x61 ∷ 0x6c ∷ 0x73 ∷ 0x65 ∷ []) refl (refl, (refl, (refl, (refl, tt)))) (λ r. refl) (d ∙ rw h) (omega arith) (omega (arith, p.inside g)) (omega arith) }
 
-pub word-undefined : {s : List ℕ} {at v w : ℕ} {t : Bool} → 9 ≤ length s - at → Four s at v → v ≡ 0x756e_6465 → Four s (at + 4) w → w ≡ 0x6669_6e65 → Peeked s (at + 8) 0x64 t → t ≡ true
+pub word_undefined : {s : List ℕ} {at v w : ℕ} {t : Bool} → 9 ≤ length s - at → Four s at v → v ≡ 0x756e_6465 → Four s (at + 4) w → w ≡ 0x6669_6e65 → Peeked s (at + 8) 0x64 t → t ≡ true
     → KnownWord s at (record { known = true; end = at + 9; value = 23 })
 unfolding worded same is_word is class_number class_of class_in class_rows is_in
-word-undefined {s} {at} l f e g h p k =
+word_undefined {s} {at} l f e g h p k =
     let d = spelled (omega arith) f 0x75 0x6e 0x64 0x65 (omega arith) (omega arith) (omega arith) (omega arith) e in
     let d' = spelled (omega arith) g 0x66 0x69 0x6e 0x65 (omega arith) (omega arith) (omega arith) (omega arith) h in
     let z₁ : at + 4 + 4 ≡ at + 8 = omega arith in
     let z₂ : at + 8 + 1 ≡ at + 9 = omega arith in
-    let d'' = peeked-yes p k in
+    let d'' = peeked_yes p k in
     record {
       is = λ u.
           word_at 0x75 (0x6e ∷ 0x64 ∷ 0x65 ∷ 0x66 ∷ 0x69 ∷ 0x6e ∷ 0x65 ∷ 0x64 ∷ []) refl (refl, (refl, (refl, (refl, (refl, (refl, (refl, (refl, tt)))))))) (λ r. refl) (d ∙ rw (d', z₁, d'', z₂)) (omega arith) (omega (arith, p.inside k)) (omega arith);
     }
 
-pub ruleset word-ways = (word_none, word-true, word-null, word-false)
+pub ruleset word_ways = (word_none, word_true, word_null, word_false)
 
-pub ruleset undefined-ways = (word_none, word-undefined)
+pub ruleset undefined_ways = (word_none, word_undefined)
 
 -- WHERE A WORD ENDS
 
@@ -120,29 +120,29 @@ module _ {b : ℕ} where
   pub ends_low : b < 0x30 → EndsWord b (not (eqb b 0x27))
   ends_low h = record { is = λ e. record { word = sym (word_below h); quote = not-true (eqb b 0x27) e } }
 
-  pub ends-not : EndsWord b false
-  ends-not = record { is = λ e. absurd (clash (sym e)) }
+  pub ends_not : EndsWord b false
+  ends_not = record { is = λ e. absurd (clash (sym e)) }
 
   ends_as : (c : ℕ) → b ≡ c → is_word c ≡ false → eqb c 0x27 ≡ false → EndsWord b true
   ends_as c e f g = record { is = λ t. record { word = rw e f; quote = rw e g } }
 
-  pub ends-colon : b ≡ 0x3a → EndsWord b true
+  pub ends_colon : b ≡ 0x3a → EndsWord b true
   unfolding is_word is class_number class_of class_in class_rows is_in
-  ends-colon e = ends_as 0x3a e refl refl
+  ends_colon e = ends_as 0x3a e refl refl
 
-  pub ends-greater : b ≡ 0x3e → EndsWord b true
+  pub ends_greater : b ≡ 0x3e → EndsWord b true
   unfolding is_word is class_number class_of class_in class_rows is_in
-  ends-greater e = ends_as 0x3e e refl refl
+  ends_greater e = ends_as 0x3e e refl refl
 
   pub ends-bracket : b ≡ 0x5d → EndsWord b true
   unfolding is_word is class_number class_of class_in class_rows is_in
   ends-bracket e = ends_as 0x5d e refl refl
 
-  pub ends-brace : b ≡ 0x7d → EndsWord b true
+  pub ends_brace : b ≡ 0x7d → EndsWord b true
   unfolding is_word is class_number class_of class_in class_rows is_in
-  ends-brace e = ends_as 0x7d e refl refl
+  ends_brace e = ends_as 0x7d e refl refl
 
-pub ruleset byte-ways = (ends_low, ends-not, ends-colon, ends-greater, ends-bracket, ends-brace)
+pub ruleset byte_ways = (ends_low, ends_not, ends_colon, ends_greater, ends-bracket, ends_brace)
 
 pub ends-text : {s : List ℕ} {at : ℕ} → at ≤ length s → length s ≤ at → WordEnds s at true
 unfolding is_word is class_number class_of class_in class_rows is_in
@@ -153,26 +153,26 @@ ends-text {s} {at} h l =
 pub ends_at : {s : List ℕ} {at : ℕ} {t : Bool} → at < length s → EndsWord (get_or s at 0) t → WordEnds s at t
 ends_at {s} {at} l x = record { next = get_or s at 0; rest = drop (at + 1) (marked s); left = at_byte s at l; is = x.is }
 
-pub ruleset ends-ways = (ends-text, ends_at)
+pub ruleset ends_ways = (ends-text, ends_at)
 
 -- ANSWERS
 
 module _ {s : List ℕ} {at : ℕ} {w : SimpleWord} (x : KnownWord s at w) (f : not w.known ≡ false) where
-  word-spells : Spells s at w.end w.value
-  word-spells = x.is (not-false w.known f)
+  word_spells : Spells s at w.end w.value
+  word_spells = x.is (not-false w.known f)
 
   pub word_end : w.end ≤ length s
-  word_end = word-spells.inside
+  word_end = word_spells.inside
 
   pub word_byte : Fits bits8 (0xe0 + w.value)
-  word_byte = record { fits = omega (arith, word-spells.small) }
+  word_byte = record { fits = omega (arith, word_spells.small) }
 
   pub word-leaf : {t : Bool} {b b' : List ℕ} {pos : ℕ} {q : LeafS} → WordEnds s w.end t → not t ≡ false → b' ≡ over_if_fits b pos ((0xe0 + w.value) ∷ [])
       → q ≡ record { found = Leaf; next = w.end; size = 1; binary = false; length = 0; number = 0 } → LeafTold s b b' at pos q
   unfolding levels encode Tells held_of limit major_number
   word-leaf {t} {b} {b'} {pos} y g e r =
       let n = w.value in
-      let p = word-spells in
+      let p = word_spells in
       let m : HeadMade b b' pos 7 n 1 = head-single p.small e in
       let hs : short_head 7 n ≡ encode (simple n) = head-is simples n (omega (arith, p.small)) in
       leaf-made r
@@ -187,4 +187,4 @@ module _ {s : List ℕ} {at : ℕ} {w : SimpleWord} (x : KnownWord s at w) (f : 
       })
       m.kept
 
-pub ruleset answer-ways = (word-leaf, leaf-odd)
+pub ruleset answer_ways = (word-leaf, leaf_odd)

@@ -15,11 +15,11 @@ use borrow.Author.Count.{below_more}
 use borrow.Author.Tests.{leb-true, not-false}
 use Rattle.cbor.proofs.Tests.{clash}
 use Rattle.memory.specs.Buffer.{over, over_if_fits, copied}
-use Rattle.memory.proofs.Buffer.{over-nil, over-snoc, length_part, written-fits, length-written, copied-yes, take-written, take-copied}
+use Rattle.memory.proofs.Buffer.{over_nil, over_snoc, length_part, written-fits, length-written, copied-yes, take-written, take-copied}
 use Rattle.notation.specs.Numbers.{is_digit, digit_value}
 use Rattle.notation.specs.Literals.{stands_for, after, hex_content, hex_from, half_end}
 use Rattle.scanning.specs.Stands.{span}
-use Rattle.scanning.proofs.Marked.{tail-is}
+use Rattle.scanning.proofs.Marked.{tail_is}
 use Rattle.literal_body.specs.LiteralReading.{Yields}
 use Rattle.literal_body.proofs.ReadingCode.{span-over, yields_none, yields_more}
 use Rattle.hex_pairs.specs.PairAnswers.{HexDigits}
@@ -30,7 +30,7 @@ use Rattle.encoding.proofs.Wrote.{wrote-written, wrote-more}
 use Rattle.leaf_head.specs.HeadParts.{short_head}
 use Rattle.plain_string.specs.StringParts.{StringMade, HexMade}
 use Rattle.plain_string.specs.BlockParts.{HasRoom, Short, nibble_of, pair_block, Nibbles, ShortPart, ShortPairs}
-use Rattle.leaf_head.proofs.HeadsCode.{single, wrote-front-of}
+use Rattle.leaf_head.proofs.HeadsCode.{single, wrote-front_of}
 
 -- ROOM
 
@@ -41,7 +41,7 @@ module _ {size from n : ℕ} where
   pub room-is : n ≤ size → HasRoom size from n (leb from (size - n))
   room-is h = record { is = λ e. omega (arith, leb-true from (size - n) e) }
 
-pub ruleset room-ways = (room-none, room-is)
+pub ruleset room_ways = (room-none, room-is)
 
 module _ {n most size from room pos wanted : ℕ} where
   pub short_none : Short n most size from room pos wanted false
@@ -50,7 +50,7 @@ module _ {n most size from room pos wanted : ℕ} where
   pub short-is : {t u : Bool} → n ≤ most → HasRoom size from 32 t → not t ≡ false → HasRoom room pos wanted u → Short n most size from room pos wanted u
   short-is {t} l x f y = record { few = λ e. l; block = λ e. x.is (not-false t f); fits = y.is }
 
-pub ruleset short-ways = (short_none, short-is)
+pub ruleset short_ways = (short_none, short-is)
 
 -- A HEAD OF ONE BYTE, and more than the content behind it
 
@@ -61,7 +61,7 @@ short-made {b} {b₁} {b₂} {pos} {major} {n} ws vs h l r e w k =
     let t : short_head major (length ws) ≡ v ∷ [] = rw l (single major n h) in
     let u : Wrote b b₂ pos ((v ∷ ws) ++ vs) = wrote-more (wrote-written e) w refl in
     record {
-      wrote = rw t (wrote-front-of (v ∷ ws) vs u (omega arith));
+      wrote = rw t (wrote-front_of (v ∷ ws) vs u (omega arith));
       sized = rw t (omega arith);
       kept = k ∙ (ap (take pos) e ∙ take-written b pos (v ∷ []) pos (omega arith));
       most = omega arith;
@@ -74,7 +74,7 @@ short-text {s} {b} {b₁} {b₂} {from} {n} {pos} {major} x e f =
     let h = x.few in
     let i = x.block in
     let l : 32 ≤ length c = simp length-drop (omega arith) in
-    let g : b₂ ≡ copied b₁ (pos + 1) c 32 = f ∙ ap (λ (y : List ℕ). copied b₁ (pos + 1) y 32) (tail-is s from) in
+    let g : b₂ ≡ copied b₁ (pos + 1) c 32 = f ∙ ap (λ (y : List ℕ). copied b₁ (pos + 1) y 32) (tail_is s from) in
     let z : length (take 32 c) ≡ 32 = length_part s from 32 i in
     let m : length (take n c) ≡ n = length_part s from n (omega arith) in
     let a : take n c ++ drop n (take 32 c) ≡ take 32 c = ap (λ (y : List ℕ). y ++ drop n (take 32 c)) (sym (take-take n 32 c (omega arith))) ∙ take-append-drop n (take 32 c) in
@@ -83,36 +83,36 @@ short-text {s} {b} {b₁} {b₂} {from} {n} {pos} {major} x e f =
 
 -- DIGITS OF A BLOCK
 
-pub nibble-is : (b : ℕ) → (b % 16 + b / 64 * 9) % 16 ≡ nibble_of b
+pub nibble_is : (b : ℕ) → (b % 16 + b / 64 * 9) % 16 ≡ nibble_of b
 unfolding nibble_of
-nibble-is b = refl
+nibble_is b = refl
 
 small : (b : ℕ) → nibble_of b < 16
 unfolding nibble_of
 small b = omega arith
 
-nibble-digit : (b : ℕ) → is_digit 16 b ≡ true → nibble_of b ≡ digit_value b
+nibble_digit : (b : ℕ) → is_digit 16 b ≡ true → nibble_of b ≡ digit_value b
 unfolding nibble_of
-nibble-digit b e = let v = digit_value_lem b e in let l = digit-small b e in rw v (omega arith)
+nibble_digit b e = let v = digit_value_lem b e in let l = digit-small b e in rw v (omega arith)
 
 pub record Nibbling (s : List ℕ) (from i : ℕ) (t : List ℕ) : Type 0 where
   pub is : (j : ℕ) → j < i → get_or t j 0 ≡ nibble_of (get_or s (from + j) 0)
   pub size : length t ≡ 32
 
-pub nibbles-start : {s : List ℕ} {from : ℕ} (t : List ℕ) → length t ≡ 32 → Nibbling s from 0 t
-nibbles-start t e = record { is = λ j l. absurd (omega arith); size = e }
+pub nibbles_start : {s : List ℕ} {from : ℕ} (t : List ℕ) → length t ≡ 32 → Nibbling s from 0 t
+nibbles_start t e = record { is = λ j l. absurd (omega arith); size = e }
 
 module _ {s : List ℕ} {from i : ℕ} {t : List ℕ} (inv : Nibbling s from i t) where
-  pub nibbles-on : {v : ℕ} → i < 32 → v ≡ nibble_of (get_or s (from + i) 0) → Nibbling s from (i + 1) (set t i v)
-  nibbles-on {v} h e =
+  pub nibbles_on : {v : ℕ} → i < 32 → v ≡ nibble_of (get_or s (from + i) 0) → Nibbling s from (i + 1) (set t i v)
+  nibbles_on {v} h e =
       let l : i < length t = omega (arith, inv.size) in
       record {
         is = below_more (λ j. get_or (set t i v) j 0 ≡ nibble_of (get_or s (from + j) 0)) i (λ j g. get_or-set_other t i j v 0 (λ z. omega arith) ∙ inv.is j g) (get_or-set_same t i v 0 l ∙ e);
         size = length-set t i v ∙ inv.size;
       }
 
-  pub nibbles-end : 32 ≤ i → Nibbles s from t
-  nibbles-end h = record { is = λ j g. inv.is j (omega arith) }
+  pub nibbles_end : 32 ≤ i → Nibbles s from t
+  nibbles_end h = record { is = λ j g. inv.is j (omega arith) }
 
 -- BYTES OF A BLOCK
 
@@ -127,9 +127,9 @@ pub record Pairing (s : List ℕ) (from : ℕ) (b : List ℕ) (at i : ℕ) (l : 
   pub same : length l ≡ length b
   pub most : i ≤ 16
 
-pub pairing-start : {s : List ℕ} {from : ℕ} {b : List ℕ} {at : ℕ} → at + 16 ≤ length b → Pairing s from b at 0 b
+pub pairing_start : {s : List ℕ} {from : ℕ} {b : List ℕ} {at : ℕ} → at + 16 ≤ length b → Pairing s from b at 0 b
 unfolding pair_block
-pairing-start {b = b} {at = at} h = record { is = sym (over-nil b at); room = h; same = refl; most = omega arith }
+pairing_start {b = b} {at = at} h = record { is = sym (over_nil b at); room = h; same = refl; most = omega arith }
 
 module _ {s : List ℕ} {from : ℕ} {t : List ℕ} (x : Nibbles s from t) {i : ℕ} (h : i < 16) where
   first_small : get_or t (2 * i) 0 < 16
@@ -138,28 +138,28 @@ module _ {s : List ℕ} {from : ℕ} {t : List ℕ} (x : Nibbles s from t) {i : 
   second-small : get_or t (2 * i + 1) 0 < 16
   second-small = rw (x.is (2 * i + 1) (omega arith)) (small (get_or s (from + (2 * i + 1)) 0))
 
-  pub pairing-high : Fits bits8 (get_or t (2 * i) 0 * 16)
-  pairing-high = record { fits = omega (arith, first_small) }
+  pub pairing_high : Fits bits8 (get_or t (2 * i) 0 * 16)
+  pairing_high = record { fits = omega (arith, first_small) }
 
-  pub pairing-byte : Fits bits8 (get_or t (2 * i) 0 * 16 + get_or t (2 * i + 1) 0)
-  pairing-byte = record { fits = omega (arith, first_small, second-small) }
+  pub pairing_byte : Fits bits8 (get_or t (2 * i) 0 * 16 + get_or t (2 * i + 1) 0)
+  pairing_byte = record { fits = omega (arith, first_small, second-small) }
 
-  pub pairing-on : {b l : List ℕ} {at : ℕ} → Pairing s from b at i l → Pairing s from b at (i + 1) (set l (at + i) (get_or t (2 * i) 0 * 16 + get_or t (2 * i + 1) 0))
+  pub pairing_on : {b l : List ℕ} {at : ℕ} → Pairing s from b at i l → Pairing s from b at (i + 1) (set l (at + i) (get_or t (2 * i) 0 * 16 + get_or t (2 * i + 1) 0))
   unfolding pair_block
-  pairing-on {b} {l} {at} y =
+  pairing_on {b} {l} {at} y =
       let v = get_or t (2 * i) 0 * 16 + get_or t (2 * i + 1) 0 in
       let n = length-block s from i in
       let e : v ≡ nibble_of (get_or s (from + 2 * i) 0) * 16 + nibble_of (get_or s (from + (2 * i + 1)) 0) = λ k. x.is (2 * i) (omega arith) k * 16 + x.is (2 * i + 1) (omega arith) k in
       let p : at + length (pair_block s from i) < length b = omega (arith, y.room) in
       record {
-        is = ap (λ (z : List ℕ). set z (at + i) v) y.is ∙ (ap (λ (z : ℕ). set (over b at (pair_block s from i)) (at + z) v) (sym n) ∙ (over-snoc b at v (pair_block s from i) p ∙ (rw (add-one i, ← e))));
+        is = ap (λ (z : List ℕ). set z (at + i) v) y.is ∙ (ap (λ (z : ℕ). set (over b at (pair_block s from i)) (at + z) v) (sym n) ∙ (over_snoc b at v (pair_block s from i) p ∙ (rw (add-one i, ← e))));
         room = y.room;
         same = length-set l (at + i) v ∙ y.same;
         most = omega arith;
       }
 
-pub pairing-end : {s : List ℕ} {from : ℕ} {b l : List ℕ} {at i : ℕ} → Pairing s from b at i l → 16 ≤ i → l ≡ over b at (pair_block s from 16)
-pairing-end {s} {from} {b} {l} {at} {i} y h = let e : i ≡ 16 = omega (arith, y.most) in rw e at y.is
+pub pairing_end : {s : List ℕ} {from : ℕ} {b l : List ℕ} {at i : ℕ} → Pairing s from b at i l → 16 ≤ i → l ≡ over b at (pair_block s from 16)
+pairing_end {s} {from} {b} {l} {at} {i} y h = let e : i ≡ 16 = omega (arith, y.most) in rw e at y.is
 
 -- the first n of them
 record Fronts (s : List ℕ) (from n k : ℕ) : Type 0 where
@@ -186,7 +186,7 @@ block-yields s from (suc n) stop x h l =
     let a = x.is (from + 2 * n) (omega arith) (omega arith) in
     let b = x.is (from + 2 * n + 1) (omega arith) (omega arith) in
     let p = pair-yields s (from + 2 * n) stop (omega arith) l a b in
-    rw (u, nibble-digit (get_or s (from + 2 * n) 0) a, nibble-digit (get_or s (from + 2 * n + 1) 0) b) (yields_more y (rw z at p))
+    rw (u, nibble_digit (get_or s (from + 2 * n) 0) a, nibble_digit (get_or s (from + 2 * n + 1) 0) b) (yields_more y (rw z at p))
 
 block-stands : (s : List ℕ) (from n : ℕ) → HexDigits s from (from + 2 * n) → hex_content (take (2 * n) (drop from s)) ≡ stands_for (pair_block s from n)
 unfolding after span hex_content hex_from half_end

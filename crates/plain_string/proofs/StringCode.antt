@@ -29,13 +29,13 @@ use Rattle.notation.specs.Tokens.{literal, begins}
 use Rattle.notation.specs.Form.{literal_item, beginning, one_rule, obey}
 use Rattle.notation.specs.Cutting.{cut_by, cut}
 use Rattle.notation.specs.Reading.{marked}
-use Rattle.cbor.proofs.Utf8Laws.{is-in}
+use Rattle.cbor.proofs.Utf8Laws.{is_in_lem}
 use Rattle.cbor.proofs.Tests.{clash}
-use Rattle.notation_theorems.proofs.ScanningElements.{digit-cases}
+use Rattle.notation_theorems.proofs.ScanningElements.{digit_cases}
 use Rattle.scanning.specs.ScanAnswers.{Peeked}
 use Rattle.scanning.specs.TextRuns.{Textual, TextRun}
-use Rattle.scanning.proofs.Marked.{length_marked, tail-is, at_byte}
-use Rattle.scanning.proofs.ScanCode.{peeked-yes, whether-no}
+use Rattle.scanning.proofs.Marked.{length_marked, tail_is, at_byte}
+use Rattle.scanning.proofs.ScanCode.{peeked_yes, whether-no}
 use Rattle.hex_pairs.specs.PairAnswers.{HexDigits, PairsPut}
 use Rattle.encoding.specs.ReadAnswers.{held_of, Tells}
 use Rattle.encoding.proofs.Wrote.{wrote-written, wrote-more}
@@ -46,7 +46,7 @@ use Rattle.plain_string.specs.StringParts.{TextPart, WrittenBehind, StringMade, 
 use Rattle.plain_string.specs.BlockParts.{Short, ShortPart, ShortPairs}
 use Rattle.leaf_answer.specs.declared.LeafRead.{LeafRead as LeafS}
 use Rattle.leaf_answer.specs.declared.Found.TheVariants.{Leaf}
-use Rattle.leaf_answer.proofs.LeafCode.{leaf-odd, leaf-made}
+use Rattle.leaf_answer.proofs.LeafCode.{leaf_odd, leaf-made}
 use Rattle.leaf_head.proofs.HeadsCode.{head-is, short-head, some-head}
 
 -- WRITING
@@ -68,10 +68,10 @@ module _ {s b : List ℕ} {from n pos head : ℕ} (h : TextPart s from n) where
   pub behind-copied : {b' : List ℕ} → b' ≡ copied b (pos + head) (take (length s - from) (drop from s)) n → WrittenBehind b b' pos head (take n (drop from s))
   behind-copied {b'} e =
       let l : n ≤ length (drop from s) = simp length-drop (omega (arith, h.inside)) in
-      let f : b' ≡ copied b (pos + head) (drop from s) n = e ∙ ap (λ (y : List ℕ). copied b (pos + head) y n) (tail-is s from) in
+      let f : b' ≡ copied b (pos + head) (drop from s) n = e ∙ ap (λ (y : List ℕ). copied b (pos + head) y n) (tail_is s from) in
       record { wrote = wrote-written (f ∙ copied-yes b (pos + head) (drop from s) n l); kept = ap (take pos) f ∙ take-copied b (pos + head) (drop from s) n pos (omega arith) }
 
-pub ruleset behind-ways = (behind-small, behind-past, behind-copied)
+pub ruleset behind_ways = (behind-small, behind-past, behind-copied)
 
 -- the buffer when a part of it, lent from a place on, is given back
 abbrev pub back : List ℕ → ℕ → List ℕ → List ℕ
@@ -79,14 +79,14 @@ back b start m' = take start b ++ (m' ++ drop (length b - start) (drop start b))
 
 -- a part that was lent from behind a head on, or from the end
 module _ (b m m' : List ℕ) (pos head start : ℕ) (h : start ≡ min (pos + head) (length b)) (z : m ≡ take (length b - start) (drop start b)) (e : length m' ≡ length m) where
-  lent-size : length m ≡ length b - start
-  lent-size = ap length z ∙ length-take-le (length b - start) (drop start b) (omega (arith, length-drop start b))
+  lent_size : length m ≡ length b - start
+  lent_size = ap length z ∙ length-take-le (length b - start) (drop start b) (omega (arith, length-drop start b))
 
-  lent-rest : drop (length b - start) (drop start b) ≡ []
-  lent-rest = let g : length (drop start b) ≤ length b - start = omega (arith, length-drop start b) in drop_of_length-le (drop start b) g
+  lent_rest : drop (length b - start) (drop start b) ≡ []
+  lent_rest = let g : length (drop start b) ≤ length b - start = omega (arith, length-drop start b) in drop_of_length-le (drop start b) g
 
-  pub lent-kept : take pos (back b start m') ≡ take pos b
-  lent-kept = go (leb pos start) refl
+  pub lent_kept : take pos (back b start m') ≡ take pos b
+  lent_kept = go (leb pos start) refl
     where
       q : length (take start b) ≡ start
       q = length-take-le start b (omega arith)
@@ -99,19 +99,19 @@ module _ (b m m' : List ℕ) (pos head start : ℕ) (h : start ≡ min (pos + he
       go false f =
           let g = leb-false pos start f in
           let n : start ≡ length b = omega arith in
-          let l : length m' ≡ 0 = omega (arith, lent-size) in
-          ap (take pos) (rw (lent-rest, none m' l, append-nil) (take_all start b (omega arith)))
+          let l : length m' ≡ 0 = omega (arith, lent_size) in
+          ap (take pos) (rw (lent_rest, none m' l, append-nil) (take_all start b (omega arith)))
 
   pub lent_same : length (back b start m') ≡ length b
   lent_same =
       let r = drop (length b - start) (drop start b) in
-      let c : length r ≡ 0 = ap length lent-rest in
-      omega (arith, lent-size, length-take-le start b (omega arith), length-append (take start b) (m' ++ r), length-append m' r)
+      let c : length r ≡ 0 = ap length lent_rest in
+      omega (arith, lent_size, length-take-le start b (omega arith), length-append (take start b) (m' ++ r), length-append m' r)
 
   pub lent_written : (ws : List ℕ) → (length ws ≤ length m → m' ≡ over m 0 ws) → WrittenBehind b (back b start m') pos head ws
   unfolding over
   lent_written ws f =
-      let l = lent-size in
+      let l = lent_size in
       let r = drop (length b - start) (drop start b) in
       record {
         wrote = record {
@@ -123,7 +123,7 @@ module _ (b m m' : List ℕ) (pos head start : ℕ) (h : start ≡ min (pos + he
               let p : start ≡ pos + head = omega arith in
               rw (w, append_assoc ws (drop (length ws) m) r, p);
         };
-        kept = lent-kept;
+        kept = lent_kept;
       }
 
 pub short-part : {s b : List ℕ} {from n pos : ℕ} {t : Bool} → Short n 23 (length s) from (length b) pos 33 t → t ≡ true → ShortPart s from n b pos
@@ -147,9 +147,9 @@ pub text-made : {s b b₁ b₂ : List ℕ} {from n pos major head : ℕ} → Tex
     → StringMade b b₂ pos major (take n (drop from s)) (head + n)
 text-made {s} {from = from} {n = n} h m w = string-made (sym (length_part s from n h.inside)) h.most m w
 
-pub pairs-lent : {s b m m' : List ℕ} {from n pos head start r : ℕ} → start ≡ min (pos + head) (length b) → m ≡ take (length b - start) (drop start b) → PairsPut s from n m m' 0 r
+pub pairs_lent : {s b m m' : List ℕ} {from n pos head start r : ℕ} → start ≡ min (pos + head) (length b) → m ≡ take (length b - start) (drop start b) → PairsPut s from n m m' 0 r
     → PairsBehind s from n b (back b start m') pos head
-pairs-lent {b = b} {m = m} {m' = m'} {pos = pos} {head = head} {start = start} l z p =
+pairs_lent {b = b} {m = m} {m' = m'} {pos = pos} {head = head} {start = start} l z p =
     record { bytes = p.bytes; stand = p.stand; count = p.count; behind = lent_written b m m' pos head start l z p.put.same p.bytes (λ g. p.put.is (omega arith)) }
 
 pub hex-made : {s b b₁ b₂ : List ℕ} {from n pos head : ℕ} → HexPart s from n → HeadMade b b₁ pos 2 n head → PairsBehind s from n b₁ b₂ pos head → HexMade s from n b b₂ pos (head + n)
@@ -221,7 +221,7 @@ module _ {s : List ℕ} {place q end : ℕ} {t u : Bool} (x : QuotedAt s place q
       let e = not-false t f in
       let a = r.ahead in
       record {
-        is = ap cut (at_byte s place x.here ∙ ap (λ (b : ℕ). b ∷ drop (place + 1) (marked s)) x.is) ∙ (x.quote.cuts (drop (place + 1) (marked s)) ∙ (rw (run-closed r (peeked-yes y e)) (rw (unmarked z g))));
+        is = ap cut (at_byte s place x.here ∙ ap (λ (b : ℕ). b ∷ drop (place + 1) (marked s)) x.is) ∙ (x.quote.cuts (drop (place + 1) (marked s)) ∙ (rw (run-closed r (peeked_yes y e)) (rw (unmarked z g))));
         inside = omega (arith, length_marked s, y.inside e);
         ahead = omega arith;
       }
@@ -232,7 +232,7 @@ module _ {s : List ℕ} {place q end : ℕ} {t u : Bool} (x : QuotedAt s place q
       let l : length (take (end - (place + 1)) (drop (place + 1) s)) ≡ end - (place + 1) = length_part s (place + 1) (end - (place + 1)) (omega (arith, r.ahead, r.inside)) in
       string-leaf quoted-cut (omega (arith, l, r.ahead)) m.is h (λ w. rw l at (x.quote.binary w (take (end - (place + 1)) (drop (place + 1) s)))) e
 
-pub ruleset quoted-ways = (quoted-leaf, leaf-odd)
+pub ruleset quoted_ways = (quoted-leaf, leaf_odd)
 
 -- QUOTES
 
@@ -253,22 +253,22 @@ module _ {b : ℕ} where
   unfolding quoted_kind major_number
   major-bytes n = record { is = rw (ne_eqb b 0x22 n, quoted_kind); most = omega arith }
 
-pub ruleset major-ways = (major-text, major-bytes)
+pub ruleset major_ways = (major-text, major-bytes)
 
 -- HEXADECIMAL STRINGS
 
-digit-places : (b : ℕ) → is_digit 16 b ≡ true → (0x30 ≤ b) × ((b ≤ 0x66) × (b ≡ 0x5c → ⊥))
+digit_places : (b : ℕ) → is_digit 16 b ≡ true → (0x30 ≤ b) × ((b ≤ 0x66) × (b ≡ 0x5c → ⊥))
 unfolding is_digit
-digit-places b =
-    digit-cases (λ d. ◌≡◌ {A = Bool} (elim d [ worth v ↦ ltb v 16 | no_digit ↦ false ]) true → (0x30 ≤ b) × ((b ≤ 0x66) × (b ≡ 0x5c → ⊥))) b
-    (λ i e. let p = is-in (0x30 to 0x39) b i in (omega (arith, p), (omega (arith, p), λ z. omega (arith, p))))
-    (λ i e. let p = is-in (0x61 to 0x66) b i in (omega (arith, p), (omega (arith, p), λ z. omega (arith, p))))
-    (λ i e. let p = is-in (0x41 to 0x46) b i in (omega (arith, p), (omega (arith, p), λ z. omega (arith, p)))) (λ e. absurd (clash (sym e)))
+digit_places b =
+    digit_cases (λ d. ◌≡◌ {A = Bool} (elim d [ worth v ↦ ltb v 16 | no_digit ↦ false ]) true → (0x30 ≤ b) × ((b ≤ 0x66) × (b ≡ 0x5c → ⊥))) b
+    (λ i e. let p = is_in_lem (0x30 to 0x39) b i in (omega (arith, p), (omega (arith, p), λ z. omega (arith, p))))
+    (λ i e. let p = is_in_lem (0x61 to 0x66) b i in (omega (arith, p), (omega (arith, p), λ z. omega (arith, p))))
+    (λ i e. let p = is_in_lem (0x41 to 0x46) b i in (omega (arith, p), (omega (arith, p), λ z. omega (arith, p)))) (λ e. absurd (clash (sym e)))
 
 body-step : (b : ℕ) (u : List ℕ) → is_digit 16 b ≡ true → body (b ∷ u) ≡ bind (body u) (λ c r. ok (b ∷ c) r)
 unfolding body is_body
 body-step b u e =
-    let p = digit-places b e in
+    let p = digit_places b e in
     let l : 0x20 ≤ b = omega (arith, p.0) in
     let m : b ≤ 0xff = omega (arith, p.1.0) in
     rw (ne_eqb b 0x27 (λ z. omega (arith, p.0)), body) (rw (ne_eqb b 0x5c p.1.1) (rw (le-leb 0x20 b l, le-leb b 0xff m) (go (is blank b))))
@@ -288,11 +288,11 @@ pub cut-hex : (r : List ℕ) → cut (0x68 ∷ 0x27 ∷ r) ≡ encoded_literal h
 unfolding cut cut_by word run whether bind prefixed same is_word is class_number class_of class_in class_rows is_in
 cut-hex r = refl
 
-hex-even : (n : ℕ) → n % 2 ≡ 0 → 2 * (n / 2) ≡ n
-hex-even n h = omega arith
+hex_even : (n : ℕ) → n % 2 ≡ 0 → 2 * (n / 2) ≡ n
+hex_even n h = omega arith
 
 pub hex-part : {s : List ℕ} {at end : ℕ} → HexDigits s at end → (end - at) % 2 ≡ 0 → (end - at) / 2 ≤ 0xffff_ffff → HexPart s at ((end - at) / 2)
-hex-part {s} {at} {end} r h l = let k : at + 2 * ((end - at) / 2) ≡ end = omega (arith, hex-even (end - at) h, r.ahead) in record { digits = rw k r; most = l }
+hex-part {s} {at} {end} r h l = let k : at + 2 * ((end - at) / 2) ≡ end = omega (arith, hex_even (end - at) h, r.ahead) in record { digits = rw k r; most = l }
 
 module _ {s : List ℕ} {place end : ℕ} {t u : Bool} (x : HexAt s place) (r : HexDigits s (place + 2) end) (y : Peeked s end 0x27 t) (f : not t ≡ false) (z : Peeked s (end + 1) 0x5f u) (g : u ≡ false) (h : (end - (place + 2)) % 2 ≡ 0) where
   pub hex-leaf : {b b' : List ℕ} {pos size : ℕ} {v : LeafS} → HexMade s (place + 2) ((end - (place + 2)) / 2) b b' pos size
@@ -302,13 +302,13 @@ module _ {s : List ℕ} {place end : ℕ} {t u : Bool} (x : HexAt s place) (r : 
       let i = not-false t f in
       let a = r.ahead in
       let n = m.count in
-      let c : hex_content (take (end - (place + 2)) (drop (place + 2) s)) ≡ stands_for m.bytes = rw (hex-even (end - (place + 2)) h) at m.stand in
+      let c : hex_content (take (end - (place + 2)) (drop (place + 2) s)) ≡ stands_for m.bytes = rw (hex_even (end - (place + 2)) h) at m.stand in
       string-leaf {k = byte_string}
       (record {
-        is = rw x.is (cut-hex (drop (place + 2) (marked s)) ∙ (rw (body_closed r (peeked-yes y i)) (rw (unmarked z g) (rw c))));
+        is = rw x.is (cut-hex (drop (place + 2) (marked s)) ∙ (rw (body_closed r (peeked_yes y i)) (rw (unmarked z g) (rw c))));
         inside = omega (arith, length_marked s, y.inside i);
         ahead = omega arith;
       })
-      (omega (arith, hex-even (end - (place + 2)) h)) refl m.made (λ w. (refl, sym n)) e
+      (omega (arith, hex_even (end - (place + 2)) h)) refl m.made (λ w. (refl, sym n)) e
 
-pub ruleset hex-ways = (hex-leaf, leaf-odd)
+pub ruleset hex_ways = (hex-leaf, leaf_odd)

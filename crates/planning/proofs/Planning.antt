@@ -34,26 +34,26 @@ module _ (p : List ℕ) where
   pub level-top : length p ≤ 1 → 16 ≡ level p
   level-top h = omega (arith, level-length p)
 
-  pub level-deep : 17 < length p → 0 ≡ level p
-  level-deep h = omega (arith, level-length p)
+  pub level_deep : 17 < length p → 0 ≡ level p
+  level_deep h = omega (arith, level-length p)
 
   pub level-between : 1 < length p → 17 - length p ≡ level p
   level-between h = omega (arith, level-length p)
 
-pub ruleset level-ways = (level-top, level-deep, level-between)
+pub ruleset level_ways = (level-top, level_deep, level-between)
 
 -- THE PLAN
 module _ {p : Part} {used size : ℕ} (room : ℕ) where
-  pub plan-long : {d : Decision} → 65535 < size → d ≡ Refused (record { kind = NoRoom; place = 0 }) → PlanFor p used size room d
-  plan-long {d} h e =
+  pub plan_long : {d : Decision} → 65535 < size → d ≡ Refused (record { kind = NoRoom; place = 0 }) → PlanFor p used size room d
+  plan_long {d} h e =
       let i : leb (length_for p used size) (min room most_bytes) ≡ false = lt-leb (length_for p used size) (min room most_bytes) (omega arith) in
       record { yes = λ t. absurd (clash (sym t ∙ i)); no = λ t. e }
 
   module _ {v : Bool} (f : v ≡ leb (length_for p used size) (min room most_bytes)) where
-    pub plan-yes : v ≡ true → PlanFor p used size room (Replace (record { start = p.start; end = p.end; size = size; length = length_for p used size }))
-    plan-yes t = record { yes = λ u. refl; no = λ u. absurd (clash (sym t ∙ f ∙ u)) }
+    pub plan_yes : v ≡ true → PlanFor p used size room (Replace (record { start = p.start; end = p.end; size = size; length = length_for p used size }))
+    plan_yes t = record { yes = λ u. refl; no = λ u. absurd (clash (sym t ∙ f ∙ u)) }
 
-    pub plan-no : {d : Decision} → v ≡ false → d ≡ Refused (record { kind = NoRoom; place = 0 }) → PlanFor p used size room d
-    plan-no t i = record { yes = λ u. absurd (clash (sym u ∙ sym f ∙ t)); no = λ u. i }
+    pub plan_no : {d : Decision} → v ≡ false → d ≡ Refused (record { kind = NoRoom; place = 0 }) → PlanFor p used size room d
+    plan_no t i = record { yes = λ u. absurd (clash (sym u ∙ sym f ∙ t)); no = λ u. i }
 
-pub ruleset plan-ways = (plan-long, plan-yes, plan-no)
+pub ruleset plan_ways = (plan_long, plan_yes, plan_no)

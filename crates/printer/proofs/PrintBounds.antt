@@ -54,15 +54,15 @@ escape-length x = go (eqb x 0x22 || eqb x 0x5c) (ltb x 0x20)
     go false true = omega arith
     go false false = omega arith
 
-escaped-length : (b : List ℕ) → length (escaped_of b) ≤ 6 * length b
+escaped_length : (b : List ℕ) → length (escaped_of b) ≤ 6 * length b
 unfolding escaped_of
-escaped-length [] = omega arith
-escaped-length (x ∷ b) = let i = escaped-length b in let j = escape-length x in simp length-append (omega arith)
+escaped_length [] = omega arith
+escaped_length (x ∷ b) = let i = escaped_length b in let j = escape-length x in simp length-append (omega arith)
 
 string-length : (k : Kind) (w : Width) (b : List ℕ) → length (print_string k w b) ≤ 6 + 6 * length b
 unfolding print_string
 string-length byte_string w b = let i = hex-length b in let j = indicator-length w (length b) in simp length-append (omega arith)
-string-length text_string w b = let i = escaped-length b in let j = indicator-length w (length b) in simp length-append (omega arith)
+string-length text_string w b = let i = escaped_length b in let j = indicator-length w (length b) in simp length-append (omega arith)
 
 encoded-length : (k : Kind) (w : Width) (b : List ℕ) → 1 + length b ≤ length (encode_string k w b)
 unfolding encode_string head
@@ -143,7 +143,7 @@ mutual
       let j = size-length z (count xs) in
       simp length-append (omega arith)
   item-length (map z ps) v =
-      let i = all-length₂ ps v.1 in
+      let i = all_length₂ ps v.1 in
       let h = enclosed-length maps z (count₂ ps) (encode_all₂ ps) in
       let j = size-length z (count₂ ps) in
       simp length-append (omega arith)
@@ -163,10 +163,10 @@ mutual
   rest-length sep none v h = omega arith
   rest-length sep (more x xs) v h = let i = item-length x v.0 in let j = rest-length sep xs v.1 h in simp length-append (omega arith)
 
-  all-length₂ : (ps : Pairs) → ValidAll₂ ps → length (print_all₂ ps) ≤ 40 * length (encode_all₂ ps)
-  all-length₂ none₂ v = omega arith
-  all-length₂ (more₂ k x ps) v = let i = item-length k v.0 in let j = item-length x v.1 in let r = rest-length₂ ps v.2 in simp length-append (omega arith)
+  all_length₂ : (ps : Pairs) → ValidAll₂ ps → length (print_all₂ ps) ≤ 40 * length (encode_all₂ ps)
+  all_length₂ none₂ v = omega arith
+  all_length₂ (more₂ k x ps) v = let i = item-length k v.0 in let j = item-length x v.1 in let r = rest_length₂ ps v.2 in simp length-append (omega arith)
 
-  rest-length₂ : (ps : Pairs) → ValidAll₂ ps → length (print_rest₂ ps) ≤ 40 * length (encode_all₂ ps)
-  rest-length₂ none₂ v = omega arith
-  rest-length₂ (more₂ k x ps) v = let i = item-length k v.0 in let j = item-length x v.1 in let r = rest-length₂ ps v.2 in simp length-append (omega arith)
+  rest_length₂ : (ps : Pairs) → ValidAll₂ ps → length (print_rest₂ ps) ≤ 40 * length (encode_all₂ ps)
+  rest_length₂ none₂ v = omega arith
+  rest_length₂ (more₂ k x ps) v = let i = item-length k v.0 in let j = item-length x v.1 in let r = rest_length₂ ps v.2 in simp length-append (omega arith)

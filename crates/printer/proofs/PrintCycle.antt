@@ -22,7 +22,7 @@ use Rattle.refusal.specs.declared.Refusal.{Refusal}
 use Rattle.head.specs.declared.HeadAt.{HeadAt}
 use Rattle.head.specs.declared.HeadRead.{HeadRead}
 use Rattle.head.specs.declared.HeadRead.TheVariants.{Head as HeadV, Refused as RefusedV}
-use Rattle.cbor.proofs.Results.{refuse-not-ok}
+use Rattle.cbor.proofs.Results.{refuse_not_ok}
 use Rattle.cbor.proofs.Table.{between}
 use Rattle.cbor.proofs.Heads.{major-back, major-most, taking-yes}
 use Rattle.cbor.proofs.DecodeEncode.{enter_at}
@@ -64,7 +64,7 @@ taking-ok n left s {x} {r} e = go (leb n (length s)) refl e
   where
     go : (t : Bool) → leb n (length s) ≡ t → elim t [ true ↦ ok (take n s) (drop n s) | false ↦ refuse 15 left ] ≡ ok x r → Taken n s x r
     go true f k = record { fits = leb-true n (length s) f; content = cc; rest = cc }
-    go false f k = absurd (refuse-not-ok k)
+    go false f k = absurd (refuse_not_ok k)
 
 -- what is left behind a head, and that its size is as its additional information says
 record Behind (s : List ℕ) (h : Head) (r : List ℕ) : Type 0 where
@@ -90,11 +90,11 @@ module _ (b left : ℕ) (s : List ℕ) (m : Major) (hd : Head) (r : List ℕ) wh
   behind-argument : (w : Width) → information_of (b % 32) ≡ argument w → (res : Result (List ℕ)) → taking (argument_bytes w) left s ≡ res
       → bind res (λ x t. argued m w (value_from (started w (b % 32)) x) left t) ≡ ok hd r → Behind (b ∷ s) hd r
   unfolding bind argued size_information
-  behind-argument w i (refuse n k) g e = absurd (refuse-not-ok e)
+  behind-argument w i (refuse n k) g e = absurd (refuse_not_ok e)
   behind-argument w i (ok x t) g e = go (is_allowed m w (value_from (started w (b % 32)) x)) e
     where
       go : (v : Bool) → elim v [ true ↦ ok (record { major = m; size = definite w; argument = value_from (started w (b % 32)) x }) t | false ↦ refuse 16 left ] ≡ ok hd r → Behind (b ∷ s) hd r
-      go false k = absurd (refuse-not-ok k)
+      go false k = absurd (refuse_not_ok k)
       go true k =
           let q = taking-ok (argument_bytes w) left s g in
           let p : t ≡ r = cc (k) in
@@ -112,9 +112,9 @@ module _ (b left : ℕ) (s : List ℕ) (m : Major) (hd : Head) (r : List ℕ) wh
   behind-by (argument w) i e = go (is_float m w) e
     where
       go : (v : Bool) → elim v [ true ↦ refuse float left | false ↦ bind (taking (argument_bytes w) left s) (λ x t. argued m w (value_from (started w (b % 32)) x) left t) ] ≡ ok hd r → Behind (b ∷ s) hd r
-      go true k = absurd (refuse-not-ok k)
+      go true k = absurd (refuse_not_ok k)
       go false k = behind-argument w i (taking (argument_bytes w) left s) refl k
-  behind-by reserved i e = absurd (refuse-not-ok e)
+  behind-by reserved i e = absurd (refuse_not_ok e)
   behind-by open_ended i e = go (is_indefinite m) e
     where
       go : (v : Bool) → elim v [ true ↦ ok (record { major = m; size = indefinite; argument = 0 }) s | false ↦ refuse 16 left ] ≡ ok hd r → Behind (b ∷ s) hd r
@@ -122,18 +122,18 @@ module _ (b left : ℕ) (s : List ℕ) (m : Major) (hd : Head) (r : List ℕ) wh
           let p : s ≡ r = cc (k) in
           let y : record { major = m; size = indefinite; argument = 0 } ≡ hd = cc (k) in
           record { size = 0; less = omega arith; drops = p; back = ap (λ (z : Head). size_by (size_information z.size z.argument)) (sym y) ∙ ap (λ (z : Head). z.size) y }
-      go false k = absurd (refuse-not-ok k)
+      go false k = absurd (refuse_not_ok k)
 
 behind-head : (s : List ℕ) (hd : Head) (r : List ℕ) → next_head s ≡ ok hd r → Behind s hd r
 unfolding next_head
-behind-head [] hd r e = absurd (refuse-not-ok e)
+behind-head [] hd r e = absurd (refuse_not_ok e)
 behind-head (b ∷ s) hd r e = behind-by b (suc (length s)) s (major_of (b / 32)) hd r (information_of (b % 32)) refl e
 
 module _ {s : List ℕ} {at : ℕ} where
-  headed-by : (h : HeadAt) (res : Result Head) → next_head (drop at s) ≡ res → told_head h.major h.info h.argument h.end ≡ head_from (length s) res → PrintHeaded s at h
+  headed_by : (h : HeadAt) (res : Result Head) → next_head (drop at s) ≡ res → told_head h.major h.info h.argument h.end ≡ head_from (length s) res → PrintHeaded s at h
   unfolding head_from
-  headed-by h (refuse n l) e f = let z : ◌≡◌ {A = ℕ} 0 1 = cc in absurd (omega arith)
-  headed-by h (ok hd r) e f =
+  headed_by h (refuse n l) e f = let z : ◌≡◌ {A = ℕ} 0 1 = cc in absurd (omega arith)
+  headed_by h (ok hd r) e f =
       let m : h.major ≡ major_number hd.major = cc in
       let i : h.info ≡ size_information hd.size hd.argument = cc in
       let a : hd.argument ≡ h.argument = cc in
@@ -155,10 +155,10 @@ module _ {s : List ℕ} {at : ℕ} where
 module _ (s : List ℕ) (at : ℕ) {x : HeadRead} (f : head_told x ≡ head_at s at) where
   pub headed : {h : HeadAt} → x ≡ HeadV h → PrintHeaded s at h
   unfolding head_told head_at
-  headed {h} e = headed-by h (next_head (drop at s)) refl (ap head_told (sym e) ∙ f)
+  headed {h} e = headed_by h (next_head (drop at s)) refl (ap head_told (sym e) ∙ f)
 
-  pub headed-within : {h : HeadAt} → x ≡ HeadV h → Within s h.end
-  headed-within {h} e = record { inside = (headed e).inside }
+  pub headed_within : {h : HeadAt} → x ≡ HeadV h → Within s h.end
+  headed_within {h} e = record { inside = (headed e).inside }
 
   -- no head
   pub lost : {k : Refusal} → x ≡ RefusedV k → {hd : Head} {r : List ℕ} → next_head (drop at s) ≡ ok hd r → ⊥
@@ -195,7 +195,7 @@ made make (ok y t) {x} {r} e =
     let p : t ≡ r = cc in
     let q : x ≡ make y = cc in
     record { inner = y; read = ap (ok y) p; is = q }
-made make (refuse n l) e = absurd (refuse-not-ok e)
+made make (refuse n l) e = absurd (refuse_not_ok e)
 
 pub content-ok : (k : Kind) (n left : ℕ) (s : List ℕ) {x r : List ℕ} → content_at k n left s ≡ ok x r → taking n 0 s ≡ ok x r
 unfolding content_at
@@ -206,41 +206,41 @@ content-ok k n left s {x} {r} e =
   where
     go : (y t : List ℕ) (v : Bool) → elim v [ true ↦ ok y t | false ↦ refuse 2 left ] ≡ ok x r → ok y t ≡ ok x r
     go y t true h = h
-    go y t false h = absurd (refuse-not-ok h)
+    go y t false h = absurd (refuse_not_ok h)
 
 module _ (d i n left : ℕ) (r₀ : List ℕ) {x : Item} {r : List ℕ} where
   pub int_of : (g : Sign) → item_by (enter_at d) (integers g) (size_by i) n left r₀ ≡ ok x r → Leaf (int g (width_by i) n) x r₀ r
   unfolding item_by
-  int_of g = by_size (λ z. item_by (enter_at d) (integers g) z n left r₀ ≡ ok x r → Leaf (int g (width_by i) n) x r₀ r) i (λ o e. absurd (refuse-not-ok e)) (λ o e. record { is = cc; rest = cc })
+  int_of g = by_size (λ z. item_by (enter_at d) (integers g) z n left r₀ ≡ ok x r → Leaf (int g (width_by i) n) x r₀ r) i (λ o e. absurd (refuse_not_ok e)) (λ o e. record { is = cc; rest = cc })
 
-  pub simple-of : item_by (enter_at d) simples (size_by i) n left r₀ ≡ ok x r → Leaf (simple n) x r₀ r
+  pub simple_of : item_by (enter_at d) simples (size_by i) n left r₀ ≡ ok x r → Leaf (simple n) x r₀ r
   unfolding item_by
-  simple-of = by_size (λ z. item_by (enter_at d) simples z n left r₀ ≡ ok x r → Leaf (simple n) x r₀ r) i (λ o e. absurd (refuse-not-ok e)) (λ o e. record { is = cc; rest = cc })
+  simple_of = by_size (λ z. item_by (enter_at d) simples z n left r₀ ≡ ok x r → Leaf (simple n) x r₀ r) i (λ o e. absurd (refuse_not_ok e)) (λ o e. record { is = cc; rest = cc })
 
-  pub string-of : (k : Kind) → (i ≡ 31 → ⊥) → item_by (enter_at d) (strings k) (size_by i) n left r₀ ≡ ok x r → Inner (string k (width_by i)) (taking n 0 r₀) x r
+  pub string_of : (k : Kind) → (i ≡ 31 → ⊥) → item_by (enter_at d) (strings k) (size_by i) n left r₀ ≡ ok x r → Inner (string k (width_by i)) (taking n 0 r₀) x r
   unfolding item_by
-  string-of k a =
+  string_of k a =
       by_size (λ z. item_by (enter_at d) (strings k) z n left r₀ ≡ ok x r → Inner (string k (width_by i)) (taking n 0 r₀) x r) i (λ o e. absurd (a o))
       (λ o e. let m = made (string k (width_by i)) (content_at k n left r₀) e in record { inner = m.inner; read = content-ok k n left r₀ m.read; is = m.is })
 
-  pub chunked-of : (k : Kind) → i ≡ 31 → item_by (enter_at d) (strings k) (size_by i) n left r₀ ≡ ok x r → Inner (chunked k) (chunks_of k r₀) x r
+  pub chunked_of : (k : Kind) → i ≡ 31 → item_by (enter_at d) (strings k) (size_by i) n left r₀ ≡ ok x r → Inner (chunked k) (chunks_of k r₀) x r
   unfolding item_by
-  chunked-of k a =
+  chunked_of k a =
       by_size (λ z. item_by (enter_at d) (strings k) z n left r₀ ≡ ok x r → Inner (chunked k) (chunks_of k r₀) x r) i (λ o e. made (chunked k) (chunks_of k r₀) e) (λ o e. absurd (o a))
 
 pub array_of : (d : ℕ) (z : Size) (n left : ℕ) (r₀ : List ℕ) {x : Item} {r : List ℕ} → item_by (enter_at d) arrays z n left r₀ ≡ ok x r → Inner (array z) (elements (below d) (extent z n) r₀) x r
 unfolding item_by below
-array_of zero z n left r₀ e = absurd (refuse-not-ok e)
+array_of zero z n left r₀ e = absurd (refuse_not_ok e)
 array_of (suc d) z n left r₀ e = made (array z) (elements (item d) (extent z n) r₀) e
 
 pub map_of : (d : ℕ) (z : Size) (n left : ℕ) (r₀ : List ℕ) {x : Item} {r : List ℕ} → item_by (enter_at d) maps z n left r₀ ≡ ok x r → Inner (map z) (entries (below d) (extent z n) r₀) x r
 unfolding item_by below
-map_of zero z n left r₀ e = absurd (refuse-not-ok e)
+map_of zero z n left r₀ e = absurd (refuse_not_ok e)
 map_of (suc d) z n left r₀ e = made (map z) (entries (item d) (extent z n) r₀) e
 
 tag-by : (w : Width) (n left : ℕ) (res : Result Item) {x : Item} {r : List ℕ} → bind res (tagged w n left) ≡ ok x r → Inner (tag w n) res x r
 unfolding bind tagged
-tag-by w n left (refuse m l) e = absurd (refuse-not-ok e)
+tag-by w n left (refuse m l) e = absurd (refuse_not_ok e)
 tag-by w n left (ok y t) {x} {r} e = go (may_tag n y) e
   where
     go : (v : Bool) → elim v [ true ↦ ok (tag w n y) t | false ↦ refuse 13 left ] ≡ ok x r → Inner (tag w n) (ok y t) x r
@@ -248,14 +248,14 @@ tag-by w n left (ok y t) {x} {r} e = go (may_tag n y) e
         let p : t ≡ r = cc (h) in
         let q : x ≡ tag w n y = cc (h) in
         record { inner = y; read = ap (ok y) p; is = q }
-    go false h = absurd (refuse-not-ok h)
+    go false h = absurd (refuse_not_ok h)
 
 pub tag_of : (d i n left : ℕ) (r₀ : List ℕ) {x : Item} {r : List ℕ} → item_by (enter_at d) tags (size_by i) n left r₀ ≡ ok x r → Inner (tag (width_by i) n) (below d r₀) x r
 unfolding item_by below
 tag_of zero i n left r₀ {x} {r} =
-    by_size (λ z. item_by (enter_at zero) tags z n left r₀ ≡ ok x r → Inner (tag (width_by i) n) (below zero r₀) x r) i (λ o e. absurd (refuse-not-ok e)) (λ o e. absurd (refuse-not-ok e))
+    by_size (λ z. item_by (enter_at zero) tags z n left r₀ ≡ ok x r → Inner (tag (width_by i) n) (below zero r₀) x r) i (λ o e. absurd (refuse_not_ok e)) (λ o e. absurd (refuse_not_ok e))
 tag_of (suc d) i n left r₀ {x} {r} =
-    by_size (λ z. item_by (enter_at (suc d)) tags z n left r₀ ≡ ok x r → Inner (tag (width_by i) n) (item d r₀) x r) i (λ o e. absurd (refuse-not-ok e)) (λ o e. tag-by (width_by i) n left (item d r₀) e)
+    by_size (λ z. item_by (enter_at (suc d)) tags z n left r₀ ≡ ok x r → Inner (tag (width_by i) n) (item d r₀) x r) i (λ o e. absurd (refuse_not_ok e)) (λ o e. tag-by (width_by i) n left (item d r₀) e)
 
 -- MANY, AS TEXTS
 
@@ -281,19 +281,19 @@ unfolding print_all joined separator_of item_texts
 all-joined c none = refl
 all-joined c (more x xs) = ap (λ (t : List ℕ). print_item x ++ t) (rest-joined c xs)
 
-entry-joined : (k x : Item) (t u : List ℕ) → t ≡ u → print_item k ++ (ascii ": " ++ (print_item x ++ t)) ≡ entry_text (record { key = k; value = x }) ++ u
+entry_joined : (k x : Item) (t u : List ℕ) → t ≡ u → print_item k ++ (ascii ": " ++ (print_item x ++ t)) ≡ entry_text (record { key = k; value = x }) ++ u
 unfolding entry_text
-entry-joined k x t u e = simp append_assoc (rw e)
+entry_joined k x t u e = simp append_assoc (rw e)
 
-rest-joined₂ : (ps : Pairs) → print_rest₂ ps ≡ joined 0x20 false (pair_texts ps)
+rest_joined₂ : (ps : Pairs) → print_rest₂ ps ≡ joined 0x20 false (pair_texts ps)
 unfolding print_rest₂ joined separator_of pair_texts
-rest-joined₂ none₂ = refl
-rest-joined₂ (more₂ k x ps) = ap (λ (t : List ℕ). 0x2c ∷ 0x20 ∷ t) (entry-joined k x _ _ (rest-joined₂ ps))
+rest_joined₂ none₂ = refl
+rest_joined₂ (more₂ k x ps) = ap (λ (t : List ℕ). 0x2c ∷ 0x20 ∷ t) (entry_joined k x _ _ (rest_joined₂ ps))
 
-pub all-joined₂ : (ps : Pairs) → print_all₂ ps ≡ joined 0x20 true (pair_texts ps)
+pub all_joined₂ : (ps : Pairs) → print_all₂ ps ≡ joined 0x20 true (pair_texts ps)
 unfolding print_all₂ joined separator_of pair_texts
-all-joined₂ none₂ = refl
-all-joined₂ (more₂ k x ps) = entry-joined k x _ _ (rest-joined₂ ps)
+all_joined₂ none₂ = refl
+all_joined₂ (more₂ k x ps) = entry_joined k x _ _ (rest_joined₂ ps)
 
 chunks-joined : (k : Kind) (cs : List Chunk) → print_chunks k cs ≡ joined 0x20 false (chunk_texts k cs)
 unfolding print_chunks joined separator_of chunk_texts chunk_text
@@ -312,12 +312,12 @@ chunked-joined k [] = refl
 chunked-joined byte_string (c ∷ cs) = chunked-some byte_string c cs
 chunked-joined text_string (c ∷ cs) = chunked-some text_string c cs
 
-pub count-texts : (xs : Items) → count xs ≡ length (item_texts xs)
+pub count_texts : (xs : Items) → count xs ≡ length (item_texts xs)
 unfolding count item_texts
-count-texts none = refl
-count-texts (more x xs) = ap suc (count-texts xs)
+count_texts none = refl
+count_texts (more x xs) = ap suc (count_texts xs)
 
-pub count-texts₂ : (ps : Pairs) → count₂ ps ≡ length (pair_texts ps)
+pub count_texts₂ : (ps : Pairs) → count₂ ps ≡ length (pair_texts ps)
 unfolding count₂ pair_texts
-count-texts₂ none₂ = refl
-count-texts₂ (more₂ k x ps) = ap suc (count-texts₂ ps)
+count_texts₂ none₂ = refl
+count_texts₂ (more₂ k x ps) = ap suc (count_texts₂ ps)

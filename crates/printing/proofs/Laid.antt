@@ -24,7 +24,7 @@ use Rattle.notation.specs.Printing.{print_text}
 use Rattle.printing.specs.PassAnswers.{PassTold}
 use Rattle.operations.specs.Operations.{written, items_of, text_of, and_then, print}
 use Rattle.cbor.specs.Valid.{Bytes}
-use Rattle.cbor.proofs.EncodeDecode.{encode-of-decode}
+use Rattle.cbor.proofs.EncodeDecode.{encode_of_decode}
 use Rattle.walk_answer.proofs.Slices.{bytes_of}
 use Rattle.outcome.specs.Outcomes.{outcome_of, laid}
 use Rattle.printing.specs.PrintOutcomes.{AtOnce}
@@ -44,7 +44,7 @@ print-no s b e (refuse k l) d h =
 print-yes : (s b b' : List ℕ) (r : Answer) (m : Passage) (res : Result Items) → Bytes s → decode s ≡ res → pass_told (SpanV m) ≡ told_of (length s) (map_result contents_all res) → Lays s b b' r → outcome_of r b' ≡ print s b
 unfolding pass_told told_of map_result items_of verdict_of text_of and_then print laid
 print-yes s b b' r m (ok xs q) u d h l =
-    let e = encode-of-decode s xs q u d in
+    let e = encode_of_decode s xs q u d in
     let w = l.is xs (d ∙ ap (ok xs) e.done) in
     rw (d, print) w
 print-yes s b b' r m (refuse k q) u d h l = let z : ◌≡◌ {A = ℕ} 0 1 = cc in absurd (omega arith)
@@ -58,7 +58,7 @@ module _ (s b : List ℕ) {a : Passed} (told : pass_told a ≡ walk_all_of (leng
   unfolding walk_all_of
   print-done {m} g h l = print-yes s b _ _ m (decode s) (bytes_of s g) refl (rw h at told) l
 
-pub ruleset whole-ways = (print-refused, print-done)
+pub ruleset whole_ways = (print-refused, print-done)
 
 -- IN ONE PASS
 
@@ -67,8 +67,8 @@ unfolding items_of verdict_of text_of and_then print laid
 print-text s b xs d = rw (d, print)
 
 module _ {s made made' b : List ℕ} {n : ℕ} (p : PassTold s made made' n) where
-  pub pass-done : (n ≡ 0 → ⊥) → {v : Bool} → v ≡ leb n (min (length b) 65535) → v ≡ true → {b' : List ℕ} → b' ≡ copied b 0 made' n → AtOnce s b b' n
-  pass-done z {v} f t {b'} e =
+  pub pass_done : (n ≡ 0 → ⊥) → {v : Bool} → v ≡ leb n (min (length b) 65535) → v ≡ true → {b' : List ℕ} → b' ≡ copied b 0 made' n → AtOnce s b b' n
+  pass_done z {v} f t {b'} e =
       let a = p.told (omega arith) in
       let w = print_text a.values in
       let k : n ≡ length w = omega (arith, a.laid.next) in
@@ -78,16 +78,16 @@ module _ {s made made' b : List ℕ} {n : ℕ} (p : PassTold s made made' n) whe
       let c : b' ≡ over b 0 w = e ∙ copied-yes b 0 made' n l ∙ ap (over_if_fits b 0) h ∙ written-fits b 0 w (omega arith) in
       record { yes = λ g. rw c (laid-yes b f w k t) ∙ sym (print-text s b a.values a.is); no = λ g. absurd (z g) }
 
-pub pass-none : {s b : List ℕ} → AtOnce s b b 0
-pass-none = record { yes = λ h. absurd (omega arith); no = λ h. refl }
+pub pass_none : {s b : List ℕ} → AtOnce s b b 0
+pass_none = record { yes = λ h. absurd (omega arith); no = λ h. refl }
 
-pub ruleset pass-ways = (pass-done, pass-none)
+pub ruleset pass_ways = (pass_done, pass_none)
 
 module _ {s b b₁ : List ℕ} {n : ℕ} (x : AtOnce s b b₁ n) where
-  pub once-done : 0 < n → outcome_of (Written n) b₁ ≡ print s b
-  once-done h = x.yes h
+  pub once_done : 0 < n → outcome_of (Written n) b₁ ≡ print s b
+  once_done h = x.yes h
 
-  pub once-whole : (b₂ : List ℕ) (r : Answer) → n ≤ 0 → outcome_of r b₂ ≡ print s b₁ → outcome_of r b₂ ≡ print s b
-  once-whole b₂ r h e = e ∙ ap (print s) (x.no (omega arith))
+  pub once_whole : (b₂ : List ℕ) (r : Answer) → n ≤ 0 → outcome_of r b₂ ≡ print s b₁ → outcome_of r b₂ ≡ print s b
+  once_whole b₂ r h e = e ∙ ap (print s) (x.no (omega arith))
 
-pub ruleset print-ways = (once-done, once-whole)
+pub ruleset print_ways = (once_done, once_whole)

@@ -13,7 +13,7 @@ use Rattle.cbor.specs.Items.{Size, definite, indefinite, Item, array, map, tag, 
 use Rattle.cbor.specs.Heads.{tags, major_of}
 use Rattle.cbor.specs.TypedArrays.{may_tag}
 use Rattle.cbor.specs.Decode.{Until, counted, ended, finished, another, step_at, several_by, several, several_within, entry_at, extent, tagged, elements, pair, entries, item_by, item, decode}
-use Rattle.cbor.proofs.Results.{refuse-not-ok}
+use Rattle.cbor.proofs.Results.{refuse_not_ok}
 use Rattle.cbor.proofs.DecodeEncode.{enter_at, by-head}
 use Rattle.head.specs.HeadAnswers.{head_told, argument_at, HeadRoom, HeadEnd}
 use Rattle.head.specs.declared.HeadAt.{HeadAt}
@@ -21,13 +21,13 @@ use Rattle.head.specs.declared.HeadRead.TheVariants.{Head as HeadV}
 use Rattle.memory.specs.Sums.{capped}
 use Rattle.notation.specs.Printing.{decimal_of, indicator_of, size_of, print_item, print_all, print_rest, print_all₂, print_rest₂, print_text}
 use Rattle.walk_answer.specs.WalkAnswers.{contents, entry_contents, until_by, mode_by, behind_by, step_by, Turned, Within}
-use Rattle.walk_answer.proofs.Leaves.{Left, several-eq}
-use Rattle.walk_answer.proofs.ItemLeaves.{item-leaves, entry-leaves}
+use Rattle.walk_answer.proofs.Leaves.{Left, several_eq}
+use Rattle.walk_answer.proofs.ItemLeaves.{item-leaves, entry_leaves}
 use Rattle.text_output.specs.PrintParts.{width_by, size_by}
 use Rattle.printer.specs.PrintAnswers.{PrintHeaded}
 use Rattle.printer.proofs.PrintSeveral.{bind_ok, ok-rest}
 use Rattle.printer.proofs.PrintCycle.{headed}
-use Rattle.printer.proofs.PrintWays.{until-is}
+use Rattle.printer.proofs.PrintWays.{until_is}
 use Rattle.leaf_written.specs.Laying.{Laid}
 use Rattle.leaf_written.specs.LeafTexts.{Room, HasBlock, HasSpace, LeafTold}
 use Rattle.leaf_written.specs.declared.Written.{Written}
@@ -38,17 +38,17 @@ use Rattle.pass_parts.proofs.PartCode.{take_less}
 
 -- ONE MORE OF SEVERAL
 
-items-eq : (d : ℕ) (u : Until) (s : List ℕ) → elements (item d) u s ≡ several_by none more (item d) (elements (item d)) (step_at u s) s
+items_eq : (d : ℕ) (u : Until) (s : List ℕ) → elements (item d) u s ≡ several_by none more (item d) (elements (item d)) (step_at u s) s
 unfolding elements
-items-eq d u s = several-eq none more (item d) contents (item-leaves d) u s
+items_eq d u s = several_eq none more (item d) contents (item-leaves d) u s
 
 items_more : (d : ℕ) (u v : Until) (s : List ℕ) {x : Item} {xs : Items} {t r : List ℕ} → step_at u s ≡ another v → item d s ≡ ok x t → elements (item d) v t ≡ ok xs r → elements (item d) u s ≡ ok (more x xs) r
 unfolding several_by bind
-items_more d u v s st e f = items-eq d u s ∙ rw (st, several_by) (rw (e, bind) (rw (f, bind)))
+items_more d u v s st e f = items_eq d u s ∙ rw (st, several_by) (rw (e, bind) (rw (f, bind)))
 
 items-over : (d : ℕ) (u : Until) (s : List ℕ) {r : List ℕ} → step_at u s ≡ finished r → elements (item d) u s ≡ ok none r
 unfolding several_by
-items-over d u s st = items-eq d u s ∙ rw (st, several_by)
+items-over d u s st = items_eq d u s ∙ rw (st, several_by)
 
 -- an item takes a byte at least
 item-ahead : (s : List ℕ) (at d e : ℕ) {x : Item} → item d (drop at s) ≡ ok x (drop e s) → e ≤ length s → at < e
@@ -72,12 +72,12 @@ module _ {s : List ℕ} {from mode count : ℕ} {map : Bool} {blank d : ℕ} {b 
   run-within = record { inside = inv.inside }
 
   -- nothing is told
-  pub run-full : {r : Written} → r ≡ record { end = 0; pos = 0 } → AllTold s from (until_by mode count) d map blank count b out pos r
-  run-full {r} e = let z : r.end ≡ 0 = ap (λ (w : Written). w.end) e in record { same = inv.laid.same; kept = laid_kept inv.laid; told = λ h. absurd (omega arith) }
+  pub run_full : {r : Written} → r ≡ record { end = 0; pos = 0 } → AllTold s from (until_by mode count) d map blank count b out pos r
+  run_full {r} e = let z : r.end ≡ 0 = ap (λ (w : Written). w.end) e in record { same = inv.laid.same; kept = laid_kept inv.laid; told = λ h. absurd (omega arith) }
 
   module _ {c q : ℕ} {o o₁ : List ℕ} {part : Written} (ec : c ≡ comma_of map left) (x : Laid out o p (separator_of first c blank) q) (y : ItemTold s at d o o₁ q part) where
-    pub run-stop : {r : Written} → r ≡ record { end = 0; pos = 0 } → AllTold s from (until_by mode count) d map blank count b o₁ pos r
-    run-stop {r} e =
+    pub run_stop : {r : Written} → r ≡ record { end = 0; pos = 0 } → AllTold s from (until_by mode count) d map blank count b o₁ pos r
+    run_stop {r} e =
         let z : r.end ≡ 0 = ap (λ (w : Written). w.end) e in
         record {
           same = y.same ∙ x.same ∙ inv.laid.same;
@@ -86,8 +86,8 @@ module _ {s : List ℕ} {from mode count : ℕ} {map : Bool} {blank d : ℕ} {b 
         }
 
     module _ (n : part.end ≡ 0 → ⊥) where
-      pub run-less : length s - part.end < length s - at
-      run-less = let m = y.told (omega arith) in let l = item-ahead s at d part.end m.is m.inside in omega (arith, m.inside)
+      pub run_less : length s - part.end < length s - at
+      run_less = let m = y.told (omega arith) in let l = item-ahead s at d part.end m.is m.inside in omega (arith, m.inside)
 
       pub run_on : {t : Bool} → Turned s at mode left t → not t ≡ true → {k : ℕ} → k ≡ left - 1 → Run s from mode count map blank d b pos part.end k part.pos false o₁
       unfolding text_of step_by
@@ -96,7 +96,7 @@ module _ {s : List ℕ} {from mode count : ℕ} {map : Bool} {blank d : ℕ} {b 
           let v = m.value in
           let sep = separator_of first (comma_of map left) blank in
           let st : step_at (until_by mode left) (drop at s) ≡ another (until_by mode k) = tn.is ∙ ap (λ (w : Bool). step_by w mode left s at) (not-true t e) ∙ ap (λ (j : ℕ). another (until_by mode j)) (sym ek) in
-          let x' : Laid out o p sep q = ap-laid (ap (λ (j : ℕ). separator_of first j blank) ec) x in
+          let x' : Laid out o p sep q = ap_laid (ap (λ (j : ℕ). separator_of first j blank) ec) x in
           record {
             prefix = λ xs. inv.prefix (more v xs);
             is = λ xs r g. inv.is (more v xs) r (items_more d (until_by mode left) (until_by mode k) (drop at s) st m.is g);
@@ -108,8 +108,8 @@ module _ {s : List ℕ} {from mode count : ℕ} {map : Bool} {blank d : ℕ} {b 
             inside = m.inside;
           }
         where
-          ap-laid : {b b' : List ℕ} {pos r : ℕ} {ws vs : List ℕ} → ws ≡ vs → Laid b b' pos ws r → Laid b b' pos vs r
-          ap-laid e x = laid_as x e
+          ap_laid : {b b' : List ℕ} {pos r : ℕ} {ws vs : List ℕ} → ws ≡ vs → Laid b b' pos ws r → Laid b b' pos vs r
+          ap_laid e x = laid_as x e
 
   pub run_end : {t : Bool} → Turned s at mode left t → not t ≡ false → length s * 1 < 2 ^ 63 → {e : ℕ} → e ≡ capped at (behind_by mode) → AllTold s from (until_by mode count) d map blank count b out pos (record { end = e; pos = p })
   unfolding text_of step_by
@@ -151,8 +151,8 @@ pub block_inside : {s : List ℕ} {at : ℕ} {t : Bool} → HasBlock s at t → 
 block_inside {t = t} h e = omega (arith, h.is (not-false t e))
 
 module _ {b : List ℕ} {pos : ℕ} {t : Bool} (h : HasSpace b pos t) (e : not t ≡ false) where
-  pub two-more : pos + 2 ≤ length b
-  two-more = omega (arith, h.is (not-false t e))
+  pub two_more : pos + 2 ≤ length b
+  two_more = omega (arith, h.is (not-false t e))
 
   pub leaf-more : {b₁ ws : List ℕ} {r : ℕ} → Laid b b₁ pos ws r → r ≤ pos + 2 → r + 80 ≤ length b₁
   leaf-more x l = omega (arith, h.is (not-false t e), x.same)
@@ -163,24 +163,24 @@ at-within h = record { inside = omega arith }
 pub head-room : {s : List ℕ} {at e : ℕ} → HeadEnd s at e → (e ≡ 0 → ⊥) → HeadRoom s at
 head-room x n = x.room n
 
-pub headed-by : {s : List ℕ} {at e n m : ℕ} → HeadEnd s at e → (e ≡ 0 → ⊥) → n ≡ argument_at s at → get_or s at 0 / 32 ≡ m → PrintHeaded s at (record { major = m; info = get_or s at 0 % 32; argument = n; end = e })
+pub headed_by : {s : List ℕ} {at e n m : ℕ} → HeadEnd s at e → (e ≡ 0 → ⊥) → n ≡ argument_at s at → get_or s at 0 / 32 ≡ m → PrintHeaded s at (record { major = m; info = get_or s at 0 % 32; argument = n; end = e })
 unfolding head_told
-headed-by {s} {at} {e} {n} {m} x z i k =
+headed_by {s} {at} {e} {n} {m} x z i k =
     let h : HeadAt = record { major = m; info = get_or s at 0 % 32; argument = n; end = e } in
     headed s at {x = HeadV h} ((λ j. head_told (HeadV (record { major = sym k j; info = get_or s at 0 % 32; argument = i j; end = e }))) ∙ x.found z) refl
 
 -- WHAT HAS PARTS
 
 -- several, as the definitions print them
-plain-rest : (c n : ℕ) (xs : Items) → text_of false c false n xs ≡ print_rest (0x2c ∷ c ∷ []) xs
+plain_rest : (c n : ℕ) (xs : Items) → text_of false c false n xs ≡ print_rest (0x2c ∷ c ∷ []) xs
 unfolding text_of separator_of comma_of print_rest
-plain-rest c n none = refl
-plain-rest c n (more x xs) = ap (λ (t : List ℕ). 0x2c ∷ c ∷ (print_item x ++ t)) (plain-rest c (n - 1) xs)
+plain_rest c n none = refl
+plain_rest c n (more x xs) = ap (λ (t : List ℕ). 0x2c ∷ c ∷ (print_item x ++ t)) (plain_rest c (n - 1) xs)
 
-plain-all : (c n : ℕ) (xs : Items) → text_of false c true n xs ≡ print_all (0x2c ∷ c ∷ []) xs
+plain_all : (c n : ℕ) (xs : Items) → text_of false c true n xs ≡ print_all (0x2c ∷ c ∷ []) xs
 unfolding text_of separator_of print_all
-plain-all c n none = refl
-plain-all c n (more x xs) = ap (λ (t : List ℕ). print_item x ++ t) (plain-rest c (n - 1) xs)
+plain_all c n none = refl
+plain_all c n (more x xs) = ap (λ (t : List ℕ). print_item x ++ t) (plain_rest c (n - 1) xs)
 
 -- the first of those that are counted, and the others
 record Next (d n : ℕ) (s : List ℕ) (xs : Items) (r : List ℕ) : Type 0 where
@@ -194,7 +194,7 @@ record Next (d n : ℕ) (s : List ℕ) (xs : Items) (r : List ℕ) : Type 0 wher
 next : (d n : ℕ) (s : List ℕ) (xs : Items) (r : List ℕ) → elements (item d) (counted (suc n)) s ≡ ok xs r → Next d n s xs r
 unfolding several_by step_at
 next d n s xs r e =
-    let p = bind_ok (item d s) _ (sym (items-eq d (counted (suc n)) s) ∙ e) in
+    let p = bind_ok (item d s) _ (sym (items_eq d (counted (suc n)) s) ∙ e) in
     let q = bind_ok (elements (item d) (counted n) p.rest) _ p.second in
     let o : q.rest ≡ r = cc q.second in
     record { value = p.value; left = p.rest; others = q.value; one = p.first; on = ok-rest q.first o; is = cc q.second }
@@ -205,7 +205,7 @@ record Last (s : List ℕ) (xs : Items) (r : List ℕ) : Type 0 where
 
 last : (d : ℕ) (s : List ℕ) (xs : Items) (r : List ℕ) → elements (item d) (counted 0) s ≡ ok xs r → Last s xs r
 unfolding several_by step_at
-last d s xs r e = let g : ok none s ≡ ok xs r = sym (items-eq d (counted 0) s) ∙ e in record { is = cc (g); rest = cc (g) }
+last d s xs r e = let g : ok none s ≡ ok xs r = sym (items_eq d (counted 0) s) ∙ e in record { is = cc (g); rest = cc (g) }
 
 -- as many as were counted
 counted-items : (d n : ℕ) (s : List ℕ) (xs : Items) (r : List ℕ) → elements (item d) (counted n) s ≡ ok xs r → count xs ≡ n
@@ -250,19 +250,19 @@ record Paired (d n : ℕ) (s : List ℕ) (xs : Items) (r : List ℕ) : Type 0 wh
 
 entries_eq : (d : ℕ) (u : Until) (s : List ℕ) → entries (item d) u s ≡ several_by none₂ pair (entry_at (item d)) (entries (item d)) (step_at u s) s
 unfolding entries
-entries_eq d u s = several-eq none₂ pair (entry_at (item d)) entry_contents (entry-leaves (item d) (item-leaves d)) u s
+entries_eq d u s = several_eq none₂ pair (entry_at (item d)) entry_contents (entry_leaves (item d) (item-leaves d)) u s
 
 entries-more : (d n : ℕ) (s : List ℕ) {k x : Item} {ps : Pairs} {t t' r : List ℕ} → item d s ≡ ok k t → item d t ≡ ok x t' → entries (item d) (counted n) t' ≡ ok ps r → entries (item d) (counted (suc n)) s ≡ ok (more₂ k x ps) r
 unfolding several_by step_at entry_at bind
 entries-more d n s e f g = entries_eq d (counted (suc n)) s ∙ rw (e, entry_at, bind) (rw (f, bind) (rw (g, bind)))
 
-comma-even : (m : ℕ) → m % 2 ≡ 0 → comma_of true m ≡ 0x2c
+comma_even : (m : ℕ) → m % 2 ≡ 0 → comma_of true m ≡ 0x2c
 unfolding comma_of
-comma-even m h = let n : m % 2 ≡ 1 → ⊥ = omega arith in rw (ne_eqb (m % 2) 1 n, comma_of)
+comma_even m h = let n : m % 2 ≡ 1 → ⊥ = omega arith in rw (ne_eqb (m % 2) 1 n, comma_of)
 
-comma-odd : (m : ℕ) → m % 2 ≡ 1 → comma_of true m ≡ 0x3a
+comma_odd : (m : ℕ) → m % 2 ≡ 1 → comma_of true m ≡ 0x3a
 unfolding comma_of
-comma-odd m h = rw (eq-eqb (m % 2) 1 h, comma_of)
+comma_odd m h = rw (eq-eqb (m % 2) 1 h, comma_of)
 
 paired_none : (d : ℕ) (s : List ℕ) → Paired d 0 s none s
 unfolding several_by step_at text_of print_all₂ print_rest₂ count₂
@@ -272,8 +272,8 @@ module _ (d n : ℕ) (s : List ℕ) {k x : Item} {xs : Items} {t t' r : List ℕ
   turn : (first : Bool) → text_of true 0x20 first (suc n * 2) (more k (more x xs)) ≡ separator_of first 0x2c 0x20 ++ (print_item k ++ (ascii ": " ++ (print_item x ++ print_rest₂ p.pairs)))
   unfolding text_of separator_of
   turn first =
-      let a = comma-even (suc n * 2) (omega arith) in
-      let b = comma-odd (suc n * 2 - 1) (omega arith) in
+      let a = comma_even (suc n * 2) (omega arith) in
+      let b = comma_odd (suc n * 2 - 1) (omega arith) in
       let z : suc n * 2 - 1 - 1 ≡ n * 2 = omega arith in
       λ j. separator_of first (a j) 0x20 ++ (print_item k ++ ((b j ∷ 0x20 ∷ []) ++ (print_item x ++ (ap (λ (m : ℕ). text_of true 0x20 false m xs) z ∙ p.rest) j)))
 
@@ -281,17 +281,17 @@ module _ (d n : ℕ) (s : List ℕ) {k x : Item} {xs : Items} {t t' r : List ℕ
   unfolding print_all₂ print_rest₂ count₂ separator_of
   paired-more = record { pairs = more₂ k x p.pairs; is = entries-more d n s e f p.is; all = turn true; rest = turn false; size = ap suc p.size }
 
-paired-as : (d n : ℕ) (s : List ℕ) (xs ys : Items) (r t : List ℕ) → xs ≡ ys → r ≡ t → Paired d n s xs r → Paired d n s ys t
-paired-as d n s xs ys r t e f p = subst (λ (y : Items). Paired d n s y t) e (subst (λ (z : List ℕ). Paired d n s xs z) f p)
+paired_as : (d n : ℕ) (s : List ℕ) (xs ys : Items) (r t : List ℕ) → xs ≡ ys → r ≡ t → Paired d n s xs r → Paired d n s ys t
+paired_as d n s xs ys r t e f p = subst (λ (y : Items). Paired d n s y t) e (subst (λ (z : List ℕ). Paired d n s xs z) f p)
 
 paired : (d n : ℕ) (s : List ℕ) (xs : Items) (r : List ℕ) → elements (item d) (counted (n * 2)) s ≡ ok xs r → Paired d n s xs r
-paired d zero s xs r e = let p = last d s xs r e in paired-as d 0 s none xs s r p.is p.rest (paired_none d s)
+paired d zero s xs r e = let p = last d s xs r e in paired_as d 0 s none xs s r p.is p.rest (paired_none d s)
 paired d (suc n) s xs r e =
     let z : suc n * 2 ≡ suc (suc (n * 2)) = omega arith in
     let p = next d (suc (n * 2)) s xs r (ap (λ (k : ℕ). elements (item d) (counted k) s) (sym z) ∙ e) in
     let q = next d (n * 2) p.left p.others r p.on in
     let y : more p.value (more q.value q.others) ≡ xs = ap (more p.value) q.is ∙ p.is in
-    paired-as d (suc n) s (more p.value (more q.value q.others)) xs r r y refl (paired-more d n s p.one q.one (paired d n q.left q.others r q.on))
+    paired_as d (suc n) s (more p.value (more q.value q.others)) xs r r y refl (paired-more d n s p.one q.one (paired d n q.left q.others r q.on))
 
 -- one item
 record Single (d : ℕ) (s : List ℕ) (xs : Items) (r : List ℕ) : Type 0 where
@@ -343,11 +343,11 @@ module _ {s : List ℕ} {at info n end levels : ℕ} {b b₁ b₂ b₃ : List �
   array_told hd x {mode} e z w =
       let k : suc (levels - 1) ≡ levels = omega arith in
       shut (0x5b ∷ size_of (size_by info) n) x z w at levels (λ xs t g.
-      let g' : elements (item (levels - 1)) (extent (size_by info) n) (drop end s) ≡ ok xs t = ap (λ (u : Until). elements (item (levels - 1)) u (drop end s)) (sym (ap (λ (j : ℕ). until_by j n) e ∙ until-is info n)) ∙ g in
+      let g' : elements (item (levels - 1)) (extent (size_by info) n) (drop end s) ≡ ok xs t = ap (λ (u : Until). elements (item (levels - 1)) u (drop end s)) (sym (ap (λ (j : ℕ). until_by j n) e ∙ until_is info n)) ∙ g in
       record {
         value = array (size_by info) xs;
         is = ap (λ (j : ℕ). item j (drop at s)) (sym k) ∙ array-item s at info n end (levels - 1) hd g';
-        text = λ j. 0x5b ∷ (sym (size-items (levels - 1) n (size_by info) (drop end s) xs t g') j ++ (plain-all 0x20 n xs j ++ ascii "]"));
+        text = λ j. 0x5b ∷ (sym (size-items (levels - 1) n (size_by info) (drop end s) xs t g') j ++ (plain_all 0x20 n xs j ++ ascii "]"));
       })
 
   pub map-told : PrintHeaded s at (record { major = 5; info = info; argument = n; end = end }) → (info ≡ 31 → ⊥) → Laid b b₁ pos (0x7b ∷ size_of (size_by info) n) p
@@ -382,7 +382,7 @@ module _ {s : List ℕ} {at info n end levels : ℕ} {b b₁ b₂ b₃ : List �
 
 ended-rest : (d : ℕ) (f : ℕ) (s : List ℕ) (xs : Items) (r : List ℕ) → several_within none more (item d) f ended s ≡ ok xs r → [] ≡ r
 unfolding several_within several_by step_at
-ended-rest d zero s xs r e = absurd (refuse-not-ok e)
+ended-rest d zero s xs r e = absurd (refuse_not_ok e)
 ended-rest d (suc f) [] xs r e = cc
 ended-rest d (suc f) (b ∷ s) xs r e =
     let p = bind_ok (item d (b ∷ s)) _ e in
@@ -393,15 +393,15 @@ ended-rest d (suc f) (b ∷ s) xs r e =
 text-whole : (d b : ℕ) (s : List ℕ) (xs : Items) (r : List ℕ) → elements (item d) ended (b ∷ s) ≡ ok xs r → text_of false 0x0a true 0 xs ++ (0x0a ∷ []) ≡ print_text xs
 unfolding several_by step_at print_text count
 text-whole d b s none r e =
-    let p = bind_ok (item d (b ∷ s)) _ (sym (items-eq d ended (b ∷ s)) ∙ e) in
+    let p = bind_ok (item d (b ∷ s)) _ (sym (items_eq d ended (b ∷ s)) ∙ e) in
     let q = bind_ok (elements (item d) ended p.rest) _ p.second in
     let c : more p.value q.value ≡ none = cc q.second in
     let z : suc (count q.value) ≡ 0 = ap count c in
     absurd (omega arith)
-text-whole d b s (more x xs) r e = ap (λ (t : List ℕ). t ++ (0x0a ∷ [])) (plain-all 0x0a 0 (more x xs))
+text-whole d b s (more x xs) r e = ap (λ (t : List ℕ). t ++ (0x0a ∷ [])) (plain_all 0x0a 0 (more x xs))
 
-pub pass-none : {s b : List ℕ} → PassTold s b b 0
-pass-none = record { same = refl; told = λ h. absurd (omega arith) }
+pub pass_none : {s b : List ℕ} → PassTold s b b 0
+pass_none = record { same = refl; told = λ h. absurd (omega arith) }
 
 pub pass_all : {s b b₁ b₂ : List ℕ} {all r : Written} → (length s ≡ 0 → ⊥) → length s ≤ 65535 → AllTold s 0 (until_by 2 0) 16 false 0x0a 0 b b₁ 0 all → Closed b₁ b₂ all 0x0a r → PassTold s b b₂ r.pos
 unfolding until_by decode elements several

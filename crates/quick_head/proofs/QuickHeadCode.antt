@@ -9,24 +9,24 @@ use mir.Syntax.{w8 as bits8}
 use mir.Val.{Fits}
 use Rattle.cbor.specs.Widths.{value_from}
 use Rattle.head.specs.HeadAnswers.{argument_size, argument_at, Formed, Widened, HeadEnd}
-use Rattle.head.proofs.HeadCode.{size-two, form-wide, argument-some, argument-wide, ends-plain}
+use Rattle.head.proofs.HeadCode.{size_two, form-wide, argument-some, argument-wide, ends_plain}
 use Rattle.quick_head.specs.QuickHeads.{Small, of_array, of_map, of_tag, Inner, TwoBytes, Lengthy}
 
 -- INITIAL BYTES
 
-pub inner-not : {b n : ℕ} → b < 256 → n ≡ 0xff → Inner b n
-inner-not l e = record { is = λ h. absurd (omega arith); short = λ h. absurd (omega arith); byte = l }
+pub inner_not : {b n : ℕ} → b < 256 → n ≡ 0xff → Inner b n
+inner_not l e = record { is = λ h. absurd (omega arith); short = λ h. absurd (omega arith); byte = l }
 
-pub inner-tag : {b n : ℕ} → b < 256 → b < 0xd8 → 0xc0 ≤ b → n ≡ 1 → Inner b n
-inner-tag l a c e = record { is = λ h. of_tag (omega arith) e; short = λ h. omega arith; byte = l }
+pub inner_tag : {b n : ℕ} → b < 256 → b < 0xd8 → 0xc0 ≤ b → n ≡ 1 → Inner b n
+inner_tag l a c e = record { is = λ h. of_tag (omega arith) e; short = λ h. omega arith; byte = l }
 
-pub inner-array : {b n : ℕ} → b < 256 → 0x80 ≤ b → b < 0xa0 → b % 32 < 24 → n ≡ b % 32 → Inner b n
-inner-array l a c h e = record { is = λ o. of_array (omega arith) e; short = λ o. h; byte = l }
+pub inner_array : {b n : ℕ} → b < 256 → 0x80 ≤ b → b < 0xa0 → b % 32 < 24 → n ≡ b % 32 → Inner b n
+inner_array l a c h e = record { is = λ o. of_array (omega arith) e; short = λ o. h; byte = l }
 
-pub inner-map : {b n : ℕ} → b < 256 → 0xa0 ≤ b → b < 0xc0 → b % 32 < 24 → n ≡ b % 32 * 2 → Inner b n
-inner-map l a c h e = record { is = λ o. of_map (omega arith) e; short = λ o. h; byte = l }
+pub inner_map : {b n : ℕ} → b < 256 → 0xa0 ≤ b → b < 0xc0 → b % 32 < 24 → n ≡ b % 32 * 2 → Inner b n
+inner_map l a c h e = record { is = λ o. of_map (omega arith) e; short = λ o. h; byte = l }
 
-pub ruleset inner-ways = (inner-not, inner-tag, inner-array, inner-map)
+pub ruleset inner_ways = (inner_not, inner_tag, inner_array, inner_map)
 
 -- LENGTHS IN TWO BYTES
 
@@ -34,26 +34,26 @@ module _ {s : List ℕ} {end : ℕ} (he : HeadEnd s 0 end) (nz : end ≡ 0 → �
   pub lengthy : {n : ℕ} → Small s → n ≡ argument_at s 0 → 2 ≤ get_or s 0 0 / 32 → get_or s 0 0 / 32 ≤ 3 → (get_or s 0 0 % 32 ≡ 31 → ⊥) → Lengthy s end n
   lengthy sm e l u o = record { small = sm; head = he; some = nz; argument = e; low = l; high = u; definite = o }
 
-two-value : (s : List ℕ) {x y : ℕ} → 3 ≤ length s → x ≡ get_or s 1 0 → y ≡ get_or s 2 0 → x * 256 + y ≡ value_from 0 (take 2 (drop (0 + 1) s))
+two_value : (s : List ℕ) {x y : ℕ} → 3 ≤ length s → x ≡ get_or s 1 0 → y ≡ get_or s 2 0 → x * 256 + y ≡ value_from 0 (take 2 (drop (0 + 1) s))
 unfolding value_from
-two-value [] h a b = absurd (omega arith)
-two-value (c ∷ []) h a b = absurd (omega arith)
-two-value (c ∷ (d ∷ [])) h a b = absurd (omega arith)
-two-value (c ∷ (d ∷ (e ∷ s))) h a b = let z : 0 * 256 + d ≡ d = omega arith in (λ j. a j * 256 + b j) ∙ ap (λ (v : ℕ). v * 256 + e) (sym z)
+two_value [] h a b = absurd (omega arith)
+two_value (c ∷ []) h a b = absurd (omega arith)
+two_value (c ∷ (d ∷ [])) h a b = absurd (omega arith)
+two_value (c ∷ (d ∷ (e ∷ s))) h a b = let z : 0 * 256 + d ≡ d = omega arith in (λ j. a j * 256 + b j) ∙ ap (λ (v : ℕ). v * 256 + e) (sym z)
 
 pub two_made : {s : List ℕ} {x y r : ℕ} → 3 ≤ length s → Fits bits8 (get_or s 0 0) → get_or s 0 0 / 64 ≡ 1 → get_or s 0 0 % 32 ≡ 25 → Widened (get_or s 1 0) x → Widened (get_or s 2 0) y → r ≡ x * 256 + y → TwoBytes s r
 two_made {s} {x} {y} {r} l u m i a b e =
-    let z : 2 ≡ argument_size (get_or s 0 0 % 32) = size-two (get_or s 0 0 % 32) i in
+    let z : 2 ≡ argument_size (get_or s 0 0 % 32) = size_two (get_or s 0 0 % 32) i in
     let q : 0 + 1 + argument_size (get_or s 0 0 % 32) ≡ 3 = omega arith in
-    let he : HeadEnd s 0 3 = rw q at (ends-plain {s = s} {at = 0} u.fits (omega arith) (λ o. omega arith) (omega arith)) in
+    let he : HeadEnd s 0 3 = rw q at (ends_plain {s = s} {at = 0} u.fits (omega arith) (λ o. omega arith) (omega arith)) in
     let f : Formed (get_or s 0 0) 0 = form-wide (get_or s 0 0) u (omega arith) (omega arith) (λ o. omega arith) in
-    let v : x * 256 + y ≡ argument_at s 0 = argument-wide s 0 f (omega arith) z (argument-some 2 (get_or s 0 0 % 32) (take 2 (drop (0 + 1) s)) (omega arith) (two-value s l a.is b.is)) in
+    let v : x * 256 + y ≡ argument_at s 0 = argument-wide s 0 f (omega arith) z (argument-some 2 (get_or s 0 0 % 32) (take 2 (drop (0 + 1) s)) (omega arith) (two_value s l a.is b.is)) in
     record { is = λ h sm. lengthy he (omega arith) sm (e ∙ v) (omega arith) (omega arith) (omega arith) }
 
-pub two-not : {s : List ℕ} {r : ℕ} → r ≡ 65536 → TwoBytes s r
-two-not e = record { is = λ h. absurd (omega arith) }
+pub two_not : {s : List ℕ} {r : ℕ} → r ≡ 65536 → TwoBytes s r
+two_not e = record { is = λ h. absurd (omega arith) }
 
-pub ruleset two_ways = (two_made, two-not)
+pub ruleset two_ways = (two_made, two_not)
 
-pub two-lengthy : {s : List ℕ} {r : ℕ} → TwoBytes s r → r < 65536 → Small s → Lengthy s 3 r
-two-lengthy t h sm = t.is h sm
+pub two_lengthy : {s : List ℕ} {r : ℕ} → TwoBytes s r → r < 65536 → Small s → Lengthy s 3 r
+two_lengthy t h sm = t.is h sm

@@ -18,7 +18,7 @@ use Rattle.cbor.specs.Flags.{kind_of}
 use Rattle.cbor.specs.Decode.{Until, counted, item}
 use Rattle.typed_array.specs.TypedArrayAnswers.{may_tag_by}
 use Rattle.head.specs.HeadAnswers.{argument_size, argument_at, Widened, HeadEnd}
-use Rattle.head.proofs.HeadCode.{argument-low, ends-plain}
+use Rattle.head.proofs.HeadCode.{argument-low, ends_plain}
 use Rattle.walk_answer.specs.WalkAnswers.{PassTold, passed, pass_told, contents, map_result, told_of, one_of, all_of, tag_of, until_by, mode_by, behind_by, Turned, after_told, Headed}
 use Rattle.quick_walk.specs.QuickAnswers.{Quick, Deeper, Halves, Shifts, Shifted, Opens}
 use Rattle.quick_head.specs.QuickHeads.{Small, Opening, of_array, of_map, of_tag, Inner, Lengthy}
@@ -27,17 +27,17 @@ use Rattle.walk_answer.specs.declared.Passed.{Passed}
 use Rattle.walk_answer.specs.declared.Passed.TheVariants.{Span as SpanV}
 use Rattle.walk_answer.proofs.Leaves.{Leaves, same}
 use Rattle.walk_parts.proofs.StringCode.{content-good, head-room, head-inside}
-use Rattle.walk_answer.proofs.WalkCycle.{tail-is, all-leaves, one-leaves, one-item, all-double, Run, run-over, run_on}
-use Rattle.walk_parts.proofs.WalkItems.{all_told, only_one, inside, tag-good, behind-string, behind-array, behind-map, behind-tag, map-twice, one_inside, one-headed, one-leaf}
+use Rattle.walk_answer.proofs.WalkCycle.{tail_is, all-leaves, one-leaves, one-item, all_double, Run, run-over, run_on}
+use Rattle.walk_parts.proofs.WalkItems.{all_told, only_one, inside, tag-good, behind-string, behind-array, behind-map, behind-tag, map_twice, one_inside, one_headed, one-leaf}
 use Rattle.quick_walk.proofs.LeafRun.{short_none}
 
 -- ANSWERS
 
-pub quick-not : {t : PassTold} {r : ℕ} → r ≡ 0xffffffffffffffff → Quick t r
-quick-not e = record { is = λ n. absurd (n e) }
+pub quick_not : {t : PassTold} {r : ℕ} → r ≡ 0xffffffffffffffff → Quick t r
+quick_not e = record { is = λ n. absurd (n e) }
 
-pub quick-made : {t : PassTold} {end size r : ℕ} → end < 4294967296 → r ≡ size * 4294967296 + end → passed end size ≡ t → Quick t r
-quick-made {end = end} {size = size} {r = r} h e p =
+pub quick_made : {t : PassTold} {end size r : ℕ} → end < 4294967296 → r ≡ size * 4294967296 + end → passed end size ≡ t → Quick t r
+quick_made {end = end} {size = size} {r = r} h e p =
     let a : r % 4294967296 ≡ end = omega arith in
     let b : r / 4294967296 ≡ size = omega arith in
     record { is = λ n. (λ j. passed (a j) (b j)) ∙ p }
@@ -58,10 +58,10 @@ told_of_lem j s e k (refuse n q) l h = let z : ◌≡◌ {A = ℕ} 0 1 = cc in a
 
 -- the part of a slice from a place on
 pub small-part : (s : List ℕ) (at : ℕ) → Small s → Small (take (length s - at) (drop at s))
-small-part s at h = record { is = rw (tail-is s at) (omega (arith, h.is, length-drop at s)) }
+small-part s at h = record { is = rw (tail_is s at) (omega (arith, h.is, length-drop at s)) }
 
-pub small-deeper : {s : List ℕ} {levels : ℕ} (at : ℕ) → Deeper s levels → Small (take (length s - at) (drop at s))
-small-deeper {s} at d = small-part s at d.small
+pub small_deeper : {s : List ℕ} {levels : ℕ} (at : ℕ) → Deeper s levels → Small (take (length s - at) (drop at s))
+small_deeper {s} at d = small-part s at d.small
 
 -- the number, as the answer in memory that it stands for
 abbrev span : ℕ → Passed
@@ -84,14 +84,14 @@ shifts_of {s} {r} d end u h sm q =
 pub level-some : {s : List ℕ} {levels : ℕ} → Deeper s levels → 1 ≤ levels
 level-some d = omega (arith, d.level)
 
-pub deeper-small : {s : List ℕ} {levels : ℕ} → Deeper s levels → Small s
-deeper-small d = d.small
+pub deeper_small : {s : List ℕ} {levels : ℕ} → Deeper s levels → Small s
+deeper_small d = d.small
 
-pub shift-add : {end r : ℕ} → Shifts end r → r < 2 ^ 64 → (r ≡ 0xffffffffffffffff → ⊥) → r + end < 2 ^ 64
-shift-add s l n = let h = s.is n in omega arith
+pub shift_add : {end r : ℕ} → Shifts end r → r < 2 ^ 64 → (r ≡ 0xffffffffffffffff → ⊥) → r + end < 2 ^ 64
+shift_add s l n = let h = s.is n in omega arith
 
-pub shift-not : {end x : ℕ} → x ≡ 0xffffffffffffffff → {r : ℕ} → Shifted end r x
-shift-not e = record { known = λ n. absurd (n e); ends = λ n. absurd (n e); size = λ n. absurd (n e) }
+pub shift_not : {end x : ℕ} → x ≡ 0xffffffffffffffff → {r : ℕ} → Shifted end r x
+shift_not e = record { known = λ n. absurd (n e); ends = λ n. absurd (n e); size = λ n. absurd (n e) }
 
 pub shift_made : {end r x : ℕ} → Shifts end r → r < 2 ^ 64 → (r ≡ 0xffffffffffffffff → ⊥) → x ≡ r + end → Shifted end r x
 shift_made {end} {r} {x} s l n e =
@@ -100,7 +100,7 @@ shift_made {end} {r} {x} s l n e =
     let b : x / 4294967296 ≡ min (0 + r / 4294967296) (2 ^ 64 - 1) = omega arith in
     record { known = λ m. n; ends = λ m. a; size = λ m. b }
 
-pub ruleset shift-ways = (shift-not, shift_made)
+pub ruleset shift_ways = (shift_not, shift_made)
 
 -- BY THE WHOLE WAY
 
@@ -109,37 +109,37 @@ module _ (d : ℕ) {s : List ℕ} (sm : Small s) (p : Passed) (told : pass_told 
   unfolding pass_told
   whole-told e = rw e at told
 
-  pub whole-halves : {m : Passage} → p ≡ SpanV m → Halves m.end m.size
-  whole-halves {m} e =
+  pub whole_halves : {m : Passage} → p ≡ SpanV m → Halves m.end m.size
+  whole_halves {m} e =
       let o = told_of_lem 1 s m.end m.size (one_of 4 (suc d) s) (one-leaves 4 (suc d) s) (whole-told e) in
       record { ends = omega (arith, o.ends, sm.is); small = omega (arith, o.ends, o.size, sm.is) }
 
   pub whole-made : {m : Passage} {r : ℕ} → p ≡ SpanV m → r ≡ m.size * 4294967296 + m.end → Quick (told_of (length s) (one_of 4 (suc d) s)) r
-  whole-made e i = quick-made (whole-halves e).ends i (whole-told e)
+  whole-made e i = quick_made (whole_halves e).ends i (whole-told e)
 
-pub ruleset whole-ways = (quick-not, whole-made)
+pub ruleset whole_ways = (quick_not, whole-made)
 
 -- NUMBERS AND STRINGS
 
 module _ {s : List ℕ} {end : ℕ} (he : HeadEnd s 0 end) (nz : end ≡ 0 → ⊥) where
-  pub quick-end : end ≤ length s
-  quick-end = head-inside (one-headed he nz refl)
+  pub quick_end : end ≤ length s
+  quick_end = head-inside (one_headed he nz refl)
 
-  pub shifts-deeper : {r : ℕ} (d : ℕ) (u : Until) {levels : ℕ} → Deeper s levels → Quick (told_of (length (take (length s - end) (drop end s))) (all_of 4 d u (take (length s - end) (drop end s)))) r → Shifts end r
-  shifts-deeper d u dp q = shifts_of d end u quick-end dp.small q
+  pub shifts_deeper : {r : ℕ} (d : ℕ) (u : Until) {levels : ℕ} → Deeper s levels → Quick (told_of (length (take (length s - end) (drop end s))) (all_of 4 d u (take (length s - end) (drop end s)))) r → Shifts end r
+  shifts_deeper d u dp q = shifts_of d end u quick_end dp.small q
 
-  pub number-halves : Small s → Halves end 0
-  number-halves sm = record { ends = omega (arith, quick-end, sm.is); small = omega arith }
+  pub number_halves : Small s → Halves end 0
+  number_halves sm = record { ends = omega (arith, quick_end, sm.is); small = omega arith }
 
   pub number-made : (d : ℕ) {r : ℕ} → Small s → get_or s 0 0 / 32 < 2 → r ≡ 0 * 4294967296 + end → Quick (told_of (length s) (one_of 4 (suc d) s)) r
-  number-made d sm l e = quick-made (number-halves sm).ends e (one-leaf he nz d (omega arith) refl)
+  number-made d sm l e = quick_made (number_halves sm).ends e (one-leaf he nz d (omega arith) refl)
 
-pub ruleset plain-ways = (quick-not, number-made)
+pub ruleset plain_ways = (quick_not, number-made)
 
 -- a string by its head
 module _ {s : List ℕ} {end n : ℕ} (g : Lengthy s end n) where
   pub string-end : end ≤ length s
-  string-end = quick-end g.head g.some
+  string-end = quick_end g.head g.some
 
   pub string-some : 0 < length s
   string-some = one_inside g.head g.some
@@ -148,53 +148,53 @@ module _ {s : List ℕ} {end n : ℕ} (g : Lengthy s end n) where
     pub string-inside : end + n ≤ length s
     string-inside = omega (arith, string-end)
 
-    pub string-add : length s * 1 < 2 ^ 63 → end + n < 2 ^ 64
-    string-add long = omega (arith, string-inside)
+    pub string_add : length s * 1 < 2 ^ 63 → end + n < 2 ^ 64
+    string_add long = omega (arith, string-inside)
 
-    pub string-halves : Halves (end + n) (end + n - end)
-    string-halves = record { ends = omega (arith, string-inside, g.small.is); small = omega (arith, string-inside, g.small.is) }
+    pub string_halves : Halves (end + n) (end + n - end)
+    string_halves = record { ends = omega (arith, string-inside, g.small.is); small = omega (arith, string-inside, g.small.is) }
 
     pub string-made : (d : ℕ) {v : Bool} {r : ℕ} → v ≡ is_text (kind_of (eqb (get_or s 0 0 / 32) 3)) (take (end + n - end) (drop end s)) → v ≡ true → r ≡ (end + n - end) * 4294967296 + (end + n)
         → Quick (told_of (length s) (one_of 4 (suc d) s)) r
     string-made d i y e =
-        quick-made string-halves.ends e (one-item (length s) d s (behind-string (one-headed g.head g.some g.argument) d (omega (arith, g.low)) g.high g.definite
+        quick_made string_halves.ends e (one-item (length s) d s (behind-string (one_headed g.head g.some g.argument) d (omega (arith, g.low)) g.high g.definite
         (content-good {s = s} {from = end} n (eqb (get_or s 0 0 / 32) 3) (record { inside = string-end }) h i y refl)))
 
-pub ruleset string-ways = (quick-not, string-made)
+pub ruleset string_ways = (quick_not, string-made)
 
 -- SHORT HEADS
 
 module _ {s : List ℕ} (some : 0 < length s) (byte : get_or s 0 0 < 256) (short : get_or s 0 0 % 32 < 24) where
-  short-headed : Headed s (record { major = get_or s 0 0 / 32; info = get_or s 0 0 % 32; argument = get_or s 0 0 % 32; end = 1 })
-  short-headed =
+  short_headed : Headed s (record { major = get_or s 0 0 / 32; info = get_or s 0 0 % 32; argument = get_or s 0 0 % 32; end = 1 })
+  short_headed =
       let a = short_none (get_or s 0 0 % 32) short in
       let k = get_or s 0 0 % 32 in
-      let he : HeadEnd s 0 1 = let q : 0 + 1 + argument_size (get_or s 0 0 % 32) ≡ 1 = omega arith in rw q at (ends-plain {s = s} {at = 0} byte (omega arith) (λ m. short) (omega arith)) in
+      let he : HeadEnd s 0 1 = let q : 0 + 1 + argument_size (get_or s 0 0 % 32) ≡ 1 = omega arith in rw q at (ends_plain {s = s} {at = 0} byte (omega arith) (λ m. short) (omega arith)) in
       let w : Widened k k = record { is = refl; byte = omega arith } in
-      one-headed he (omega arith) (argument-low s 0 {t = true} (record { is = λ e. short; byte = byte }) refl w)
+      one_headed he (omega arith) (argument-low s 0 {t = true} (record { is = λ e. short; byte = byte }) refl w)
 
-short-mode : (i : ℕ) → i < 24 → 0 ≡ mode_by i
+short_mode : (i : ℕ) → i < 24 → 0 ≡ mode_by i
 unfolding mode_by
-short-mode i h = sym (rw (ne_eqb i 31 (λ e. omega arith), mode_by))
+short_mode i h = sym (rw (ne_eqb i 31 (λ e. omega arith), mode_by))
 
 -- tags below 24 ask nothing of their item
-plain-tag : (n left : ℕ) → n < 24 → (res : Result Item) → map_result contents res ≡ bind res (λ x r. elim (may_tag n x) [ true ↦ ok (contents x) r | false ↦ refuse bad_typed_array left ])
+plain_tag : (n left : ℕ) → n < 24 → (res : Result Item) → map_result contents res ≡ bind res (λ x r. elim (may_tag n x) [ true ↦ ok (contents x) r | false ↦ refuse bad_typed_array left ])
 unfolding map_result bind may_tag is_typed_array
-plain-tag n left h (ok x r) = rw (lt-leb 64 n (omega arith))
-plain-tag n left h (refuse k l) = refl
+plain_tag n left h (ok x r) = rw (lt-leb 64 n (omega arith))
+plain_tag n left h (refuse k l) = refl
 
 opened-by : (d : ℕ) (s : List ℕ) {n : ℕ} → 0 < length s → get_or s 0 0 < 256 → get_or s 0 0 % 32 < 24 → (d ≡ 0 → ⊥) → Opening (get_or s 0 0) n
     → told_of (length s) (all_of 4 (suc (d - 1)) (until_by 0 n) (drop 1 s)) ≡ told_of (length s) (one_of 4 (suc d) s)
 unfolding until_by tag_of
 opened-by d s {n} some byte short p (of_array z e) =
-    one-item (length s) d s (inside {s = s} (short-headed {s = s} some byte short) d (omega arith) (omega arith) p (omega arith)
-    (λ j. told_of (length s) (all_of (sym z j) (suc (d - 1)) (until_by (short-mode (get_or s 0 0 % 32) short j) (e j)) (drop 1 s))))
+    one-item (length s) d s (inside {s = s} (short_headed {s = s} some byte short) d (omega arith) (omega arith) p (omega arith)
+    (λ j. told_of (length s) (all_of (sym z j) (suc (d - 1)) (until_by (short_mode (get_or s 0 0 % 32) short j) (e j)) (drop 1 s))))
 opened-by d s {n} some byte short p (of_map z e) =
-    one-item (length s) d s (behind-map {s = s} (short-headed {s = s} some byte short) d (omega arith) (omega arith) p (omega arith) (omega arith) (short-mode (get_or s 0 0 % 32) short)
-    (ap (λ (k : ℕ). told_of (length s) (all_of 4 (suc (d - 1)) (counted k) (drop 1 s))) e ∙ ap (told_of (length s)) (all-double (suc (d - 1)) (get_or s 0 0 % 32) (drop 1 s))))
+    one-item (length s) d s (behind-map {s = s} (short_headed {s = s} some byte short) d (omega arith) (omega arith) p (omega arith) (omega arith) (short_mode (get_or s 0 0 % 32) short)
+    (ap (λ (k : ℕ). told_of (length s) (all_of 4 (suc (d - 1)) (counted k) (drop 1 s))) e ∙ ap (told_of (length s)) (all_double (suc (d - 1)) (get_or s 0 0 % 32) (drop 1 s))))
 opened-by d s {n} some byte short p (of_tag z e) =
-    one-item (length s) d s (behind-tag {s = s} (short-headed {s = s} some byte short) d (omega arith) (omega arith) p z
-    (ap (λ (k : ℕ). told_of (length s) (all_of 4 (suc (d - 1)) (until_by 0 k) (drop 1 s))) e ∙ ap (told_of (length s)) (only_one (d - 1) (drop 1 s) ∙ plain-tag (get_or s 0 0 % 32) (length s) short (item (d - 1) (drop 1 s)))))
+    one-item (length s) d s (behind-tag {s = s} (short_headed {s = s} some byte short) d (omega arith) (omega arith) p z
+    (ap (λ (k : ℕ). told_of (length s) (all_of 4 (suc (d - 1)) (until_by 0 k) (drop 1 s))) e ∙ ap (told_of (length s)) (only_one (d - 1) (drop 1 s) ∙ plain_tag (get_or s 0 0 % 32) (length s) short (item (d - 1) (drop 1 s)))))
 
 pub opens_not : {s : List ℕ} {levels n : ℕ} → n ≡ 0xff → Opens s levels n
 opens_not e = record { level = λ h. absurd (omega arith); inside = λ h. absurd (omega arith); is = λ h. absurd (omega arith) }
@@ -203,13 +203,13 @@ pub opens-made : {s : List ℕ} {levels n : ℕ} → (levels ≡ 0 → ⊥) → 
 opens-made {s} {levels} {n} p o i =
     record { level = λ h. omega arith; inside = λ h. omega arith; is = λ h. opened-by levels s (omega arith) i.byte (i.short h) p (i.is h) }
 
-pub open-inside : {s : List ℕ} {levels n : ℕ} → Opens s levels n → n < 0xff → 1 ≤ length s
-open-inside o h = omega (arith, o.inside h)
+pub open_inside : {s : List ℕ} {levels n : ℕ} → Opens s levels n → n < 0xff → 1 ≤ length s
+open_inside o h = omega (arith, o.inside h)
 
-pub shifts-open : {s : List ℕ} {r : ℕ} (d : ℕ) (u : Until) {levels n : ℕ} → Opens s levels n → n < 0xff → Small s → Quick (told_of (length (take (length s - 1) (drop 1 s))) (all_of 4 d u (take (length s - 1) (drop 1 s)))) r → Shifts 1 r
-shifts-open d u o h sm q = shifts_of d 1 u (open-inside o h) sm q
+pub shifts_open : {s : List ℕ} {r : ℕ} (d : ℕ) (u : Until) {levels n : ℕ} → Opens s levels n → n < 0xff → Small s → Quick (told_of (length (take (length s - 1) (drop 1 s))) (all_of 4 d u (take (length s - 1) (drop 1 s)))) r → Shifts 1 r
+shifts_open d u o h sm q = shifts_of d 1 u (open_inside o h) sm q
 
-pub ruleset opens-ways = (opens_not, opens-made)
+pub ruleset opens_ways = (opens_not, opens-made)
 
 -- ITEMS WITH PARTS
 
@@ -221,27 +221,27 @@ module _ {s : List ℕ} (long : length s * 1 < 2 ^ 63) {levels : ℕ} where
       record { is = λ k. all_told 4 (suc (levels - 1)) (until_by 0 n) {s = s} {from = 1} (span r) (span x) (record { inside = omega (arith, o.inside h) }) long (q.is (sh.known k)) (shifted sh k) ∙ o.is h }
 
   module _ {end : ℕ} (he : HeadEnd s 0 end) (nz : end ≡ 0 → ⊥) {n : ℕ} (en : n ≡ argument_at s 0) (dp : Deeper s levels) {r x : ℕ} (sh : Shifted end r x) where
-    pub list-array : {mode : ℕ} → mode ≡ mode_by (get_or s 0 0 % 32) → get_or s 0 0 / 32 ≡ 4
+    pub list_array : {mode : ℕ} → mode ≡ mode_by (get_or s 0 0 % 32) → get_or s 0 0 / 32 ≡ 4
         → Quick (told_of (length (take (length s - end) (drop end s))) (all_of 4 (suc (levels - 1)) (until_by mode n) (take (length s - end) (drop end s)))) r → Quick (told_of (length s) (one_of 4 (suc levels) s)) x
     unfolding pass_told
-    list-array m z q =
-        record { is = λ k. one-item (length s) levels s (behind-array (one-headed he nz en) levels (span r) (span x) long (shifted sh k) (omega (arith, dp.level)) z m (q.is (sh.known k))) }
+    list_array m z q =
+        record { is = λ k. one-item (length s) levels s (behind-array (one_headed he nz en) levels (span r) (span x) long (shifted sh k) (omega (arith, dp.level)) z m (q.is (sh.known k))) }
 
-    pub list-map : {mode : ℕ} → mode ≡ mode_by (get_or s 0 0 % 32) → get_or s 0 0 / 32 ≡ 5 → mode ≡ 0
+    pub list_map : {mode : ℕ} → mode ≡ mode_by (get_or s 0 0 % 32) → get_or s 0 0 / 32 ≡ 5 → mode ≡ 0
         → Quick (told_of (length (take (length s - end) (drop end s))) (all_of 4 (suc (levels - 1)) (until_by 0 (n * 2)) (take (length s - end) (drop end s)))) r → Quick (told_of (length s) (one_of 4 (suc levels) s)) x
     unfolding pass_told
-    list-map {mode} m z o q =
-        let hd = one-headed he nz en in
+    list_map {mode} m z o q =
+        let hd = one_headed he nz en in
         record {
           is = λ k. one-item (length s) levels s (behind-map hd levels (omega arith) (omega arith) (omega (arith, dp.level)) (omega arith) (omega arith) m
-              (map-twice (levels - 1) (head-room hd) (span r) long (span x) (shifted sh k) mode n o (q.is (sh.known k))));
+              (map_twice (levels - 1) (head-room hd) (span r) long (span x) (shifted sh k) mode n o (q.is (sh.known k))));
         }
 
     pub tag-made : get_or s 0 0 / 32 ≡ 6 → Quick (told_of (length (take (length s - end) (drop end s))) (all_of 4 (suc (levels - 1)) (until_by 0 1) (take (length s - end) (drop end s)))) r
         → {m : ℕ} → m ≡ major_number (major_of (get_or s end 0 / 32)) → {y : ℕ} → y ≡ x / 4294967296 → {v : Bool} → v ≡ may_tag_by n (eqb m 2) y → v ≡ true → Quick (told_of (length s) (one_of 4 (suc levels) s)) x
     unfolding pass_told
     tag-made z q mj {y} ey {v} may ye =
-        let hd = one-headed he nz en in
+        let hd = one_headed he nz en in
         record {
           is = λ k. one-item (length s) levels s (behind-tag hd levels (omega arith) (omega arith) (omega (arith, dp.level)) z
               (tag-good n (levels - 1) (head-room hd) (span r) long (q.is (sh.known k)) (span x) (shifted sh k) refl mj (may ∙ ap (may_tag_by n _) ey) ye refl));
@@ -250,11 +250,11 @@ module _ {s : List ℕ} (long : length s * 1 < 2 ^ 63) {levels : ℕ} where
 pub deeper : {s : List ℕ} {levels : ℕ} → Small s → (levels ≡ 0 → ⊥) → Deeper s levels
 deeper h n = record { small = h; level = omega arith }
 
-pub ruleset list-ways = (quick-not, list-array, list-map)
+pub ruleset list_ways = (quick_not, list_array, list_map)
 
-pub ruleset tag-ways = (quick-not, tag-made)
+pub ruleset tag_ways = (quick_not, tag-made)
 
-pub ruleset part-ways = (quick-not, part-opened)
+pub ruleset part_ways = (quick_not, part-opened)
 
 -- ITEMS, ONE BEHIND THE OTHER
 
@@ -266,8 +266,8 @@ module _ {d : ℕ} {s : List ℕ} {first : Until} {at size : ℕ} (mode n : ℕ)
     step-inside : at + r % 4294967296 ≤ length s
     step-inside = omega (arith, step-told.ends, run.inside, length-take (length s - at) (drop at s), length-drop at s)
 
-    pub step-add : {e : ℕ} → e ≡ r % 4294967296 → length s * 1 < 2 ^ 63 → at + e < 2 ^ 64
-    step-add h long = omega (arith, step-inside)
+    pub step_add : {e : ℕ} → e ≡ r % 4294967296 → length s * 1 < 2 ^ 63 → at + e < 2 ^ 64
+    step_add h long = omega (arith, step-inside)
 
     pub step-size : {z : ℕ} → z ≡ r / 4294967296 → length s * 1 < 2 ^ 63 → size + z < 2 ^ 64
     step-size h long = omega (arith, step-told.size, step-inside, run.small)
@@ -278,24 +278,24 @@ module _ {d : ℕ} {s : List ℕ} {first : Until} {at size : ℕ} (mode n : ℕ)
     pub step-on : {t : Bool} → Turned s at mode n t → not t ≡ true → length s * 1 < 2 ^ 63 → {e z m : ℕ} → e ≡ r % 4294967296 → z ≡ r / 4294967296 → m ≡ n - 1 → Run 4 (suc d) s first (at + e) (size + z) (until_by mode m)
     unfolding pass_told after_told
     step-on tu y long {e} {z} {m} a b c =
-        let p : at + e ≡ min (at + r % 4294967296) (2 ^ 64 - 1) = omega (arith, step-add a long) in
+        let p : at + e ≡ min (at + r % 4294967296) (2 ^ 64 - 1) = omega (arith, step_add a long) in
         let o : size + z ≡ min (size + r / 4294967296) (2 ^ 64 - 1) = omega (arith, step-size b long) in
         run_on run tu y (span r) long (q.is k) (SpanV (record { end = at + e; size = size + z })) (λ j. passed (p j) (o j)) refl c
 
   module _ {t : Bool} (tu : Turned s at mode n t) (y : not t ≡ false) (long : length s * 1 < 2 ^ 63) {end : ℕ} (c : end ≡ capped at (behind_by mode)) (sm : Small s) where
-    pub over-halves : Halves end size
-    over-halves =
+    pub over_halves : Halves end size
+    over_halves =
         let i = tu.inside (not-false t y) run.inside in
         record { ends = omega (arith, sm.is); small = omega (arith, sm.is, run.small, run.inside) }
 
     pub run-made : {r : ℕ} → r ≡ size * 4294967296 + end → Quick (told_of (length s) (all_of 4 (suc d) first s)) r
-    run-made e = quick-made over-halves.ends e (run-over run tu y long c refl)
+    run-made e = quick_made over_halves.ends e (run-over run tu y long c refl)
 
-pub ruleset step-ways = (quick-not, run-made)
+pub ruleset step_ways = (quick_not, run-made)
 
 -- the answer for the caller
-pub quick-told : (s : List ℕ) (res : Result ℕ) {r e k : ℕ} {o : PassTold} → Quick (told_of (length s) res) r → (r ≡ 0xffffffffffffffff → ⊥) → e ≡ r % 4294967296 → k ≡ r / 4294967296 → o ≡ passed e k → o ≡ told_of (length s) res
-quick-told s res q n a b h = h ∙ (λ j. passed (a j) (b j)) ∙ q.is n
+pub quick_told : (s : List ℕ) (res : Result ℕ) {r e k : ℕ} {o : PassTold} → Quick (told_of (length s) res) r → (r ≡ 0xffffffffffffffff → ⊥) → e ≡ r % 4294967296 → k ≡ r / 4294967296 → o ≡ passed e k → o ≡ told_of (length s) res
+quick_told s res q n a b h = h ∙ (λ j. passed (a j) (b j)) ∙ q.is n
 
 pub small_all : {s : List ℕ} → length s ≤ 0xfffffffe → Small s
 small_all h = record { is = omega arith }

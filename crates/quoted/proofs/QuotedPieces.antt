@@ -17,15 +17,15 @@ use Rattle.notation.specs.Reading.{marked}
 use Rattle.notation.specs.Quoted.{utf8_of, no_surrogate, character, escape, Move, gives, closed, wrong, move_at, unquote}
 use Rattle.scanning.specs.ScanAnswers.{Peeked}
 use Rattle.scanning.specs.TextRuns.{Textual, TextRun}
-use Rattle.scanning.proofs.Marked.{tail-is}
-use Rattle.scanning.proofs.ScanCode.{peeked-yes}
+use Rattle.scanning.proofs.Marked.{tail_is}
+use Rattle.scanning.proofs.ScanCode.{peeked_yes}
 use Rattle.literal_body.specs.LiteralAnswers.{scanned_by, Scans, Put, Quotes}
 use Rattle.literal_body.specs.declared.LiteralScan.{LiteralScan}
 use Rattle.escapes.specs.EscapeAnswers.{onward, EscapesUnquoted}
 use Rattle.quoted.specs.QuotedAnswers.{Part, AtPiece, AtPlain, Pieced}
 use Rattle.escapes.specs.declared.ReadEscape.{ReadEscape}
 use Rattle.quoted.specs.declared.ReadPiece.{ReadPiece}
-use Rattle.literal_body.proofs.LiteralCode.{true-false, pre-pre, ok-content, put-none, put-more}
+use Rattle.literal_body.proofs.LiteralCode.{true_false, pre_pre, ok-content, put-none, put-more}
 use Rattle.escapes.proofs.EscapeCode.{unquote-next, unquote-by, unquote-end, onward-on}
 
 -- WRITING A PART
@@ -34,8 +34,8 @@ module _ {s : List ℕ} {from end : ℕ} (x : Part s from end) where
   part-size : length (take (end - from) (drop from s)) ≡ end - from
   part-size = let a = x.ahead in let i = x.inside in length_part s from (end - from) (omega arith)
 
-  pub part-long : (b : List ℕ) (p : ℕ) → length b < end - from → Put b b p p (take (end - from) (drop from s))
-  part-long b p h = let e = part-size in record { same = refl; is = λ l. absurd (omega arith); next = λ l. absurd (omega arith) }
+  pub part_long : (b : List ℕ) (p : ℕ) → length b < end - from → Put b b p p (take (end - from) (drop from s))
+  part_long b p h = let e = part-size in record { same = refl; is = λ l. absurd (omega arith); next = λ l. absurd (omega arith) }
 
   pub part-past : (b : List ℕ) (p : ℕ) → end - from ≤ length b → length b - (end - from) < p → Put b b p p (take (end - from) (drop from s))
   part-past b p g h = let e = part-size in record { same = refl; is = λ l. absurd (omega arith); next = λ l. absurd (omega arith) }
@@ -46,27 +46,27 @@ module _ {s : List ℕ} {from end : ℕ} (x : Part s from end) where
       let a = x.ahead in
       let i = x.inside in
       let n : end - from ≤ length (drop from s) = simp length-drop (omega arith) in
-      let f : b' ≡ copied b p (drop from s) (end - from) = e ∙ ap (λ (y : List ℕ). copied b p y (end - from)) (tail-is s from) in
+      let f : b' ≡ copied b p (drop from s) (end - from) = e ∙ ap (λ (y : List ℕ). copied b p y (end - from)) (tail_is s from) in
       record {
         same = ap length f ∙ length-copied b p (drop from s) (end - from);
         is = λ l. f ∙ copied-yes b p (drop from s) (end - from) n ∙ written-fits b p (take (end - from) (drop from s)) l;
         next = λ l. ap (λ (k : ℕ). p + k) (sym z);
       }
 
-pub ruleset part-ways = (part-long, part-past, part-put)
+pub ruleset part_ways = (part_long, part-past, part-put)
 
 -- A RUN
 
-plain-move : {q b : ℕ} → Textual q 0x5c b → move_at q character b ≡ gives (b ∷ []) character
+plain_move : {q b : ℕ} → Textual q 0x5c b → move_at q character b ≡ gives (b ∷ []) character
 unfolding move_at
-plain-move {q} {b} t =
+plain_move {q} {b} t =
     let l : b ≤ 0xff = omega (arith, t.high) in
     simp (move_at, ne_eqb b q t.first, ne_eqb b 0x5c t.second, le-leb 0x20 b t.low, le-leb b 0xff l)
 
 -- what is given before what follows
 onward-more : (q : ℕ) (u w s : List ℕ) → bind (onward q (gives w character) s) (λ c r. ok (u ++ c) r) ≡ onward q (gives (u ++ w) character) s
 unfolding onward
-onward-more q u w s = pre-pre u w (unquote q character s)
+onward-more q u w s = pre_pre u w (unquote q character s)
 
 unquote-run : (s : List ℕ) (q i n : ℕ) → i + n ≤ length s → ((j : ℕ) → i ≤ j → j < i + n → Textual q 0x5c (get_or s j 0))
     → unquote q character (drop i (marked s)) ≡ onward q (gives (take n (drop i s)) character) (drop (i + n) (marked s))
@@ -79,14 +79,14 @@ unquote-run s q i (suc n) l f =
     let b = get_or s i 0 in
     let z : i + 1 + n ≡ i + suc n = omega arith in
     let r = unquote-run s q (i + 1) n (omega arith) (λ j a g. f j (omega arith) (omega arith)) in
-    unquote-by q character s i h (plain-move (f i (omega arith) (omega arith)))
+    unquote-by q character s i h (plain_move (f i (omega arith) (omega arith)))
     ∙ (ap (λ (y : Result (List ℕ)). bind y (λ c r. ok (b ∷ c) r)) r
     ∙ (onward-more q (b ∷ []) (take n (drop (i + 1) s)) (drop (i + 1 + n) (marked s))
     ∙ (ap (λ (k : ℕ). onward q (gives (b ∷ take n (drop (i + 1) s)) character) (drop k (marked s))) z
     ∙ ap (λ (y : List ℕ). onward q (gives (take (suc n) y) character) (drop (i + suc n) (marked s))) (sym (front s i h)))))
 
-pub plain-pieced : {s b b' : List ℕ} {q at next p pos : ℕ} → AtPlain s q at → TextRun s q 0x5c (at + 1) next → Put b b' p pos (take (next - at) (drop at s)) → Pieced s q at b b' p (record { good = true; next = next; size = next - at; pos = pos })
-plain-pieced {s} {b} {b'} {q} {at} {next} {p} {pos} x r w =
+pub plain_pieced : {s b b' : List ℕ} {q at next p pos : ℕ} → AtPlain s q at → TextRun s q 0x5c (at + 1) next → Put b b' p pos (take (next - at) (drop at s)) → Pieced s q at b b' p (record { good = true; next = next; size = next - at; pos = pos })
+plain_pieced {s} {b} {b'} {q} {at} {next} {p} {pos} x r w =
     let a = r.ahead in
     let i = r.inside in
     let z : at + (next - at) ≡ next = omega arith in
@@ -100,7 +100,7 @@ plain-pieced {s} {b} {b'} {q} {at} {next} {p} {pos} x r w =
         ahead = omega arith;
         inside = i;
       };
-      bad = λ g. absurd (true-false g);
+      bad = λ g. absurd (true_false g);
       same = w.same;
     }
   where
@@ -113,9 +113,9 @@ plain-pieced {s} {b} {b'} {q} {at} {next} {p} {pos} x r w =
 
 -- AN ESCAPE
 
-no-piece : {s b : List ℕ} {q at p : ℕ} {r : ReadPiece} → r ≡ record { good = false; next = 0; size = 0; pos = 0 } → unquote q character (drop at (marked s)) ≡ fault no_token → Pieced s q at b b p r
-no-piece {s} {b} {q} {at} {p} u e =
-    subst⁻¹ (Pieced s q at b b p) u (record { good = λ g. absurd (true-false (sym g)); bad = λ g. e; same = refl })
+no_piece : {s b : List ℕ} {q at p : ℕ} {r : ReadPiece} → r ≡ record { good = false; next = 0; size = 0; pos = 0 } → unquote q character (drop at (marked s)) ≡ fault no_token → Pieced s q at b b p r
+no_piece {s} {b} {q} {at} {p} u e =
+    subst⁻¹ (Pieced s q at b b p) u (record { good = λ g. absurd (true_false (sym g)); bad = λ g. e; same = refl })
 
 module _ {s : List ℕ} {q at : ℕ} (x : AtPiece s q at 0x5c) where
   escape-starts : unquote q character (drop at (marked s)) ≡ unquote q (escape no_surrogate) (drop (at + 1) (marked s))
@@ -125,11 +125,11 @@ module _ {s : List ℕ} {q at : ℕ} (x : AtPiece s q at 0x5c) where
       ∙ onward-on q (escape no_surrogate) (drop (at + 1) (marked s))
 
   module _ {t : Bool} (y : Peeked s (at + 1) q t) where
-    pub quote-pieced : {b b' : List ℕ} {p pos : ℕ} → t ≡ true → Put b b' p pos (q ∷ []) → Pieced s q at b b' p (record { good = true; next = at + 2; size = 1; pos = pos })
+    pub quote_pieced : {b b' : List ℕ} {p pos : ℕ} → t ≡ true → Put b b' p pos (q ∷ []) → Pieced s q at b b' p (record { good = true; next = at + 2; size = 1; pos = pos })
     unfolding move_at
-    quote-pieced e w =
+    quote_pieced e w =
         let z : at + 1 + 1 ≡ at + 2 = omega arith in
-        let d : drop (at + 1) (marked s) ≡ q ∷ drop (at + 2) (marked s) = rw z at (peeked-yes y e) in
+        let d : drop (at + 1) (marked s) ≡ q ∷ drop (at + 2) (marked s) = rw z at (peeked_yes y e) in
         record {
           good = λ g. record {
             given = q ∷ [];
@@ -142,16 +142,16 @@ module _ {s : List ℕ} {q at : ℕ} (x : AtPiece s q at 0x5c) where
             ahead = omega arith;
             inside = omega (arith, y.inside e);
           };
-          bad = λ g. absurd (true-false g);
+          bad = λ g. absurd (true_false g);
           same = w.same;
         }
 
     module _ {e : ReadEscape} (f : t ≡ false) (v : EscapesUnquoted s (at + 1) e) (l : q < 256) where
-      pub escape-not-pieced : {b : List ℕ} {p : ℕ} {r : ReadPiece} → not e.good ≡ true → r ≡ record { good = false; next = 0; size = 0; pos = 0 } → Pieced s q at b b p r
-      escape-not-pieced g u = no-piece u (escape-starts ∙ (v.reads q l (sym y.is ∙ f)).bad (not-true e.good g))
+      pub escape_not_pieced : {b : List ℕ} {p : ℕ} {r : ReadPiece} → not e.good ≡ true → r ≡ record { good = false; next = 0; size = 0; pos = 0 } → Pieced s q at b b p r
+      escape_not_pieced g u = no_piece u (escape-starts ∙ (v.reads q l (sym y.is ∙ f)).bad (not-true e.good g))
 
-      pub escape-pieced : {b b' : List ℕ} {p pos n : ℕ} → not e.good ≡ false → Put b b' p pos (utf8_of e.point) → n ≡ length (utf8_of e.point) → Pieced s q at b b' p (record { good = true; next = e.next; size = n; pos = pos })
-      escape-pieced g w z =
+      pub escape_pieced : {b b' : List ℕ} {p pos n : ℕ} → not e.good ≡ false → Put b b' p pos (utf8_of e.point) → n ≡ length (utf8_of e.point) → Pieced s q at b b' p (record { good = true; next = e.next; size = n; pos = pos })
+      escape_pieced g w z =
           let t = not-false e.good g in
           record {
             good = λ _. record {
@@ -163,26 +163,26 @@ module _ {s : List ℕ} {q at : ℕ} (x : AtPiece s q at 0x5c) where
               ahead = omega (arith, v.place.short t);
               inside = v.place.inside t;
             };
-            bad = λ g. absurd (true-false g);
+            bad = λ g. absurd (true_false g);
             same = w.same;
           }
 
-pub ruleset escape-piece-ways = (quote-pieced, escape-not-pieced, escape-pieced)
+pub ruleset escape_piece_ways = (quote_pieced, escape_not_pieced, escape_pieced)
 
 -- A PIECE
 
 module _ {s : List ℕ} {q at b : ℕ} (x : AtPiece s q at b) where
-  pub piece-backslash : b ≡ 0x5c → AtPiece s q at 0x5c
-  piece-backslash e = rw (← e) x
+  pub piece_backslash : b ≡ 0x5c → AtPiece s q at 0x5c
+  piece_backslash e = rw (← e) x
 
   module _ (n : b ≡ 0x5c → ⊥) where
-    pub piece-control : {o : List ℕ} {p : ℕ} {r : ReadPiece} → b < 0x20 → r ≡ record { good = false; next = 0; size = 0; pos = 0 } → Pieced s q at o o p r
+    pub piece_control : {o : List ℕ} {p : ℕ} {r : ReadPiece} → b < 0x20 → r ≡ record { good = false; next = 0; size = 0; pos = 0 } → Pieced s q at o o p r
     unfolding move_at onward
-    piece-control h u =
-        no-piece u (unquote-by q character {m = wrong} s at x.here (rw x.is (simp (move_at, ne_eqb b q x.other, ne_eqb b 0x5c n, lt-leb 0x20 b h))))
+    piece_control h u =
+        no_piece u (unquote-by q character {m = wrong} s at x.here (rw x.is (simp (move_at, ne_eqb b q x.other, ne_eqb b 0x5c n, lt-leb 0x20 b h))))
 
-    pub piece-plain : 0x20 ≤ b → b < 256 → AtPlain s q at
-    piece-plain h l = record { here = x.here; is = rw x.is (record { low = h; high = l; first = x.other; second = n }) }
+    pub piece_plain : 0x20 ≤ b → b < 256 → AtPlain s q at
+    piece_plain h l = record { here = x.here; is = rw x.is (record { low = h; high = l; first = x.other; second = n }) }
 
 -- THE LOOP
 
@@ -204,8 +204,8 @@ scans-no : {s : List ℕ} {at : ℕ} {r : LiteralScan} {res : Result (List ℕ)}
 unfolding scanned_by
 scans-no {s} {at} {r} {res} u e = subst⁻¹ (λ (x : LiteralScan). Scans s at x res) u (rw e (record { by = refl }))
 
-quotes-no : {b b' : List ℕ} {pos : ℕ} {res : Result (List ℕ)} → length b' ≡ length b → res ≡ fault no_token → Quotes b b' pos res
-quotes-no z f = record { same = z; is = λ c rest e. let w : ◌≡◌ {A = ℕ} 0 1 = cc in absurd (omega arith) }
+quotes_no : {b b' : List ℕ} {pos : ℕ} {res : Result (List ℕ)} → length b' ≡ length b → res ≡ fault no_token → Quotes b b' pos res
+quotes_no z f = record { same = z; is = λ c rest e. let w : ◌≡◌ {A = ℕ} 0 1 = cc in absurd (omega arith) }
 
 module _ {s b b' : List ℕ} {at q pos i p size : ℕ} (inv : QuoteRead s b at q pos i p size b') where
   -- the closing quote
@@ -223,8 +223,8 @@ module _ {s b b' : List ℕ} {at q pos i p size : ℕ} (inv : QuoteRead s b at q
         rw closed_is
         (record { by = record { good = refl; size = inv.sized; left = refl; inside = omega arith; ahead = omega (arith, inv.from); short = omega (arith, inv.short) } })
 
-    pub quotes-closed : Quotes b b' pos (unquote q character (drop at (marked s)))
-    quotes-closed =
+    pub quotes_closed : Quotes b b' pos (unquote q character (drop at (marked s)))
+    quotes_closed =
         record {
           same = inv.same;
           is = λ c rest y g.
@@ -242,8 +242,8 @@ module _ {s b b' : List ℕ} {at q pos i p size : ℕ} (inv : QuoteRead s b at q
     pub read-wrong : {r : LiteralScan} → not m.good ≡ true → r ≡ record { good = false; next = at; size = 0 } → Scans s at r (unquote q character (drop at (marked s)))
     read-wrong f u = scans-no u (wrong-is f)
 
-    pub quotes-wrong : not m.good ≡ true → Quotes b b'' pos (unquote q character (drop at (marked s)))
-    quotes-wrong f = quotes-no (x.same ∙ inv.same) (wrong-is f)
+    pub quotes_wrong : not m.good ≡ true → Quotes b b'' pos (unquote q character (drop at (marked s)))
+    quotes_wrong f = quotes_no (x.same ∙ inv.same) (wrong-is f)
 
     pub read-on : not m.good ≡ false → QuoteRead s b at q pos m.next m.pos (size + m.size) b''
     unfolding onward
@@ -273,7 +273,7 @@ module _ {s b b' : List ℕ} {at q pos i p size : ℕ} (inv : QuoteRead s b at q
     pub read-end : {r : LiteralScan} → r ≡ record { good = false; next = at; size = 0 } → Scans s at r (unquote q character (drop at (marked s)))
     read-end u = scans-no u end_is
 
-    pub quotes-end : Quotes b b' pos (unquote q character (drop at (marked s)))
-    quotes-end = quotes-no inv.same end_is
+    pub quotes_end : Quotes b b' pos (unquote q character (drop at (marked s)))
+    quotes_end = quotes_no inv.same end_is
 
-pub ruleset read-ways = (read-closed, quotes-closed, read-wrong, quotes-wrong, read-end, quotes-end)
+pub ruleset read_ways = (read-closed, quotes_closed, read-wrong, quotes_wrong, read-end, quotes_end)

@@ -33,8 +33,8 @@ use Rattle.encoding.specs.declared.answer.ReadAnswer.{ReadAnswer}
 use Rattle.encoding.specs.declared.answer.ReadAnswer.TheVariants.{Made, Refused}
 use Rattle.encoding.proofs.ReadTokens.{LeafFine, Fine, next-fine}
 use Rattle.encoding.proofs.ReadSmall.{head-short, head-some}
-use Rattle.encoding.proofs.Telling.{bind-yes, told-ok, told_more, told-stop, token, past}
-use Rattle.encoding.proofs.ReadRules.{one-is, shape-low, shape-shuts, opens_by, code-some}
+use Rattle.encoding.proofs.Telling.{bind-yes, told-ok, told_more, told_stop, token, past}
+use Rattle.encoding.proofs.ReadRules.{one-is, shape_low, shape_shuts, opens_by, code-some}
 use Rattle.string_reader.proofs.ReadStrings.{item-literal}
 use Rattle.encoding.proofs.Cuts.{next-cut}
 use Rattle.opening.proofs.Openers.{leaf-bytes, thirteen}
@@ -45,13 +45,13 @@ use Rattle.opening.specs.declared.Opening.{Opening}
 
 -- THE SAME ANSWER
 module _ {a : ReadAnswer} where
-  pub again-made : {m : MadeS} → a ≡ Made m → Made (record { next = m.next; size = m.size; count = m.count; indicator = m.indicator; binary = m.binary; length = m.length }) ≡ a
-  again-made e = sym e
+  pub again_made : {m : MadeS} → a ≡ Made m → Made (record { next = m.next; size = m.size; count = m.count; indicator = m.indicator; binary = m.binary; length = m.length }) ≡ a
+  again_made e = sym e
 
-  pub again-refused : {e : Refusal} → a ≡ Refused e → Refused (record { kind = e.kind; place = e.place }) ≡ a
-  again-refused e = sym e
+  pub again_refused : {e : Refusal} → a ≡ Refused e → Refused (record { kind = e.kind; place = e.place }) ≡ a
+  again_refused e = sym e
 
-pub ruleset again-ways = (again-made, again-refused)
+pub ruleset again_ways = (again_made, again_refused)
 
 -- from a buffer that is the same up to a place
 wrote-from : {b b₁ b₂ : List ℕ} {pos : ℕ} {ws : List ℕ} → length b₁ ≡ length b → take pos b₁ ≡ take pos b → Wrote b₁ b₂ pos ws → Wrote b b₂ pos ws
@@ -100,9 +100,9 @@ module _ {s b b₁ b₂ : List ℕ} {pos at : ℕ} {q : LeafRead} {a : ReadAnswe
   pub item-whole : LeafTold s b b₁ at pos q → ReadTold of_item s b₁ b₂ (length (marked s) - from) pos a (reads (one d) (drop from (marked s))) → ReadTold of_item s b b₂ (length (marked s) - from) pos a (reads (one d) (drop from (marked s)))
   item-whole lt h = told-from lt h
 
-  pub item-deep : {a' : ReadAnswer} → LeafTold s b b₁ at pos q → ReadTold of_item s b₁ b₂ (length (marked s) - from) pos a (reads (one d) (drop from (marked s))) → a' ≡ a
+  pub item_deep : {a' : ReadAnswer} → LeafTold s b b₁ at pos q → ReadTold of_item s b₁ b₂ (length (marked s) - from) pos a (reads (one d) (drop from (marked s))) → a' ≡ a
       → ReadTold of_item s b b₂ (length (marked s) - from) pos a' (reads (one d) (drop from (marked s)))
-  item-deep lt h e = rw e (told-from lt h)
+  item_deep lt h e = rw e (told-from lt h)
 
 -- AN ITEM THAT OPENS NO LEVEL, by its token
 low-leaf : (n : ℕ) (tok : Token) (k : ℕ) → Fine n tok k → code_of tok ≤ 3 → (code_of tok ≡ 0 → ⊥) → (x : Item) × (tok ≡ begins (leaf x)) × LeafFine x
@@ -115,7 +115,7 @@ low-leaf n (begins (opens (bracket i))) k f h z = absurd (omega arith)
 low-leaf n (begins (opens (brace i))) k f h z = absurd (omega arith)
 low-leaf n (begins (opens (tagging w m))) k f h z = absurd (omega arith)
 low-leaf n (begins (opens embedding)) k f h z = absurd (omega arith)
-low-leaf n (closes h' i) k f h z = absurd (omega (arith, shape-low h'))
+low-leaf n (closes h' i) k f h z = absurd (omega (arith, shape_low h'))
 low-leaf n a_comma k f h z = absurd (omega arith)
 low-leaf n a_colon k f h z = absurd (omega arith)
 
@@ -129,7 +129,7 @@ code-chunking n (begins (opens (bracket i))) k f e = absurd (omega arith)
 code-chunking n (begins (opens (brace i))) k f e = absurd (omega arith)
 code-chunking n (begins (opens (tagging w m))) k f e = absurd (omega arith)
 code-chunking n (begins (opens embedding)) k f e = absurd (omega arith)
-code-chunking n (closes h i) k f e = absurd (true≢false (sym thirteen ∙ ap opens_by (sym e) ∙ shape-shuts h))
+code-chunking n (closes h i) k f e = absurd (true≢false (sym thirteen ∙ ap opens_by (sym e) ∙ shape_shuts h))
 code-chunking n a_comma k f e = absurd (omega arith)
 code-chunking n a_colon k f e = absurd (omega arith)
 
@@ -164,8 +164,8 @@ unfolding Tells
 tells_none n e f = rw e f
 
 module _ {s b b' : List ℕ} {pos at : ℕ} {t : Cut} {a : ReadAnswer} (d : ℕ) (tk : Took s at t) where
-  pub flat-none : t.kind ≡ 0 → Strayed d t a → ReadTold of_item s b b' (length (marked s) - at) pos a (reads (one d) (drop at (marked s)))
-  flat-none e f = told-stop d _ _ tk f (one-is d (drop at (marked s))) (λ tok r c u. absurd (omega (arith, code-some tok, c)))
+  pub flat_none : t.kind ≡ 0 → Strayed d t a → ReadTold of_item s b b' (length (marked s) - at) pos a (reads (one d) (drop at (marked s)))
+  flat_none e f = told_stop d _ _ tk f (one-is d (drop at (marked s))) (λ tok r c u. absurd (omega (arith, code-some tok, c)))
 
   leaf-told : (x : Item) (r : List ℕ) → next (drop at (marked s)) ≡ ok (begins (leaf x)) r → Seen s t (begins (leaf x)) r → LeafFine x → t.place < t.next → Leafed t b b' pos a
       → ReadTold of_item s b b' (length (marked s) - at) pos a (reads (one d) (drop at (marked s)))
@@ -185,21 +185,21 @@ module _ {s b b' : List ℕ} {pos at : ℕ} {t : Cut} {a : ReadAnswer} (d : ℕ)
         wrote = rw hs at lf.wrote;
       })
 
-  pub flat-other : 5 < t.kind → (t.kind ≡ 13 → ⊥) → Flat s at d → Strayed d t a → ReadTold of_item s b b' (length (marked s) - at) pos a (reads (one d) (drop at (marked s)))
-  flat-other l n13 h f =
-      told-stop d _ _ tk f (one-is d (drop at (marked s)))
+  pub flat_other : 5 < t.kind → (t.kind ≡ 13 → ⊥) → Flat s at d → Strayed d t a → ReadTold of_item s b b' (length (marked s) - at) pos a (reads (one d) (drop at (marked s)))
+  flat_other l n13 h f =
+      told_stop d _ _ tk f (one-is d (drop at (marked s)))
       (λ tok r c u. none-begins d (place (drop at (marked s)) - 1) tok (length r) (place (drop at (marked s))) r (fine-at (drop at (marked s)) tok r u) (rw c at l) (λ q. n13 (c ∙ q)) (λ z op e. h.is z op r (u ∙ ap (λ (x : Token). ok x r) e)))
 
-  pub flat-leaf : (t.kind ≡ 0 → ⊥) → t.kind ≤ 3 → Leafed t b b' pos a → ReadTold of_item s b b' (length (marked s) - at) pos a (reads (one d) (drop at (marked s)))
-  flat-leaf n h lf =
+  pub flat_leaf : (t.kind ≡ 0 → ⊥) → t.kind ≤ 3 → Leafed t b b' pos a → ReadTold of_item s b b' (length (marked s) - at) pos a (reads (one d) (drop at (marked s)))
+  flat_leaf n h lf =
       let ta = token tk n in
       let lo = low-leaf (place (drop at (marked s)) - 1) ta.tok (length ta.rest) ta.fine (rw ta.seen.code at h) (λ z. n (ta.seen.code ∙ z)) in
       leaf-told lo.0 ta.rest (ta.is ∙ ap (λ (u : Token). ok u ta.rest) lo.1) (rw lo.1 at ta.seen) lo.2 ta.ahead lf
 
-  pub flat-chunked : t.kind ≡ 13 → ReadTold of_item s b b' (length (marked s) - t.next + 1) pos a (chunked_read d (drop t.next (marked s)))
+  pub flat_chunked : t.kind ≡ 13 → ReadTold of_item s b b' (length (marked s) - t.next + 1) pos a (chunked_read d (drop t.next (marked s)))
       → ReadTold of_item s b b' (length (marked s) - at) pos a (reads (one d) (drop at (marked s)))
   unfolding one_rule beginning obey chunked_read
-  flat-chunked e h =
+  flat_chunked e h =
       let ta = token tk (λ z. omega arith) in
       let c : ta.tok ≡ begins chunking = code-chunking (place (drop at (marked s)) - 1) ta.tok (length ta.rest) ta.fine (sym ta.seen.code ∙ e) in
       let le : length (marked s) - t.next + 1 ≤ length (marked s) - at = omega (arith, past tk ta.ahead, ta.seen.next.inside) in
@@ -207,10 +207,10 @@ module _ {s b b' : List ℕ} {pos at : ℕ} {t : Cut} {a : ReadAnswer} (d : ℕ)
       one-is d (drop at (marked s)) ∙ bind-yes (next (drop at (marked s))) _ (begins chunking) ta.rest (ta.is ∙ ap (λ (u : Token). ok u ta.rest) c) ∙ ap (λ (r : List ℕ). chunked_read d r) (sym ta.seen.next.drops) in
       told_more le (rw q h)
 
-pub ruleset flat-ways = (flat-none, flat-leaf, flat-chunked, flat-other, item-literal)
+pub ruleset flat_ways = (flat_none, flat_leaf, flat_chunked, flat_other, item-literal)
 
-pub flat-open : {s : List ℕ} {at : ℕ} {t : Cut} (pos : ℕ) → Took s at t → Room s at pos → t.kind ≡ 13 → Opened s t.next pos t.next
-flat-open pos tk rm e =
+pub flat_open : {s : List ℕ} {at : ℕ} {t : Cut} (pos : ℕ) → Took s at t → Room s at pos → t.kind ≡ 13 → Opened s t.next pos t.next
+flat_open pos tk rm e =
     let ta = token tk (λ z. omega arith) in
     record { inside = ta.seen.next.inside; room = omega (arith, rm.room, past tk ta.ahead, ta.seen.next.inside); before = ta.seen.next.inside }
 
@@ -218,24 +218,24 @@ pub room-inside : {s : List ℕ} {at pos : ℕ} → Room s at pos → at ≤ len
 room-inside r = r.inside
 
 -- WHERE NO LEVEL MAY BE OPENED, or nothing opens one
-pub flat-deep : {s : List ℕ} {from d : ℕ} → d ≡ 0 → Flat s from d
-flat-deep e = record { is = λ n. absurd (n e) }
+pub flat_deep : {s : List ℕ} {from d : ℕ} → d ≡ 0 → Flat s from d
+flat_deep e = record { is = λ n. absurd (n e) }
 
-pub flat-opening : {s : List ℕ} {from d : ℕ} {o : Opening} → OpeningTold s from o → o.opener ≡ Nothing → Flat s from d
-flat-opening x e = record { is = λ n op r q. x.none e op r q }
+pub flat_opening : {s : List ℕ} {from d : ℕ} {o : Opening} → OpeningTold s from o → o.opener ≡ Nothing → Flat s from d
+flat_opening x e = record { is = λ n op r q. x.none e op r q }
 
 pub level-at : {s b b' : List ℕ} {from at pos d : ℕ} {q : LeafRead} → Skips s from at → LeafTold s b b' at pos q → (d ≡ 0 → ⊥) → LevelAt s from at q d
 level-at sk lt n = record { opened = record { skips = sk; tag = lt.tag }; some = omega arith }
 
-pub level-open : {s : List ℕ} {from at d : ℕ} {q : LeafRead} → LevelAt s from at q d → LeafOpened s from at q
-level-open l = l.opened
+pub level_open : {s : List ℕ} {from at d : ℕ} {q : LeafRead} → LevelAt s from at q d → LeafOpened s from at q
+level_open l = l.opened
 
 pub level-skips : {s : List ℕ} {from at d : ℕ} {q : LeafRead} → LevelAt s from at q d → Skips s from at
 level-skips l = l.opened.skips
 
-pub level-odd : {s b b' : List ℕ} {from at pos d : ℕ} {q r : LeafRead} {v : Bool} {a : ReadAnswer} → LevelAt s from at q d → LeafTold s b b' at pos r → v ≡ is_leaf r.found → v ≡ true
+pub level_odd : {s b b' : List ℕ} {from at pos d : ℕ} {q r : LeafRead} {v : Bool} {a : ReadAnswer} → LevelAt s from at q d → LeafTold s b b' at pos r → v ≡ is_leaf r.found → v ≡ true
     → a ≡ Made (record { next = r.next; size = r.size; count = 1; indicator = 0; binary = r.binary; length = r.length }) → ReadTold of_item s b b' (length (marked s) - from) pos a (reads (one d) (drop from (marked s)))
-level-odd {d = d} l lt e t f = item-leaf d (level-skips l) lt e t f
+level_odd {d = d} l lt e t f = item-leaf d (level-skips l) lt e t f
 
 pub level-some : {s : List ℕ} {from at d : ℕ} {q : LeafRead} → LevelAt s from at q d → 1 ≤ d
 level-some l = l.some
@@ -248,4 +248,4 @@ module _ {n head next' size length' place' : ℕ} {binary r : Bool} {a : ReadAns
   pub tagged-no : r ≡ false → Denies bad_typed_array place' a → TagMade n head next' size binary length' place' a
   tagged-no t f = record { refused = λ z. f; made = λ z. absurd (true≢false (sym z ∙ sym e ∙ t)) }
 
-pub ruleset tagged-ways = (tagged-yes, tagged-no)
+pub ruleset tagged_ways = (tagged-yes, tagged-no)

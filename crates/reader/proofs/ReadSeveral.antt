@@ -25,10 +25,10 @@ use Rattle.encoding.specs.declared.answer.MadeItem.{MadeItem as MadeS}
 use Rattle.encoding.specs.declared.answer.ReadAnswer.{ReadAnswer}
 use Rattle.encoding.specs.declared.answer.ReadAnswer.TheVariants.{Made, Refused}
 use Rattle.encoding.proofs.Wrote.{wrote_nothing, wrote-more}
-use Rattle.encoding.proofs.Telling.{bind-yes, told-ok, told-lost, told-stop, Got, got, lost}
-use Rattle.encoding.proofs.ReadRules.{shape-low}
+use Rattle.encoding.proofs.Telling.{bind-yes, told-ok, told-lost, told_stop, Got, got, lost}
+use Rattle.encoding.proofs.ReadRules.{shape_low}
 use Rattle.closing.proofs.Closers.{shown-zero}
-use Rattle.reader.proofs.Machine.{to-next, to_last, to-stray, tail-is, start_is, empty_view, empty-is}
+use Rattle.reader.proofs.Machine.{to_next, to_last, to_stray, tail_is, start_is, empty_view, empty-is}
 use Rattle.closers.specs.CloserTables.{shape_of, is_single, starts, turned, counted, comma_code, separator_code, closer_code, shown_by}
 use Rattle.closing.specs.Closings.{StartsAt, Follows}
 use Rattle.reader.specs.Several.{as_seen, several_read, added, held_by, last_of, step_to, tail_read, onward, StrayTold}
@@ -96,28 +96,28 @@ unfolding is_single
 single-key h false e f = refl
 single-key h true e f = absurd (true≢false (sym e ∙ ap is_single (f refl)))
 
-comma-low : (h : Closer) → comma_code h ≤ 11
+comma_low : (h : Closer) → comma_code h ≤ 11
 unfolding comma_code
-comma-low Square = omega arith
-comma-low Curly = omega arith
-comma-low Round = omega arith
-comma-low Angle = omega arith
-comma-low Whole = omega arith
-comma-low Nothing = omega arith
+comma_low Square = omega arith
+comma_low Curly = omega arith
+comma_low Round = omega arith
+comma_low Angle = omega arith
+comma_low Whole = omega arith
+comma_low Nothing = omega arith
 
-close-not : (h : Closer) (k : Bool) (j : Indicator) → k ≡ false → code_of (closes (shape_of h) j) ≡ separator_code h k → ⊥
+close_not : (h : Closer) (k : Bool) (j : Indicator) → k ≡ false → code_of (closes (shape_of h) j) ≡ separator_code h k → ⊥
 unfolding code_of separator_code
-close-not h true j e q = absurd (true≢false e)
-close-not h false j e q = omega (arith, shape-low (shape_of h), comma-low h)
+close_not h true j e q = absurd (true≢false e)
+close_not h false j e q = omega (arith, shape_low (shape_of h), comma_low h)
 
-close-yes : (h : Closer) (k : Bool) (j : Indicator) → k ≡ false → code_of (closes (shape_of h) j) ≡ closer_code h k
+close_yes : (h : Closer) (k : Bool) (j : Indicator) → k ≡ false → code_of (closes (shape_of h) j) ≡ closer_code h k
 unfolding code_of closer_code
-close-yes h true j e = absurd (true≢false e)
-close-yes h false j e = refl
+close_yes h true j e = absurd (true≢false e)
+close_yes h false j e = refl
 
-close-mark : (h : Closer) (j : Indicator) → mark_of (closes (shape_of h) j) ≡ indicator_number j
+close_mark : (h : Closer) (j : Indicator) → mark_of (closes (shape_of h) j) ≡ indicator_number j
 unfolding mark_of
-close-mark h j = refl
+close_mark h j = refl
 
 -- THE START
 module _ {s b : List ℕ} {i pos : ℕ} {h : Closer} {c : Closing} (d : ℕ) (rm : Room s i pos) (st : StartsAt s i h c) where
@@ -175,7 +175,7 @@ before-added bs n k x v =
 module _ {h : Closer} {d : ℕ} {s b₀ : List ℕ} {i pos at n size : ℕ} {key : Bool} {b b' : List ℕ} (a : ReadAnswer)
     (L : Listing h d s b₀ i pos at n size key b) (told : ReadTold of_item s b b' (length (marked s) - at) (pos + size) a (reads (one d) (drop at (marked s)))) where
   whole : several_read h d (drop i (marked s)) ≡ bind (reads (one d) (drop at (marked s))) (λ x r. bind (onward h key d x r) (λ v r'. ok (before L.bytes n v) r'))
-  whole = L.left ∙ ap (λ (u : Result View). bind u (λ v r. ok (before L.bytes n v) r)) (tail-is h key d (drop at (marked s)) L.keyed) ∙ bind_assoc (reads (one d) (drop at (marked s))) _ _
+  whole = L.left ∙ ap (λ (u : Result View). bind u (λ v r. ok (before L.bytes n v) r)) (tail_is h key d (drop at (marked s)) L.keyed) ∙ bind_assoc (reads (one d) (drop at (marked s))) _ _
 
   pub several-refused : {b'' : List ℕ} {e : Refusal} → a ≡ Refused e → ReadTold as_seen s b₀ b'' (length (marked s) - i) pos (Refused e) (several_read h d (drop i (marked s)))
   several-refused f = told-lost _ _ (lost a told f) whole
@@ -246,7 +246,7 @@ module _ {h : Closer} {d : ℕ} {s b₀ : List ℕ} {i pos at n size : ℕ} {key
             bytes = L.bytes ++ encode x;
             left =
                 several-is o.several ∙ bind-yes (next (drop m.next (marked s))) _ o.tok (drop f.next (marked s)) o.next_at.is
-                ∙ ap (λ (u : Result View). bind u (λ v r. ok (before L.bytes n v) r)) (to-next (tail_read h (turned h key) d) (separator_code h key) (closer_code h key) (counted key) (last_of h) d x o.tok (place (drop m.next (marked s))) (drop f.next (marked s)) o.is)
+                ∙ ap (λ (u : Result View). bind u (λ v r. ok (before L.bytes n v) r)) (to_next (tail_read h (turned h key) d) (separator_code h key) (closer_code h key) (counted key) (last_of h) d x o.tok (place (drop m.next (marked s))) (drop f.next (marked s)) o.is)
                 ∙ bind_assoc (tail_read h (turned h key) d (drop f.next (marked s))) _ _
                 ∙ bind-same (tail_read h (turned h key) d (drop f.next (marked s))) _ _ (λ v r q. ap (λ (y : View). ok y r) (before-added L.bytes n (counted key) x v ∙ ap (λ (y : ℕ). before (L.bytes ++ encode x) (n + y) v) (sym ke)))
                 ∙ ap (λ (y : Bool). bind (tail_read h y d (drop f.next (marked s))) (λ v r. ok (before (L.bytes ++ encode x) (n + k) v) r)) (sym te);
@@ -256,8 +256,8 @@ module _ {h : Closer} {d : ℕ} {s b₀ : List ℕ} {i pos at n size : ℕ} {key
             wrote = written;
           }
 
-      pub several-less : f.follow ≡ On → length (marked s) - f.next < length (marked s) - at
-      several-less e = let o = fo.on e in omega (arith, o.next_at.ahead, o.next_at.inside, stands-left it.moved.stands, it.moved.stands.inside, it.moved.short, some, L.inside)
+      pub several_less : f.follow ≡ On → length (marked s) - f.next < length (marked s) - at
+      several_less e = let o = fo.on e in omega (arith, o.next_at.ahead, o.next_at.inside, stands-left it.moved.stands, it.moved.stands.inside, it.moved.short, some, L.inside)
 
       module _ {a' : ReadAnswer} where
         -- the last item
@@ -297,14 +297,14 @@ module _ {h : Closer} {d : ℕ} {s b₀ : List ℕ} {i pos at n size : ℕ} {key
                 (several-is q ∙ bind-yes (next (drop m.next (marked s))) _ (closes (shape_of h) o.by) (drop f.next (marked s)) o.next_at.is
                 ∙ ap (λ (u : Result View). bind u (λ v r. ok (before L.bytes n v) r))
                 (to_last (tail_read h (turned h key) d) (separator_code h key) (closer_code h key) (counted key) (last_of h) d x (closes (shape_of h) o.by) (place (drop m.next (marked s))) (drop f.next (marked s))
-                (close-not h key o.by z.0) (close-yes h key o.by z.0))
-                ∙ ap (λ (y : ℕ). ok (before L.bytes n (last_of h x y)) (drop f.next (marked s))) (close-mark h o.by ∙ sym o.is))
+                (close_not h key o.by z.0) (close_yes h key o.by z.0))
+                ∙ ap (λ (y : ℕ). ok (before L.bytes n (last_of h x y)) (drop f.next (marked s))) (close_mark h o.by ∙ sym o.is))
 
         pub several-stray : {a'' : ReadAnswer} → f.follow ≡ Stray → StrayTold s m.next d a'' → a' ≡ a'' → ReadTold as_seen s b₀ b' (length (marked s) - i) pos a' (several_read h d (drop i (marked s)))
         unfolding bind
         several-stray e st z =
             let t = fo.stray e in
-            rw z (told-stop d _ _ st.took st.strayed (several-is t.several)
-            (λ tok r c u. ap (λ (w : Result View). bind w (λ v r. ok (before L.bytes n v) r)) (to-stray (tail_read h (turned h key) d) (separator_code h key) (closer_code h key) (counted key) (last_of h) d x tok (place (drop m.next (marked s))) r (t.separates tok r u) (t.closes tok r u))))
+            rw z (told_stop d _ _ st.took st.strayed (several-is t.several)
+            (λ tok r c u. ap (λ (w : Result View). bind w (λ v r. ok (before L.bytes n v) r)) (to_stray (tail_read h (turned h key) d) (separator_code h key) (closer_code h key) (counted key) (last_of h) d x tok (place (drop m.next (marked s))) r (t.separates tok r u) (t.closes tok r u))))
 
-pub ruleset several-ways = (several-empty, several-refused, several-over, several-stray)
+pub ruleset several_ways = (several-empty, several-refused, several-over, several-stray)

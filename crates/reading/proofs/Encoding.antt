@@ -25,7 +25,7 @@ use Rattle.outcome.specs.declared.Answer.{Answer}
 use Rattle.outcome.specs.declared.Answer.TheVariants.{Refused}
 use Rattle.text_check.specs.declared.Text.{Text}
 use Rattle.text_check.specs.declared.Text.TheVariants.{Good, Refused as TextRefused}
-use Rattle.outcome.proofs.Room.{roomy-small, roomy-large}
+use Rattle.outcome.proofs.Room.{roomy-small, roomy_large}
 use Rattle.encoding.proofs.Wrote.{wrote-held}
 use Rattle.text_check.proofs.Texts.{passes, fails, passed-short}
 
@@ -55,17 +55,17 @@ module _ {s made made' : List ℕ} (b : List ℕ) {a : ReadAnswer} (t : ReadTold
   pub encode-refused : {e : Refusal} → a ≡ ReadRefused e → Encodes s b b (Refused e)
   encode-refused i = encode-no s b (lost a t i)
 
-pub ruleset encode-ways = (encode-done, encode-refused)
+pub ruleset encode_ways = (encode-done, encode-refused)
 
 -- THE BUFFERS
 module _ {s made : List ℕ} where
-  pub small-ready : length s ≤ 511 → length made ≡ 4608 → Ready s made
-  small-ready f l = record { short = omega arith; roomy = roomy-small f l }
+  pub small_ready : length s ≤ 511 → length made ≡ 4608 → Ready s made
+  small_ready f l = record { short = omega arith; roomy = roomy-small f l }
 
-  pub large-ready : length s ≤ most_bytes → length made ≡ most_bytes → Ready s made
-  large-ready f l = record { short = f; roomy = roomy-large l }
+  pub large_ready : length s ≤ most_bytes → length made ≡ most_bytes → Ready s made
+  large_ready f l = record { short = f; roomy = roomy_large l }
 
-pub ruleset ready-ways = (small-ready, large-ready)
+pub ruleset ready_ways = (small_ready, large_ready)
 
 -- THE OPERATION
 module _ (s b : List ℕ) {t : Text} (h : text_told t ≡ passing s) where
@@ -83,4 +83,4 @@ module _ (s b : List ℕ) {t : Text} (h : text_told t ≡ passing s) where
       let p : passing s ≡ refused (kind_number e.kind) e.place = sym h ∙ rw i in
       rw (fails s (items_read s) p)
 
-pub ruleset read-ways = (read_short, read_done, read-refused)
+pub ruleset read_ways = (read_short, read_done, read-refused)

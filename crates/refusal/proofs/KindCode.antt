@@ -21,7 +21,7 @@ above-next z a = record { is = λ l. omega (arith, a.is l, z) }
 pub kinded : {k : RefusalKind} {n : ℕ} (m : ℕ) → n ≡ m → kind_number k ≡ m → Kinded n k
 kinded m e f = record { is = λ l h. f ∙ sym e }
 
-pub kinded-last : {k : RefusalKind} {n : ℕ} → kind_number k ≡ 17 → Above n 16 → Kinded n k
-kinded-last {n = n} e a = record { is = λ l h. let i : n ≡ 17 = omega (arith, a.is l) in e ∙ sym i }
+pub kinded_last : {k : RefusalKind} {n : ℕ} → kind_number k ≡ 17 → Above n 16 → Kinded n k
+kinded_last {n = n} e a = record { is = λ l h. let i : n ≡ 17 = omega (arith, a.is l) in e ∙ sym i }
 
-pub ruleset kinded-ways = (kinded, kinded-last, above-none, above-next)
+pub ruleset kinded_ways = (kinded, kinded_last, above-none, above-next)

@@ -26,14 +26,14 @@ pub accepted-count : (n : ℕ) {b b₁ b₂ b₃ : List ℕ} {p q r : ℕ} → P
 unfolding accepted_line
 accepted-count n f g h = prints-more f (prints-more g h)
 
-pub accepted-lines : (w : List ℕ) {b b₁ b₂ b₃ : List ℕ} {p q r : ℕ} → Prints b b₁ 0 (accepted_line (length w)) p → Prints b₁ b₂ p (content_of false w) q → Prints b₂ b₃ q (0x0a ∷ []) r
+pub accepted_lines_lem : (w : List ℕ) {b b₁ b₂ b₃ : List ℕ} {p q r : ℕ} → Prints b b₁ 0 (accepted_line (length w)) p → Prints b₁ b₂ p (content_of false w) q → Prints b₂ b₃ q (0x0a ∷ []) r
     → Prints b b₃ 0 (accepted_lines w) r
 unfolding accepted_lines content_of
-accepted-lines w f g h = prints-more f (prints-more g h)
+accepted_lines_lem w f g h = prints-more f (prints-more g h)
 
-pub at-line : (place : ℕ) {b b₁ b₂ b₃ : List ℕ} {pos p q r : ℕ} → Prints b b₁ pos (ascii " at ") p → Prints b₁ b₂ p (decimal_of place) q → Prints b₂ b₃ q (0x0a ∷ []) r → Prints b b₃ pos (at_place place) r
+pub at_line : (place : ℕ) {b b₁ b₂ b₃ : List ℕ} {pos p q r : ℕ} → Prints b b₁ pos (ascii " at ") p → Prints b₁ b₂ p (decimal_of place) q → Prints b₂ b₃ q (0x0a ∷ []) r → Prints b b₃ pos (at_place place) r
 unfolding at_place
-at-line place f g h = prints-more f (prints-more g h)
+at_line place f g h = prints-more f (prints-more g h)
 
 -- a report whose length is a number of the code
 pub reported : {b b' ws : List ℕ} {r : ℕ} → length ws < 2 ^ 64 → Prints b b' 0 ws r → Reports b b' ws r
@@ -46,11 +46,11 @@ refused-length n place h k =
     let j = decimal-length 19 place (omega arith) in
     simp length-append (omega arith)
 
-pub refused-line : (n place : ℕ) {b b₁ b₂ b₃ : List ℕ} {k p q r : ℕ} → Fits bits8 k → Fits bits64 place → k ≡ n → Prints b b₁ 0 (ascii "refused ") p → Prints b₁ b₂ p (decimal_of k) q → Prints b₂ b₃ q (at_place place) r → Reports b b₃ (refused_line n place) r
+pub refused_line_lem : (n place : ℕ) {b b₁ b₂ b₃ : List ℕ} {k p q r : ℕ} → Fits bits8 k → Fits bits64 place → k ≡ n → Prints b b₁ 0 (ascii "refused ") p → Prints b₁ b₂ p (decimal_of k) q → Prints b₂ b₃ q (at_place place) r → Reports b b₃ (refused_line n place) r
 unfolding refused_line
-refused-line n place {k = k} u v e f g h = rw e at (reported (refused-length k place (omega arith) (omega arith)) (prints-more f (prints-more g h)))
+refused_line_lem n place {k = k} u v e f g h = rw e at (reported (refused-length k place (omega arith) (omega arith)) (prints-more f (prints-more g h)))
 
-pub ruleset lines = (accepted-count, accepted-lines, at-line, refused-line)
+pub ruleset lines = (accepted-count, accepted_lines_lem, at_line, refused_line_lem)
 
 -- WHAT IS SAID OF AN ANSWER, whose result stands at the front of b
 accepted-length : (w : List ℕ) → length w ≤ most_bytes → length (accepted_lines w) < 2 ^ 64
@@ -78,4 +78,4 @@ pub said-refused : (lines' : List ℕ → List ℕ) (b : List ℕ) {a : Answer} 
 unfolding said_of
 said-refused lines' b i p = rw i p
 
-pub ruleset said-ways = (said-bytes, said-text, said-refused)
+pub ruleset said_ways = (said-bytes, said-text, said-refused)

@@ -19,7 +19,7 @@ use Rattle.outcome.specs.Outcomes.{outcome_of}
 use Rattle.operations.specs.Programs.{refused_line, said, empty}
 use Rattle.outcome.specs.declared.Answer.{Answer}
 use Rattle.outcome.specs.declared.Answer.TheVariants.{Written, Refused}
-use Rattle.cbor.proofs.Results.{refused-not-accepted}
+use Rattle.cbor.proofs.Results.{refused_not_accepted}
 use Rattle.report_lines.specs.Reports.{Reports, said_of}
 use Rattle.operations.proofs.Verdicts.{front-all, fitting-yes, fitting-no, fitting-same}
 
@@ -33,20 +33,20 @@ module _ (lines : List ℕ → List ℕ) (b b' : List ℕ) (a : Answer) where
       let m : n ≡ length w = cc in
       let j : b' ≡ over b 0 w = ap (λ (o : Outcome ℕ). o.buffer) f in
       ap lines (sym (rw (m, j) (front-all b w)))
-  said-done (refused k q) n e i = absurd (refused-not-accepted (sym (ap (λ (o : Outcome ℕ). o.answer) (rw i at e))))
+  said-done (refused k q) n e i = absurd (refused_not_accepted (sym (ap (λ (o : Outcome ℕ). o.answer) (rw i at e))))
 
   said-refused : (v : Verdict (List ℕ)) (e : Refusal) → outcome_of a b' ≡ written b (λ w. w) v → a ≡ Refused e → said lines v ≡ refused_line (kind_number e.kind) e.place
   unfolding outcome_of written said
-  said-refused (accepted w) e f i = absurd (refused-not-accepted (ap (λ (o : Outcome ℕ). o.answer) (rw i at f)))
+  said-refused (accepted w) e f i = absurd (refused_not_accepted (ap (λ (o : Outcome ℕ). o.answer) (rw i at f)))
   said-refused (refused k q) e f i =
       let g : ◌≡◌ {A = Verdict ℕ} (refused (kind_number e.kind) e.place) (refused k q) = ap (λ (o : Outcome ℕ). o.answer) (rw i at f) in
       let j : kind_number e.kind ≡ k = cc in
       let l : e.place ≡ q = cc in
       rw (j, l)
 
-  said-of : (v : Verdict (List ℕ)) → outcome_of a b' ≡ written b (λ w. w) v → said_of lines a b' ≡ said lines v
+  said_of_lem : (v : Verdict (List ℕ)) → outcome_of a b' ≡ written b (λ w. w) v → said_of lines a b' ≡ said lines v
   unfolding said_of
-  said-of v h = go a refl
+  said_of_lem v h = go a refl
     where
       go : (x : Answer) → a ≡ x → said_of lines a b' ≡ said lines v
       go (Written n) i = rw i (sym (said-done v n h i))
@@ -63,17 +63,17 @@ unfolding empty
 empty-length = length-replicate {A = ℕ} most_bytes 0
 
 -- a report under another name
-reports-as : {b b' ws vs : List ℕ} {r : ℕ} → ws ≡ vs → Reports b b' ws r → Reports b b' vs r
-reports-as {b} {b'} {ws} {vs} {r} e f = rw e at f
+reports_as : {b b' ws vs : List ℕ} {r : ℕ} → ws ≡ vs → Reports b b' ws r → Reports b b' vs r
+reports_as {b} {b'} {ws} {vs} {r} e f = rw e at f
 
 -- either program, from the operation's answer
 module _ {A : Type 0} (lines : List ℕ → List ℕ) (u : Verdict A) (f : A → List ℕ) (b b' : List ℕ) (l : length b ≡ most_bytes) where
   program : said lines (and_then u (λ x. fitting b (f x))) ≡ said lines (and_then u (λ x. fitting empty (f x)))
   program = ap (said lines) (onward-same u f empty b (l ∙ sym empty-length))
 
-  pub program-said : (a : Answer) {o o' : List ℕ} {r : ℕ} → outcome_of a b' ≡ written b (λ w. w) (and_then u (λ x. fitting b (f x))) → Reports o o' (said_of lines a b') r → Reports o o' (said lines (and_then u (λ x. fitting empty (f x)))) r
-  program-said a h p = reports-as (said-of lines b b' a (and_then u (λ x. fitting b (f x))) h ∙ program) p
+  pub program_said : (a : Answer) {o o' : List ℕ} {r : ℕ} → outcome_of a b' ≡ written b (λ w. w) (and_then u (λ x. fitting b (f x))) → Reports o o' (said_of lines a b') r → Reports o o' (said lines (and_then u (λ x. fitting empty (f x)))) r
+  program_said a h p = reports_as (said_of_lem lines b b' a (and_then u (λ x. fitting b (f x))) h ∙ program) p
 
 -- a front that is longer than all
-pub front-all-of : (s : List ℕ) (n : ℕ) → length s < n → s ≡ take n s
-front-all-of s n h = sym (take_all n s (omega arith))
+pub front-all_of : (s : List ℕ) (n : ℕ) → length s < n → s ≡ take n s
+front-all_of s n h = sym (take_all n s (omega arith))

@@ -18,9 +18,9 @@ unfoldable pub right : ℕ → ℕ → Bool
 right k x = eqb x (class_number (class_of k))
 
 -- so every table that passes the test has the rule
-pub class-rule : (table : List ℕ) → T (every right 0 table) → (b : ℕ) → b < length table → get_or table b 0 ≡ class_number (class_of b)
+pub class_rule : (table : List ℕ) → T (every right 0 table) → (b : ℕ) → b < length table → get_or table b 0 ≡ class_number (class_of b)
 unfolding right
-class-rule table t b h = eqb→eq (get_or table b 0) (class_number (class_of b)) (at right table t b h)
+class_rule table t b h = eqb→eq (get_or table b 0) (class_number (class_of b)) (at right table t b h)
 
 -- a test of two bools
 pub same : Bool → Bool → Bool
@@ -59,13 +59,13 @@ module _ {b : ℕ} where
   unfolding is class_number class_of class_in class_rows is_in
   blank-tab e = rw e
 
-  pub blank-line : b ≡ 0x0a → true ≡ is blank b
+  pub blank_line : b ≡ 0x0a → true ≡ is blank b
   unfolding is class_number class_of class_in class_rows is_in
-  blank-line e = rw e
+  blank_line e = rw e
 
-  pub blank-return : b ≡ 0x0d → true ≡ is blank b
+  pub blank_return : b ≡ 0x0d → true ≡ is blank b
   unfolding is class_number class_of class_in class_rows is_in
-  blank-return e = rw e
+  blank_return e = rw e
 
   pub blank-space : b ≡ 0x20 → true ≡ is blank b
   unfolding is class_number class_of class_in class_rows is_in
@@ -75,57 +75,57 @@ module _ {b : ℕ} where
   unfolding is_blank
   blank_none h n₁ n₂ n₃ n₄ = sym (blank-is b (omega arith) ∙ simp (is_blank, ne_eqb b 0x09 n₁, ne_eqb b 0x0a n₂, ne_eqb b 0x0d n₃, ne_eqb b 0x20 n₄))
 
-pub ruleset blank-ways = (blank-tab, blank-line, blank-return, blank-space, blank_none)
+pub ruleset blank_ways = (blank-tab, blank_line, blank_return, blank-space, blank_none)
 
 -- WORDS: between two bounds all bytes are in them, or none
 
 module _ {b : ℕ} where
-  word-as : (t : Bool) (low high : ℕ) → T (every (λ k x. same t (is_word k)) low (replicate (high - low) 0)) → low ≤ b → b < high → t ≡ is_word b
-  word-as t low high all l h = same-is t (is_word b) (between (λ k. same t (is_word k)) low high all b l h)
+  word_as : (t : Bool) (low high : ℕ) → T (every (λ k x. same t (is_word k)) low (replicate (high - low) 0)) → low ≤ b → b < high → t ≡ is_word b
+  word_as t low high all l h = same-is t (is_word b) (between (λ k. same t (is_word k)) low high all b l h)
 
   pub word_below : b < 0x30 → false ≡ is_word b
   unfolding is_word is class_number class_of class_in class_rows is_in same
-  word_below h = word-as false 0 0x30 tt (omega arith) h
+  word_below h = word_as false 0 0x30 tt (omega arith) h
 
   pub word-digit : 0x30 ≤ b → b < 0x3a → true ≡ is_word b
   unfolding is_word is class_number class_of class_in class_rows is_in same
-  word-digit l h = word-as true 0x30 0x3a tt l h
+  word-digit l h = word_as true 0x30 0x3a tt l h
 
   pub word-between : 0x3a ≤ b → b < 0x41 → false ≡ is_word b
   unfolding is_word is class_number class_of class_in class_rows is_in same
-  word-between l h = word-as false 0x3a 0x41 tt l h
+  word-between l h = word_as false 0x3a 0x41 tt l h
 
-  pub word-upper : 0x41 ≤ b → b < 0x5b → true ≡ is_word b
+  pub word_upper : 0x41 ≤ b → b < 0x5b → true ≡ is_word b
   unfolding is_word is class_number class_of class_in class_rows is_in same
-  word-upper l h = word-as true 0x41 0x5b tt l h
+  word_upper l h = word_as true 0x41 0x5b tt l h
 
-  pub word-beyond : 0x5b ≤ b → b < 0x61 → false ≡ is_word b
+  pub word_beyond : 0x5b ≤ b → b < 0x61 → false ≡ is_word b
   unfolding is_word is class_number class_of class_in class_rows is_in same
-  word-beyond l h = word-as false 0x5b 0x61 tt l h
+  word_beyond l h = word_as false 0x5b 0x61 tt l h
 
   pub word-above : 0x61 ≤ b → b < 256 → ltb b 0x7b ≡ is_word b
   unfolding is_word is class_number class_of class_in class_rows is_in same
   word-above l h = same-is (ltb b 0x7b) (is_word b) (between (λ k. same (ltb k 0x7b) (is_word k)) 0x61 256 tt b l h)
 
-pub ruleset word-ways = (word_below, word-digit, word-between, word-upper, word-beyond, word-above)
+pub ruleset word_ways = (word_below, word-digit, word-between, word_upper, word_beyond, word-above)
 
 -- COMMENTS
 
 module _ {b : ℕ} where
-  pub comment-high : 0x20 ≤ b → b < 256 → InComment b true
+  pub comment_high : 0x20 ≤ b → b < 256 → InComment b true
   unfolding is_comment
-  comment-high h l = record { is = rw (le-leb 0x20 b h, le-leb b 0xff (omega arith)) (rest (is blank b)); byte = l }
+  comment_high h l = record { is = rw (le-leb 0x20 b h, le-leb b 0xff (omega arith)) (rest (is blank b)); byte = l }
     where
       rest : (t : Bool) → true ≡ (t || true)
       rest true = refl
       rest false = refl
 
-  pub comment-low : {t : Bool} → b < 0x20 → t ≡ is blank b → InComment b t
+  pub comment_low : {t : Bool} → b < 0x20 → t ≡ is blank b → InComment b t
   unfolding is_comment
-  comment-low {t} h e = record { is = e ∙ rw (lt-leb 0x20 b h) (rest (is blank b)); byte = omega arith }
+  comment_low {t} h e = record { is = e ∙ rw (lt-leb 0x20 b h) (rest (is blank b)); byte = omega arith }
     where
       rest : (u : Bool) → u ≡ (u || false)
       rest true = refl
       rest false = refl
 
-pub ruleset comment-ways = (comment-high, comment-low)
+pub ruleset comment_ways = (comment_high, comment_low)

@@ -19,8 +19,8 @@ pub front : (s : List ℕ) (at : ℕ) → at < length s → drop at s ≡ get_or
 front s at h = rw (add-one, drop-cons s at 0)
 
 -- a tail of a list, lent by itself
-pub tail-is : (s : List ℕ) (at : ℕ) → take (length s - at) (drop at s) ≡ drop at s
-tail-is s at = take_all (length s - at) (drop at s) (omega (arith, length-drop at s))
+pub tail_is : (s : List ℕ) (at : ℕ) → take (length s - at) (drop at s) ≡ drop at s
+tail_is s at = take_all (length s - at) (drop at s) (omega (arith, length-drop at s))
 
 pub length_marked : (s : List ℕ) → length (marked s) ≡ length s + 1
 unfolding marked
@@ -76,9 +76,9 @@ span_more i at w h l =
     let m : at - i < length (drop i w) = omega (arith, length-drop i w) in
     rw e (take-suc (drop i w) (at - i) 0 m ∙ ap (λ (b : ℕ). take (at - i) (drop i w) ++ (b ∷ [])) (get_d_drop i (at - i) w ∙ ap (λ (k : ℕ). get_or w k 0) f))
 
-pub span-split : (i at : ℕ) (w : List ℕ) → i ≤ at → drop i w ≡ span i at w ++ drop at w
+pub span_split : (i at : ℕ) (w : List ℕ) → i ≤ at → drop i w ≡ span i at w ++ drop at w
 unfolding span
-span-split i at w h =
+span_split i at w h =
     let f : i + (at - i) ≡ at = omega arith in
     sym (take-append-drop (at - i) (drop i w)) ∙ ap (λ (r : List ℕ). take (at - i) (drop i w) ++ r) (drop-drop i (at - i) w ∙ ap (λ (k : ℕ). drop k w) f)
 
@@ -128,9 +128,9 @@ module _ (s : List ℕ) (test : ℕ → Bool) (i : ℕ) where
     unfolding bind
     stop e = record { is = r.same ∙ (rw e (ap (λ (l : List ℕ). ok l (drop at (marked s))) (append-nil (span i at (marked s))))); inside = r.inside; ahead = r.ahead }
 
-    pub run-stop : at < length s → test (get_or s at 0) ≡ false → Ran s test i at
+    pub run_stop : at < length s → test (get_or s at 0) ≡ false → Ran s test i at
     unfolding run
-    run-stop h t = stop (rw (at_byte s at h) (rw (t, run)))
+    run_stop h t = stop (rw (at_byte s at h) (rw (t, run)))
 
     pub run_end : length s ≤ at → test 256 ≡ false → Ran s test i at
     unfolding run

@@ -17,19 +17,19 @@ pub record Firsts (s : List ℕ) (x y at i f : ℕ) : Type 0 where
   pub is : (j : ℕ) → j < i → j < f → Textual x y (get_or s (at + j) 0)
   pub most : f ≤ 32
 
-pub firsts-start : {s : List ℕ} {x y at : ℕ} → Firsts s x y at 0 32
-firsts-start = record { is = λ j h g. absurd (omega arith); most = omega arith }
+pub firsts_start : {s : List ℕ} {x y at : ℕ} → Firsts s x y at 0 32
+firsts_start = record { is = λ j h g. absurd (omega arith); most = omega arith }
 
 module _ {s : List ℕ} {x y at i f : ℕ} (inv : Firsts s x y at i f) where
-  pub firsts-on : {r n : ℕ} → Stop x y (get_or s (at + i) 0) i r → n ≡ min f r → Firsts s x y at (i + 1) n
-  firsts-on {r} {n} p e =
+  pub firsts_on : {r n : ℕ} → Stop x y (get_or s (at + i) 0) i r → n ≡ min f r → Firsts s x y at (i + 1) n
+  firsts_on {r} {n} p e =
       record {
         is = below_more (λ j. j < n → Textual x y (get_or s (at + j) 0)) i (λ j h g. inv.is j h (omega arith)) (λ g. p.is (omega arith));
         most = omega (arith, inv.most);
       }
 
-  pub firsts-end : 32 ≤ i → TextBlock s x y at f
-  firsts-end l = record { is = λ j h. inv.is j (omega (arith, inv.most)) h; most = inv.most }
+  pub firsts_end : 32 ≤ i → TextBlock s x y at f
+  firsts_end l = record { is = λ j h. inv.is j (omega (arith, inv.most)) h; most = inv.most }
 
 -- A RUN
 

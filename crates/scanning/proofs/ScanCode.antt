@@ -17,11 +17,11 @@ use Rattle.notation.specs.Scanning.{is_comment, Skipping, between, Skipped, skip
 use Rattle.notation.specs.Reading.{marked}
 use Rattle.scanning.specs.TextRuns.{Textual, TextRun}
 use Rattle.scanning.specs.ScanAnswers.{Unblank, Blanks, InComment, in_comment, Ends, Begins, CommentEnd, PastComment, Skips, Ran, is_next, Peeked}
-use Rattle.scanning.proofs.ClassCode.{slash-at, hash_at, comment-high}
-use Rattle.scanning.proofs.Marked.{tail-is, length_marked, at_byte, at-end, past_end, Running, run-start, run_step, run-stop, run_end}
+use Rattle.scanning.proofs.ClassCode.{slash-at, hash_at, comment_high}
+use Rattle.scanning.proofs.Marked.{tail_is, length_marked, at_byte, at-end, past_end, Running, run-start, run_step, run_stop, run_end}
 
-pub eqb-sym : (a b : ℕ) → eqb a b ≡ eqb b a
-eqb-sym a b = go (eqb a b) refl
+pub eqb_sym : (a b : ℕ) → eqb a b ≡ eqb b a
+eqb_sym a b = go (eqb a b) refl
   where
     go : (t : Bool) → eqb a b ≡ t → t ≡ eqb b a
     go true e = sym (eq-eqb b a (sym (eqb-true a b e)))
@@ -42,14 +42,14 @@ pub record Blanking (s : List ℕ) (i at : ℕ) : Type 0 where
   pub inside : at ≤ length (marked s)
   pub ahead : i ≤ at
 
-pub blanks-start : {s : List ℕ} {i : ℕ} → i ≤ length (marked s) → Blanking s i i
-blanks-start h = record { same = refl; inside = h; ahead = omega arith }
+pub blanks_start : {s : List ℕ} {i : ℕ} → i ≤ length (marked s) → Blanking s i i
+blanks_start h = record { same = refl; inside = h; ahead = omega arith }
 
 module _ {s : List ℕ} {i at : ℕ} (inv : Blanking s i at) where
   module _ {t : Bool} (h : at < length s) (e : t ≡ is blank (get_or s at 0)) where
-    pub blanks-on : not t ≡ false → Blanking s i (at + 1)
+    pub blanks_on : not t ≡ false → Blanking s i (at + 1)
     unfolding skip skipped
-    blanks-on f =
+    blanks_on f =
         let g : is blank (get_or s at 0) ≡ true = sym e ∙ not-false t f in
         record {
           same = inv.same ∙ (ap skip (at_byte s at h) ∙ skip_by (get_or s at 0) (drop (at + 1) (marked s)) (rw (g, skipped)));
@@ -57,11 +57,11 @@ module _ {s : List ℕ} {i at : ℕ} (inv : Blanking s i at) where
           ahead = omega (arith, inv.ahead);
         }
 
-    pub blanks-stop : not t ≡ true → Blanks s i at
-    blanks-stop f = record { same = inv.same; ends = record { is = λ g. sym e ∙ not-true t f; inside = inv.inside }; ahead = inv.ahead }
+    pub blanks_stop : not t ≡ true → Blanks s i at
+    blanks_stop f = record { same = inv.same; ends = record { is = λ g. sym e ∙ not-true t f; inside = inv.inside }; ahead = inv.ahead }
 
-  pub blanks-end : length s ≤ at → Blanks s i at
-  blanks-end h = record { same = inv.same; ends = record { is = λ g. absurd (omega arith); inside = inv.inside }; ahead = inv.ahead }
+  pub blanks_end : length s ≤ at → Blanks s i at
+  blanks_end h = record { same = inv.same; ends = record { is = λ g. absurd (omega arith); inside = inv.inside }; ahead = inv.ahead }
 
 -- WHERE A COMMENT BEGINS
 
@@ -69,14 +69,14 @@ ends-slash : Ends 0x2f
 unfolding in_comment skipped
 ends-slash = record { is = λ c b s h. rw (slash-at b h, skipped) }
 
-ends-line : Ends 0x0a
+ends_line : Ends 0x0a
 unfolding in_comment skipped
-ends-line = record { is = λ c b s h. refl }
+ends_line = record { is = λ c b s h. refl }
 
 module _ {s : List ℕ} {at : ℕ} (u : Unblank s at) where
-  pub comment-past : length s ≤ at → CommentEnd s at 0
+  pub comment_past : length s ≤ at → CommentEnd s at 0
   unfolding skip skip_from skipped left_in is class_number class_of class_in class_rows is_in
-  comment-past h = record { none = λ z. go (leb at (length s)) refl; some = λ n. absurd (n refl); inside = u.inside }
+  comment_past h = record { none = λ z. go (leb at (length s)) refl; some = λ n. absurd (n refl); inside = u.inside }
     where
       go : (t : Bool) → leb at (length s) ≡ t → skip (drop at (marked s)) ≡ drop at (marked s)
       go true q = let f : at ≡ length s = omega (arith, leb-true at (length s) q) in rw (at-end s at f)
@@ -86,9 +86,9 @@ module _ {s : List ℕ} {at : ℕ} (u : Unblank s at) where
     here : {k : Skipping} → skipped between (get_or s at 0) (drop (at + 1) (marked s)) ≡ skips k → skip (drop at (marked s)) ≡ skip_from k (drop (at + 1) (marked s))
     here e = ap skip (at_byte s at h) ∙ skip_by (get_or s at 0) (drop (at + 1) (marked s)) e
 
-    pub comment-slash : get_or s at 0 ≡ 0x2f → CommentEnd s at 0x2f
+    pub comment_slash : get_or s at 0 ≡ 0x2f → CommentEnd s at 0x2f
     unfolding skipped in_comment is class_number class_of class_in class_rows is_in
-    comment-slash e =
+    comment_slash e =
         record {
           none = λ z. absurd (omega arith);
           some = λ n. record {
@@ -100,23 +100,23 @@ module _ {s : List ℕ} {at : ℕ} (u : Unblank s at) where
           inside = u.inside;
         }
 
-    pub comment-hash : get_or s at 0 ≡ 0x23 → CommentEnd s at 0x0a
+    pub comment_hash : get_or s at 0 ≡ 0x23 → CommentEnd s at 0x0a
     unfolding skipped in_comment is class_number class_of class_in class_rows is_in
-    comment-hash e =
+    comment_hash e =
         record {
           none = λ z. absurd (omega arith);
           some = λ n. record {
             here = h;
             is = here (rw (at_byte s at h, e));
-            ends = ends-line;
+            ends = ends_line;
             byte = omega arith;
           };
           inside = u.inside;
         }
 
-    pub comment-none : (get_or s at 0 ≡ 0x2f → ⊥) → (get_or s at 0 ≡ 0x23 → ⊥) → get_or s at 0 < 256 → CommentEnd s at 0
+    pub comment_none : (get_or s at 0 ≡ 0x2f → ⊥) → (get_or s at 0 ≡ 0x23 → ⊥) → get_or s at 0 < 256 → CommentEnd s at 0
     unfolding skipped
-    comment-none n m l =
+    comment_none n m l =
         let b = get_or s at 0 in
         let k : b ≤ 256 = omega arith in
         record {
@@ -127,7 +127,7 @@ module _ {s : List ℕ} {at : ℕ} (u : Unblank s at) where
           inside = u.inside;
         }
 
-pub ruleset comment-end-ways = (comment-past, comment-slash, comment-hash, comment-none)
+pub ruleset comment_end_ways = (comment_past, comment_slash, comment_hash, comment_none)
 
 -- INSIDE A COMMENT
 
@@ -137,8 +137,8 @@ pub record Commenting (s : List ℕ) (from end at : ℕ) : Type 0 where
   pub inside : at ≤ length s
   pub ahead : from < at
 
-pub comment-start : {s : List ℕ} {from end : ℕ} → Begins s from end → Commenting s from end (from + 1)
-comment-start g = record { begins = g; same = g.is; inside = omega (arith, g.here); ahead = omega arith }
+pub comment_start : {s : List ℕ} {from end : ℕ} → Begins s from end → Commenting s from end (from + 1)
+comment_start g = record { begins = g; same = g.is; inside = omega (arith, g.here); ahead = omega arith }
 
 -- a byte of the comment
 module _ {s : List ℕ} {from end at : ℕ} (inv : Commenting s from end at) (h : at < length s) (l : get_or s at 0 < 256) where
@@ -149,11 +149,11 @@ module _ {s : List ℕ} {from end at : ℕ} (inv : Commenting s from end at) (h 
       let c = drop from (marked s) in
       inv.same ∙ (rw (at_byte s at h) (rw (inv.begins.ends.is c (get_or s at 0) (drop (at + 1) (marked s)) (omega arith) ∙ e, skip_from)))
 
-  next-in : (get_or s at 0 ≡ end → ⊥) → is_comment (get_or s at 0) ≡ true → Commenting s from end (at + 1)
-  next-in n e = record { begins = inv.begins; same = next_is (skips (in_comment end (drop from (marked s)))) (simp (ne_eqb (get_or s at 0) end n, e)); inside = omega arith; ahead = omega (arith, inv.ahead) }
+  next_in : (get_or s at 0 ≡ end → ⊥) → is_comment (get_or s at 0) ≡ true → Commenting s from end (at + 1)
+  next_in n e = record { begins = inv.begins; same = next_is (skips (in_comment end (drop from (marked s)))) (simp (ne_eqb (get_or s at 0) end n, e)); inside = omega arith; ahead = omega (arith, inv.ahead) }
 
-  next-out : (get_or s at 0 ≡ end → ⊥) → is_comment (get_or s at 0) ≡ false → skip (drop from (marked s)) ≡ drop from (marked s)
-  next-out n e = next_is (stops (drop from (marked s))) (simp (ne_eqb (get_or s at 0) end n, e))
+  next_out : (get_or s at 0 ≡ end → ⊥) → is_comment (get_or s at 0) ≡ false → skip (drop from (marked s)) ≡ drop from (marked s)
+  next_out n e = next_is (stops (drop from (marked s))) (simp (ne_eqb (get_or s at 0) end n, e))
 
   next-end : get_or s at 0 ≡ end → skip (drop from (marked s)) ≡ skip (drop (at + 1) (marked s))
   unfolding skip
@@ -168,42 +168,42 @@ run_in {s} {from} {end} {at} zero inv f l = rw add-zero inv
 run_in {s} {from} {end} {at} (suc n) inv f l =
     let t = f at (omega arith) (omega arith) in
     let z : at + 1 + n ≡ at + suc n = omega arith in
-    rw z at (run_in {at = at + 1} n (next-in inv (omega arith) t.high t.first (sym (comment-high t.low t.high).is)) (λ j a b. f j (omega arith) (omega arith)) (omega arith))
+    rw z at (run_in {at = at + 1} n (next_in inv (omega arith) t.high t.first (sym (comment_high t.low t.high).is)) (λ j a b. f j (omega arith) (omega arith)) (omega arith))
 
 module _ {s : List ℕ} {from end at : ℕ} (inv : Commenting s from end at) where
   -- at the end mark
-  pub comment-ended : length s ≤ at → PastComment s from from
+  pub comment_ended : length s ≤ at → PastComment s from from
   unfolding skip_from is_comment is class_number class_of class_in class_rows is_in
-  comment-ended h =
+  comment_ended h =
       let e : at ≡ length s = omega (arith, inv.inside) in
       let n : 256 ≡ end → ⊥ = omega (arith, inv.begins.byte) in
       let g : skipped (in_comment end (drop from (marked s))) 256 [] ≡ stops (drop from (marked s)) = inv.begins.ends.is (drop from (marked s)) 256 [] (omega arith) ∙ rw (ne_eqb 256 end n) in
       unended inv.begins.here (inv.same ∙ (rw (at-end s at e) (rw (g, skip_from))))
 
   module _ {stop : ℕ} (r : TextRun s end end at stop) where
-    run-to : Commenting s from end stop
-    run-to =
+    run_to : Commenting s from end stop
+    run_to =
         let z : at + (stop - at) ≡ stop = omega (arith, r.ahead) in
         rw z at (run_in (stop - at) inv (λ j a b. r.is j a (omega arith)) (omega (arith, r.inside)))
 
     module _ (h : stop < length s) where
-      pub comment-closed : get_or s stop 0 ≡ end → PastComment s from (stop + 1)
-      comment-closed e =
-          let i = run-to in
+      pub comment_closed : get_or s stop 0 ≡ end → PastComment s from (stop + 1)
+      comment_closed e =
+          let i = run_to in
           let l : get_or s stop 0 < 256 = omega (arith, inv.begins.byte) in
           record { bad = λ z. absurd (omega (arith, i.ahead)); good = λ n. next-end i h l e; inside = omega (arith, length_marked s); ahead = omega (arith, i.ahead) }
 
       module _ {t : Bool} (n : get_or s stop 0 ≡ end → ⊥) (x : InComment (get_or s stop 0) t) where
-        pub comment-on : not t ≡ false → Commenting s from end (stop + 1)
-        comment-on f = next-in run-to h x.byte n (sym x.is ∙ not-false t f)
+        pub comment_on : not t ≡ false → Commenting s from end (stop + 1)
+        comment_on f = next_in run_to h x.byte n (sym x.is ∙ not-false t f)
 
-        pub comment-wrong : not t ≡ true → PastComment s from from
-        comment-wrong f = unended inv.begins.here (next-out run-to h x.byte n (sym x.is ∙ not-true t f))
+        pub comment_wrong : not t ≡ true → PastComment s from from
+        comment_wrong f = unended inv.begins.here (next_out run_to h x.byte n (sym x.is ∙ not-true t f))
 
-pub comment-open : {s : List ℕ} {from end at stop : ℕ} → Commenting s from end at → TextRun s end end at stop → length s ≤ stop → PastComment s from from
-comment-open inv r h = comment-ended (run-to inv r) h
+pub comment_open : {s : List ℕ} {from end at stop : ℕ} → Commenting s from end at → TextRun s end end at stop → length s ≤ stop → PastComment s from from
+comment_open inv r h = comment_ended (run_to inv r) h
 
-pub ruleset comment-ways = (comment-closed, comment-wrong, comment-open, comment-ended)
+pub ruleset comment_ways = (comment_closed, comment_wrong, comment_open, comment_ended)
 
 -- BLANKS AND COMMENTS IN TURN
 
@@ -212,43 +212,43 @@ pub record Skimming (s : List ℕ) (i at end : ℕ) : Type 0 where
   pub next : CommentEnd s at end
   pub ahead : i ≤ at
 
-pub skim-start : {s : List ℕ} {i end : ℕ} → CommentEnd s i end → Skimming s i i end
-skim-start x = record { same = refl; next = x; ahead = omega arith }
+pub skim_start : {s : List ℕ} {i end : ℕ} → CommentEnd s i end → Skimming s i i end
+skim_start x = record { same = refl; next = x; ahead = omega arith }
 
 module _ {s : List ℕ} {i at end : ℕ} (inv : Skimming s i at end) where
-  pub skim-begins : (end ≡ 0 → ⊥) → Begins s at end
-  skim-begins n = inv.next.some n
+  pub skim_begins : (end ≡ 0 → ⊥) → Begins s at end
+  skim_begins n = inv.next.some n
 
   stopped : skip (drop at (marked s)) ≡ drop at (marked s) → Skips s i at
   stopped e = record { stands = record { inside = inv.next.inside; drops = sym (inv.same ∙ e) }; ahead = inv.ahead }
 
-  pub skim-end : end ≡ 0 → Skips s i at
-  skim-end e = stopped (inv.next.none e)
+  pub skim_end : end ≡ 0 → Skips s i at
+  skim_end e = stopped (inv.next.none e)
 
   module _ {next : ℕ} (x : PastComment s at next) where
-    pub skim-stop : next ≡ at → Skips s i at
-    skim-stop e = stopped (x.bad e)
+    pub skim_stop : next ≡ at → Skips s i at
+    skim_stop e = stopped (x.bad e)
 
-    pub skim-on : {at' end' : ℕ} → (next ≡ at → ⊥) → Blanks s next at' → CommentEnd s at' end' → Skimming s i at' end'
-    skim-on n y z = record { same = inv.same ∙ (x.good n ∙ y.same); next = z; ahead = omega (arith, inv.ahead, x.ahead, y.ahead) }
+    pub skim_on : {at' end' : ℕ} → (next ≡ at → ⊥) → Blanks s next at' → CommentEnd s at' end' → Skimming s i at' end'
+    skim_on n y z = record { same = inv.same ∙ (x.good n ∙ y.same); next = z; ahead = omega (arith, inv.ahead, x.ahead, y.ahead) }
 
 -- the whole text, lent anew
 whole : (s : List ℕ) → take (length s - 0) (drop 0 s) ≡ s
-whole s = tail-is s 0
+whole s = tail_is s 0
 
 module _ {s : List ℕ} {i at end : ℕ} (x : Blanks s i at) (y : CommentEnd s at end) where
   pub skip-here : end ≡ 0 → Skips s i at
-  skip-here e = skim-end (record { same = x.same; next = y; ahead = x.ahead }) e
+  skip-here e = skim_end (record { same = x.same; next = y; ahead = x.ahead }) e
 
-pub comment-lent : {s : List ℕ} {at end : ℕ} → CommentEnd s at end → CommentEnd (take (length s - 0) (drop 0 s)) at end
-comment-lent {s} x = rw (whole s) x
+pub comment_lent : {s : List ℕ} {at end : ℕ} → CommentEnd s at end → CommentEnd (take (length s - 0) (drop 0 s)) at end
+comment_lent {s} x = rw (whole s) x
 
 pub skip-on : {s : List ℕ} {i at r : ℕ} → Blanks s i at → Skips (take (length s - 0) (drop 0 s)) at r → Skips s i r
 skip-on {s} {i} {at} {r} x y =
     let z : Skips s at r = rw (whole s) at y in
     record { stands = record { inside = z.stands.inside; drops = z.stands.drops ∙ sym x.same }; ahead = omega (arith, x.ahead, z.ahead) }
 
-pub ruleset skip-ways = (skip-here, skip-on)
+pub ruleset skip_ways = (skip-here, skip-on)
 
 -- WORDS
 module _ (s : List ℕ) {i : ℕ} where
@@ -259,17 +259,17 @@ module _ (s : List ℕ) {i : ℕ} where
     pub word-step : (t : Bool) → at < length s → t ≡ is_word (get_or s at 0) → not t ≡ false → Running s is_word i (at + 1)
     word-step t h e f = run_step s is_word i r h (sym e ∙ not-false t f)
 
-    pub word-stop : (t : Bool) → at < length s → t ≡ is_word (get_or s at 0) → not t ≡ true → Ran s is_word i at
-    word-stop t h e f = run-stop s is_word i r h (sym e ∙ not-true t f)
+    pub word_stop : (t : Bool) → at < length s → t ≡ is_word (get_or s at 0) → not t ≡ true → Ran s is_word i at
+    word_stop t h e f = run_stop s is_word i r h (sym e ∙ not-true t f)
 
     pub word_end : length s ≤ at → Ran s is_word i at
     unfolding is_word is class_number class_of class_in class_rows is_in
     word_end h = run_end s is_word i r h refl
 
 -- THE NEXT ELEMENT
-pub peek-none : (s : List ℕ) (at c : ℕ) → length s ≤ at → c < 256 → Peeked s at c false
+pub peek_none : (s : List ℕ) (at c : ℕ) → length s ≤ at → c < 256 → Peeked s at c false
 unfolding is_next
-peek-none s at c h l = go (leb at (length s)) refl
+peek_none s at c h l = go (leb at (length s)) refl
   where
     go : (t : Bool) → leb at (length s) ≡ t → Peeked s at c false
     go true q =
@@ -278,9 +278,9 @@ peek-none s at c h l = go (leb at (length s)) refl
         record { is = rw (at-end s at f) (sym n); inside = λ e. absurd (clash (sym e)) }
     go false q = record { is = rw (past_end s at (leb-false at (length s) q)); inside = λ e. absurd (clash (sym e)) }
 
-pub peek-at : (s : List ℕ) (at c : ℕ) → at < length s → Peeked s at c (eqb (get_or s at 0) c)
+pub peek_at : (s : List ℕ) (at c : ℕ) → at < length s → Peeked s at c (eqb (get_or s at 0) c)
 unfolding is_next
-peek-at s at c h = record { is = rw (at_byte s at h); inside = λ e. omega arith }
+peek_at s at c h = record { is = rw (at_byte s at h); inside = λ e. omega arith }
 
 whether-none : (c : ℕ) (r : List ℕ) → is_next c r ≡ false → whether c r ≡ ok false r
 unfolding whether is_next
@@ -294,20 +294,20 @@ expect-none c n (b ∷ r) h = rw (h, expect)
 
 -- what is next, in the words of the definitions
 module _ {s : List ℕ} {at c : ℕ} {t : Bool} (p : Peeked s at c t) where
-  pub peeked-yes : t ≡ true → drop at (marked s) ≡ c ∷ drop (at + 1) (marked s)
+  pub peeked_yes : t ≡ true → drop at (marked s) ≡ c ∷ drop (at + 1) (marked s)
   unfolding is_next
-  peeked-yes e = let h : at < length s = omega (arith, p.inside e) in at_byte s at h ∙ ap (λ (b : ℕ). b ∷ drop (at + 1) (marked s)) (eqb-true _ c (sym (p.is ∙ rw (at_byte s at h)) ∙ e))
+  peeked_yes e = let h : at < length s = omega (arith, p.inside e) in at_byte s at h ∙ ap (λ (b : ℕ). b ∷ drop (at + 1) (marked s)) (eqb-true _ c (sym (p.is ∙ rw (at_byte s at h)) ∙ e))
 
   pub whether-yes : t ≡ true → whether c (drop at (marked s)) ≡ ok true (drop (at + 1) (marked s))
   unfolding whether
-  whether-yes e = rw (peeked-yes e) (rw (eq-eqb c c refl, whether))
+  whether-yes e = rw (peeked_yes e) (rw (eq-eqb c c refl, whether))
 
   pub whether-no : t ≡ false → whether c (drop at (marked s)) ≡ ok false (drop at (marked s))
   whether-no e = whether-none c (drop at (marked s)) (sym p.is ∙ e)
 
   pub expect-yes : (n : ℕ) → t ≡ true → expect c n (drop at (marked s)) ≡ ok tt (drop (at + 1) (marked s))
   unfolding expect
-  expect-yes n e = rw (peeked-yes e) (rw (eq-eqb c c refl, expect))
+  expect-yes n e = rw (peeked_yes e) (rw (eq-eqb c c refl, expect))
 
   pub expect-no : (n : ℕ) → t ≡ false → expect c n (drop at (marked s)) ≡ fault n
   expect-no n e = expect-none c n (drop at (marked s)) (sym p.is ∙ e)

@@ -21,22 +21,22 @@ use Rattle.numbers.specs.declared.indicator.Mark.{Mark}
 use Rattle.token.specs.declared.Token.{Token as Cut}
 use Rattle.scanning.proofs.ScanCode.{expect-yes, expect-no}
 use Rattle.numbers.proofs.IndicatorCode.{width_some}
-use Rattle.numbers.proofs.NumberCode.{says-as, says-refuse, says-made}
+use Rattle.numbers.proofs.NumberCode.{says_as, says_refuse, says_made}
 
 -- `[` AND `{`
-pub opening-known : (o : Indicator → Opener) (i : Indicator) (r : List ℕ) → (indicator_number i ≡ 2 → ⊥) → opening_token o i r ≡ ok (begins (opens (o i))) r
+pub opening_known : (o : Indicator → Opener) (i : Indicator) (r : List ℕ) → (indicator_number i ≡ 2 → ⊥) → opening_token o i r ≡ ok (begins (opens (o i))) r
 unfolding opening_token indicator_number
-opening-known o absent r n = refl
-opening-known o indefinitely r n = refl
-opening-known o unknown r n = absurd (n refl)
-opening-known o (wide w) r n = refl
+opening_known o absent r n = refl
+opening_known o indefinitely r n = refl
+opening_known o unknown r n = absurd (n refl)
+opening_known o (wide w) r n = refl
 
-opening-unknown : (o : Indicator → Opener) (i : Indicator) (r : List ℕ) → indicator_number i ≡ 2 → opening_token o i r ≡ fault bad_indicator
+opening_unknown : (o : Indicator → Opener) (i : Indicator) (r : List ℕ) → indicator_number i ≡ 2 → opening_token o i r ≡ fault bad_indicator
 unfolding opening_token indicator_number
-opening-unknown o absent r e = absurd (omega arith)
-opening-unknown o indefinitely r e = absurd (omega arith)
-opening-unknown o unknown r e = refl
-opening-unknown o (wide w) r e = absurd (omega (arith, width_some w))
+opening_unknown o absent r e = absurd (omega arith)
+opening_unknown o indefinitely r e = absurd (omega arith)
+opening_unknown o unknown r e = refl
+opening_unknown o (wide w) r e = absurd (omega (arith, width_some w))
 
 module _ {s : List ℕ} {place code : ℕ} {m : Mark} {t : Cut} (x : Indicated s (place + 1) m) where
   pub opens-bad : m.mark ≡ 2 → Refused 9 place t → Opens s place code t
@@ -44,8 +44,8 @@ module _ {s : List ℕ} {place code : ℕ} {m : Mark} {t : Cut} (x : Indicated s
   opens-bad e r =
       let n = sym x.mark ∙ e in
       record {
-        square = λ c. says-as (rw x.is (opening-unknown bracket x.ind (drop m.next (marked s)) n)) (says-refuse 0 r);
-        curly = λ c. says-as (rw x.is (opening-unknown brace x.ind (drop m.next (marked s)) n)) (says-refuse 0 r);
+        square = λ c. says_as (rw x.is (opening_unknown bracket x.ind (drop m.next (marked s)) n)) (says_refuse 0 r);
+        curly = λ c. says_as (rw x.is (opening_unknown brace x.ind (drop m.next (marked s)) n)) (says_refuse 0 r);
       }
 
   pub opens-good : (m.mark ≡ 2 → ⊥) → TokenMade code m.mark 0 place m.next t → Opens s place code t
@@ -53,8 +53,8 @@ module _ {s : List ℕ} {place code : ℕ} {m : Mark} {t : Cut} (x : Indicated s
   opens-good n h =
       let k : indicator_number x.ind ≡ 2 → ⊥ = λ z. n (x.mark ∙ z) in
       record {
-        square = λ c. says-as (rw x.is (opening-known bracket x.ind (drop m.next (marked s)) k)) (says-made h (begins (opens (bracket x.ind))) c x.mark refl tt x.inside);
-        curly = λ c. says-as (rw x.is (opening-known brace x.ind (drop m.next (marked s)) k)) (says-made h (begins (opens (brace x.ind))) c x.mark refl tt x.inside);
+        square = λ c. says_as (rw x.is (opening_known bracket x.ind (drop m.next (marked s)) k)) (says_made h (begins (opens (bracket x.ind))) c x.mark refl tt x.inside);
+        curly = λ c. says_as (rw x.is (opening_known brace x.ind (drop m.next (marked s)) k)) (says_made h (begins (opens (brace x.ind))) c x.mark refl tt x.inside);
       }
 
 -- SIGNS OF MORE BYTES
@@ -67,39 +67,39 @@ module _ {s : List ℕ} {place : ℕ} {t : Cut} where
         record {
           is =
               λ tok ec em en w.
-              says-as (rw (expect-yes p no_token e) (ap (λ (k : ℕ). ok tok (drop k (marked s))) n)) (says-made m tok ec em en w (omega (arith, p.inside e)));
+              says_as (rw (expect-yes p no_token e) (ap (λ (k : ℕ). ok tok (drop k (marked s))) n)) (says_made m tok ec em en w (omega (arith, p.inside e)));
         }
 
     pub pair-no : {code : ℕ} → b ≡ false → Refused 3 place t → Paired s place c code t
     unfolding bind
-    pair-no e r = record { is = λ tok ec em en w. says-as (rw (expect-no p no_token e)) (says-refuse 0 r) }
+    pair-no e r = record { is = λ tok ec em en w. says_as (rw (expect-no p no_token e)) (says_refuse 0 r) }
 
   module _ {b : Bool} (p : Peeked s (place + 1) 0x3e b) where
-    pub close-yes : {m : Mark} → b ≡ true → Indicated s (place + 2) m → TokenMade 20 m.mark 0 place m.next t → Says s place t (cut_by greater 0 (drop (place + 1) (marked s)))
+    pub close_yes : {m : Mark} → b ≡ true → Indicated s (place + 2) m → TokenMade 20 m.mark 0 place m.next t → Says s place t (cut_by greater 0 (drop (place + 1) (marked s)))
     unfolding bind cut_by code_of shape_code mark_of number_of Written
-    close-yes {m} e x h =
+    close_yes {m} e x h =
         let n : place + 1 + 1 ≡ place + 2 = omega arith in
-        says-as (rw (expect-yes p no_token e) (rw n (rw x.is))) (says-made h (closes angle x.ind) refl x.mark refl tt x.inside)
+        says_as (rw (expect-yes p no_token e) (rw n (rw x.is))) (says_made h (closes angle x.ind) refl x.mark refl tt x.inside)
 
-    pub close-no : b ≡ false → Refused 3 place t → Says s place t (cut_by greater 0 (drop (place + 1) (marked s)))
+    pub close_no : b ≡ false → Refused 3 place t → Says s place t (cut_by greater 0 (drop (place + 1) (marked s)))
     unfolding bind cut_by
-    close-no e r = says-as (rw (expect-no p no_token e)) (says-refuse 0 r)
+    close_no e r = says_as (rw (expect-no p no_token e)) (says_refuse 0 r)
 
   module _ {b : Bool} (p : Peeked s (place + 1) 0x2e b) where
     pub dots-one : b ≡ false → Refused 3 place t → Says s place t (cut_by dot 0 (drop (place + 1) (marked s)))
     unfolding bind cut_by
-    dots-one e r = says-as (rw (expect-no p no_token e)) (says-refuse 0 r)
+    dots-one e r = says_as (rw (expect-no p no_token e)) (says_refuse 0 r)
 
     module _ (e : b ≡ true) {d : Bool} (q : Peeked s (place + 2) 0x2e d) where
-      pub dots-two : d ≡ false → Refused 3 place t → Says s place t (cut_by dot 0 (drop (place + 1) (marked s)))
+      pub dots_two : d ≡ false → Refused 3 place t → Says s place t (cut_by dot 0 (drop (place + 1) (marked s)))
       unfolding bind cut_by
-      dots-two f r = let n : place + 1 + 1 ≡ place + 2 = omega arith in says-as (rw (expect-yes p no_token e) (rw n (rw (expect-no q no_token f)))) (says-refuse 0 r)
+      dots_two f r = let n : place + 1 + 1 ≡ place + 2 = omega arith in says_as (rw (expect-yes p no_token e) (rw n (rw (expect-no q no_token f)))) (says_refuse 0 r)
 
-      pub dots-three : d ≡ true → Refused 5 place t → Says s place t (cut_by dot 0 (drop (place + 1) (marked s)))
+      pub dots_three : d ≡ true → Refused 5 place t → Says s place t (cut_by dot 0 (drop (place + 1) (marked s)))
       unfolding bind cut_by
-      dots-three f r = let n : place + 1 + 1 ≡ place + 2 = omega arith in says-as (rw (expect-yes p no_token e) (rw n (rw (expect-yes q no_token f)))) (says-refuse 0 r)
+      dots_three f r = let n : place + 1 + 1 ≡ place + 2 = omega arith in says_as (rw (expect-yes p no_token e) (rw n (rw (expect-yes q no_token f)))) (says_refuse 0 r)
 
-pub close-from : {s : List ℕ} (place : ℕ) {b : Bool} → Peeked s (place + 1) 0x3e b → b ≡ true → place + 2 ≤ length s
-close-from place p e = omega (arith, p.inside e)
+pub close_from : {s : List ℕ} (place : ℕ) {b : Bool} → Peeked s (place + 1) 0x3e b → b ≡ true → place + 2 ≤ length s
+close_from place p e = omega (arith, p.inside e)
 
-pub ruleset dot-ways = (dots-one, dots-two, dots-three)
+pub ruleset dot_ways = (dots-one, dots_two, dots_three)

@@ -32,8 +32,8 @@ module _ {b item : List ℕ} {used : ℕ} {p : Plan} (pl : Plans b used item p) 
   abbrev rest : List ℕ
   rest = drop p.end (take used b)
 
-  new-length : length new ≡ p.size
-  new-length = length-take p.size item ∙ omega (arith, pl.held)
+  new_length : length new ≡ p.size
+  new_length = length-take p.size item ∙ omega (arith, pl.held)
 
   rest-length : length rest ≡ used - p.end
   rest-length = simp (length-drop, length-take) (omega (arith, pl.within))
@@ -42,23 +42,23 @@ module _ {b item : List ℕ} {used : ℕ} {p : Plan} (pl : Plans b used item p) 
   unfolding moved
   moved-is =
       fitting-yes (max p.end (p.start + p.size) + (used - p.end)) b _ (omega (arith, pl.order, pl.inside, pl.within, pl.sized, pl.room))
-      ∙ ap (over b (p.start + p.size)) (sym (drop-front p.end used b pl.inside (omega (arith, pl.inside, pl.within)))) ∙ ap (λ (k : ℕ). over b (p.start + k) rest) (sym new-length)
+      ∙ ap (over b (p.start + p.size)) (sym (drop-front p.end used b pl.inside (omega (arith, pl.inside, pl.within)))) ∙ ap (λ (k : ℕ). over b (p.start + k) rest) (sym new_length)
 
   moved_length : length (over b (p.start + length new) rest) ≡ length b
-  moved_length = length_over b (p.start + length new) rest (omega (arith, new-length, rest-length, pl.sized, pl.room))
+  moved_length = length_over b (p.start + length new) rest (omega (arith, new_length, rest-length, pl.sized, pl.room))
 
   copied_is : copied (over b (p.start + length new) rest) p.start item p.size ≡ over b p.start (new ++ rest)
   copied_is =
       copied-yes (over b (p.start + length new) rest) p.start item p.size pl.held
-      ∙ written-fits (over b (p.start + length new) rest) p.start new (omega (arith, moved_length, new-length, pl.sized, pl.room))
-      ∙ over-before b p.start new rest (omega (arith, new-length, pl.sized, pl.room))
+      ∙ written-fits (over b (p.start + length new) rest) p.start new (omega (arith, moved_length, new_length, pl.sized, pl.room))
+      ∙ over-before b p.start new rest (omega (arith, new_length, pl.sized, pl.room))
 
-  tail-length : length (new ++ rest) ≡ p.size + (used - p.end)
-  tail-length = length-append new rest ∙ omega (arith, new-length, rest-length)
+  tail_length : length (new ++ rest) ≡ p.size + (used - p.end)
+  tail_length = length-append new rest ∙ omega (arith, new_length, rest-length)
 
   pub whole_length : length (splice b used p.start p.end new) ≡ p.length
   unfolding splice
-  whole_length = length-append (take p.start b) (new ++ rest) ∙ omega (arith, length-take p.start b, tail-length, pl.order, pl.inside, pl.within, pl.sized)
+  whole_length = length-append (take p.start b) (new ++ rest) ∙ omega (arith, length-take p.start b, tail_length, pl.order, pl.inside, pl.within, pl.sized)
 
   before : p.start ≤ length b
   before = omega (arith, pl.order, pl.inside, pl.within)
@@ -67,9 +67,9 @@ module _ {b item : List ℕ} {used : ℕ} {p : Plan} (pl : Plans b used item p) 
   Result = over b 0 (zeroed used (splice b used p.start p.end new))
 
   -- the zeroes, if there are any
-  result-is : over b p.start ((new ++ rest) ++ replicate (used - p.length) 0) ≡ Result
+  result_is : over b p.start ((new ++ rest) ++ replicate (used - p.length) 0) ≡ Result
   unfolding splice zeroed
-  result-is =
+  result_is =
       over-front b p.start _ before ∙ ap (over b 0) (sym (append_assoc (take p.start b) (new ++ rest) (replicate (used - p.length) 0)))
       ∙ ap (λ (k : ℕ). over b 0 ((take p.start b ++ (new ++ rest)) ++ replicate (used - k) 0)) (sym whole_length)
 
@@ -77,20 +77,20 @@ module _ {b item : List ℕ} {used : ℕ} {p : Plan} (pl : Plans b used item p) 
     laid : b₂ ≡ over b p.start (new ++ rest)
     laid = c ∙ ap (λ (v : List ℕ). copied v p.start item p.size) (m ∙ moved-is) ∙ copied_is
 
-    pub put-longer : used ≤ p.length → b₂ ≡ Result
-    put-longer h =
+    pub put_longer : used ≤ p.length → b₂ ≡ Result
+    put_longer h =
         let n : used - p.length ≡ 0 = omega arith in
         let z : replicate {A = ℕ} (used - p.length) 0 ≡ [] = ap (λ (k : ℕ). replicate {A = ℕ} k 0) n in
-        laid ∙ ap (over b p.start) (sym (append-nil (new ++ rest)) ∙ ap (λ (v : List ℕ). (new ++ rest) ++ v) (sym z)) ∙ result-is
+        laid ∙ ap (over b p.start) (sym (append-nil (new ++ rest)) ∙ ap (λ (v : List ℕ). (new ++ rest) ++ v) (sym z)) ∙ result_is
 
-    pub put-shorter : {b₃ : List ℕ} → p.length < used → b₃ ≡ over_if_fits b₂ p.length (replicate (used - p.length) 0) → b₃ ≡ Result
-    put-shorter {b₃} h z =
+    pub put_shorter : {b₃ : List ℕ} → p.length < used → b₃ ≡ over_if_fits b₂ p.length (replicate (used - p.length) 0) → b₃ ≡ Result
+    put_shorter {b₃} h z =
         let zs : List ℕ = replicate (used - p.length) 0 in
-        let k : p.length ≡ p.start + length (new ++ rest) = omega (arith, pl.sized, tail-length) in
+        let k : p.length ≡ p.start + length (new ++ rest) = omega (arith, pl.sized, tail_length) in
         let n : length (over b p.start (new ++ rest)) ≡ length b = length_over b p.start (new ++ rest) (omega (arith, k, pl.room)) in
         z ∙ ap (λ (v : List ℕ). over_if_fits v p.length zs) laid
         ∙ written-fits (over b p.start (new ++ rest)) p.length zs (omega (arith, n, length-replicate {A = ℕ} (used - p.length) 0, pl.within, h))
         ∙ ap (λ (v : ℕ). over (over b p.start (new ++ rest)) v zs) k
-        ∙ over-more b p.start (new ++ rest) before zs ∙ result-is
+        ∙ over-more b p.start (new ++ rest) before zs ∙ result_is
 
-pub ruleset put-ways = (put-longer, put-shorter)
+pub ruleset put_ways = (put_longer, put_shorter)

@@ -16,8 +16,8 @@ use Rattle.notation.specs.Printing.{hex_byte_of, hex_of, escape_of, escaped_of}
 use Rattle.text_output.specs.PrintParts.{Prints, content_of}
 use Rattle.plain_bytes.specs.Runs.{AllPlain, PlainRun}
 use Rattle.string_output.specs.Blocks.{Beyond}
-use Rattle.text_output.proofs.PrintLeaves.{prints-more, prints-as, prints-none, put_in, take_next, take_whole}
-use Rattle.plain_bytes.proofs.PlainRuns.{escaped-append, content-plain}
+use Rattle.text_output.proofs.PrintLeaves.{prints-more, prints_as, prints-none, put_in, take_next, take_whole}
+use Rattle.plain_bytes.proofs.PlainRuns.{escaped_append, content_plain}
 use Rattle.hex_output.proofs.HexCode.{hex-append}
 
 -- BYTE BY BYTE
@@ -29,44 +29,44 @@ module _ {b b₁ b₂ : List ℕ} {pos p q : ℕ} where
 module _ {b b₁ : List ℕ} {c pos p : ℕ} where
   pub escape-quote : c ≡ 0x22 → Prints b b₁ pos (0x5c ∷ c ∷ []) p → Prints b b₁ pos (escape_of c) p
   unfolding escape_of
-  escape-quote e f = prints-as (sym (rw (eq-eqb c 0x22 e, escape_of))) f
+  escape-quote e f = prints_as (sym (rw (eq-eqb c 0x22 e, escape_of))) f
 
   module _ (n : c ≡ 0x22 → ⊥) where
     pub escape-slash : c ≡ 0x5c → Prints b b₁ pos (0x5c ∷ c ∷ []) p → Prints b b₁ pos (escape_of c) p
     unfolding escape_of
-    escape-slash e f = prints-as (sym (rw (ne_eqb c 0x22 n, eq-eqb c 0x5c e, escape_of))) f
+    escape-slash e f = prints_as (sym (rw (ne_eqb c 0x22 n, eq-eqb c 0x5c e, escape_of))) f
 
     module _ (m : c ≡ 0x5c → ⊥) where
       pub escape-low : {b₂ : List ℕ} {q : ℕ} → c < 0x20 → Prints b b₁ pos (ascii "\\u00") p → Prints b₁ b₂ p (hex_byte_of c) q → Prints b b₂ pos (escape_of c) q
       unfolding escape_of
-      escape-low h f g = prints-as (sym (rw (ne_eqb c 0x22 n, ne_eqb c 0x5c m, escape_of) (rw (lt-ltb c 0x20 h)))) (prints-more f g)
+      escape-low h f g = prints_as (sym (rw (ne_eqb c 0x22 n, ne_eqb c 0x5c m, escape_of) (rw (lt-ltb c 0x20 h)))) (prints-more f g)
 
       pub escape-none : 0x20 ≤ c → Prints b b₁ pos (c ∷ []) p → Prints b b₁ pos (escape_of c) p
       unfolding escape_of
-      escape-none h f = prints-as (sym (rw (ne_eqb c 0x22 n, ne_eqb c 0x5c m, escape_of) (rw (le-ltb c 0x20 h)))) f
+      escape-none h f = prints_as (sym (rw (ne_eqb c 0x22 n, ne_eqb c 0x5c m, escape_of) (rw (le-ltb c 0x20 h)))) f
 
-pub ruleset escape-ways = (escape-quote, escape-slash, escape-low, escape-none)
+pub ruleset escape_ways = (escape-quote, escape-slash, escape-low, escape-none)
 
 module _ {b b₁ : List ℕ} {t : Bool} {pos p : ℕ} (c : ℕ) where
   pub content-text : t ≡ true → Prints b b₁ pos (escape_of c) p → Prints b b₁ pos (content_of t (c ∷ [])) p
   unfolding content_of escaped_of
-  content-text e f = rw e (prints-as (sym (append-nil (escape_of c))) f)
+  content-text e f = rw e (prints_as (sym (append-nil (escape_of c))) f)
 
   pub content-bytes : t ≡ false → Prints b b₁ pos (hex_byte_of c) p → Prints b b₁ pos (content_of t (c ∷ [])) p
   unfolding content_of hex_of
-  content-bytes e f = rw e (prints-as (sym (append-nil (hex_byte_of c))) f)
+  content-bytes e f = rw e (prints_as (sym (append-nil (hex_byte_of c))) f)
 
-pub ruleset content-ways = (content-text, content-bytes)
+pub ruleset content_ways = (content-text, content-bytes)
 
 pub content-append : (t : Bool) (x y : List ℕ) → content_of t (x ++ y) ≡ content_of t x ++ content_of t y
 unfolding content_of
-content-append true x y = escaped-append x y
+content-append true x y = escaped_append x y
 content-append false x y = hex-append x y
 
-content-nil : (t : Bool) → [] ≡ content_of t []
+content_nil : (t : Bool) → [] ≡ content_of t []
 unfolding content_of escaped_of hex_of
-content-nil true = refl
-content-nil false = refl
+content_nil true = refl
+content_nil false = refl
 
 -- what stands before i is printed as the content of a string
 pub record Filled (t : Bool) (s b₀ : List ℕ) (pos i p : ℕ) (b : List ℕ) : Type 0 where
@@ -74,19 +74,19 @@ pub record Filled (t : Bool) (s b₀ : List ℕ) (pos i p : ℕ) (b : List ℕ) 
 
 module _ {t : Bool} {s b : List ℕ} {pos : ℕ} where
   pub fill_start : length b * 1 < 2 ^ 63 → Fits bits64 pos → Filled t s b pos 0 pos b
-  fill_start h u = record { done = prints-as (content-nil t) (prints-none h u) }
+  fill_start h u = record { done = prints_as (content_nil t) (prints-none h u) }
 
   module _ {b' : List ℕ} {i p : ℕ} (inv : Filled t s b pos i p b') where
     pub fill_step : {c : List ℕ} {q : ℕ} → i < length s → Prints b' c p (content_of t (get_or s i 0 ∷ [])) q → Filled t s b pos (i + 1) q c
     fill_step h f =
         let e : content_of t (take i s) ++ content_of t (get_or s i 0 ∷ []) ≡ content_of t (take (i + 1) s) = sym (ap (content_of t) (take_next s i h) ∙ content-append t (take i s) (get_or s i 0 ∷ [])) in
-        record { done = prints-as e (prints-more inv.done f) }
+        record { done = prints_as e (prints-more inv.done f) }
 
     pub fill_end : length s ≤ i → Prints b b' pos (content_of t s) p
-    fill_end h = prints-as (ap (content_of t) (take_whole s i h)) inv.done
+    fill_end h = prints_as (ap (content_of t) (take_whole s i h)) inv.done
 
-    pub fill-same : length b' ≡ length b
-    fill-same = inv.done.same
+    pub fill_same : length b' ≡ length b
+    fill_same = inv.done.same
 
 -- COPIES
 
@@ -101,42 +101,42 @@ module _ {s b : List ℕ} {pos : ℕ} where
     pub to_same : length b' ≡ length b
     to_same = inv.done.same
 
-    pub to-on : length b * 1 < 2 ^ 63 → pos + length s ≤ length b → i < length s → CopiedTo s b pos (i + 1) (set b' (pos + i) (get_or s i 0))
-    to-on l h k =
+    pub to_on : length b * 1 < 2 ^ 63 → pos + length s ≤ length b → i < length s → CopiedTo s b pos (i + 1) (set b' (pos + i) (get_or s i 0))
+    to_on l h k =
         let e = inv.done.same in
         let z : pos + i + 1 ≡ pos + (i + 1) = omega arith in
-        record { done = rw z at (prints-as (sym (take_next s i k)) (prints-more inv.done (put_in (omega arith) (omega arith)))) }
+        record { done = rw z at (prints_as (sym (take_next s i k)) (prints-more inv.done (put_in (omega arith) (omega arith)))) }
 
     pub to_end : length s ≤ i → Prints b b' pos s (pos + i)
-    to_end h = prints-as (take_whole s i h) inv.done
+    to_end h = prints_as (take_whole s i h) inv.done
 
 module _ {s b b' : List ℕ} {pos r : ℕ} where
   pub run-copied : AllPlain s → Prints b b' pos s r → Prints b b' pos (content_of true s) r
-  run-copied p f = prints-as (content-plain p) f
+  run-copied p f = prints_as (content_plain p) f
 
 -- PARTS OF A TEXT, one behind the other
 
 take_part : (s : List ℕ) (i e : ℕ) → i ≤ e → take e s ≡ take i s ++ take (e - i) (drop i s)
 take_part s i e h = let z : e ≡ i + (e - i) = omega arith in ap (λ (n : ℕ). take n s) z ∙ take-add i (e - i) s
 
-pub fill-part : {t : Bool} {s b b' c : List ℕ} {pos i p e q : ℕ} → Filled t s b pos i p b' → i ≤ e → Prints b' c p (content_of t (take (e - i) (drop i s))) q → Filled t s b pos e q c
-fill-part {t} {s} {i = i} {e = e} inv h f =
-    record { done = prints-as (sym (ap (content_of t) (take_part s i e h) ∙ content-append t (take i s) (take (e - i) (drop i s)))) (prints-more inv.done f) }
+pub fill_part : {t : Bool} {s b b' c : List ℕ} {pos i p e q : ℕ} → Filled t s b pos i p b' → i ≤ e → Prints b' c p (content_of t (take (e - i) (drop i s))) q → Filled t s b pos e q c
+fill_part {t} {s} {i = i} {e = e} inv h f =
+    record { done = prints_as (sym (ap (content_of t) (take_part s i e h) ∙ content-append t (take i s) (take (e - i) (drop i s)))) (prints-more inv.done f) }
 
 module _ {s b b₁ b₂ b₃ : List ℕ} {pos i p e q n r : ℕ} (inv : Filled true s b pos i p b₁) (run : PlainRun s i e) (f : Prints b₁ b₂ p (content_of true (take (e - i) (drop i s))) q) (bl : Beyond e (length s) n) where
   pub fill_on : Prints b₂ b₃ q (content_of true (take (n - e) (drop e s))) r → Filled true s b pos n r b₃
-  fill_on g = fill-part (fill-part inv run.ahead f) bl.behind g
+  fill_on g = fill_part (fill_part inv run.ahead f) bl.behind g
 
-pub fill-less : {s : List ℕ} {i e n : ℕ} → i < length s → PlainRun s i e → Beyond e (length s) n → length s - n < length s - i
-fill-less {s} {i} {e} {n} h r b = by (ltb e (length s)) refl
+pub fill_less : {s : List ℕ} {i e n : ℕ} → i < length s → PlainRun s i e → Beyond e (length s) n → length s - n < length s - i
+fill_less {s} {i} {e} {n} h r b = by (ltb e (length s)) refl
   where
     by : (t : Bool) → ltb e (length s) ≡ t → length s - n < length s - i
     by true q = omega (arith, b.ahead (ltb-true e (length s) q), r.ahead, b.inside)
     by false q = omega (arith, ltb-false e (length s) q, b.behind, b.inside)
 
 module _ (s : List ℕ) {b b' : List ℕ} {t : Bool} {pos r : ℕ} where
-  pub as-text : t ≡ true → Prints b b' pos (content_of true s) r → Prints b b' pos (content_of t s) r
-  as-text e f = rw e f
+  pub as_text : t ≡ true → Prints b b' pos (content_of true s) r → Prints b b' pos (content_of t s) r
+  as_text e f = rw e f
 
-  pub as-hex : t ≡ false → Prints b b' pos (content_of false s) r → Prints b b' pos (content_of t s) r
-  as-hex e f = rw e f
+  pub as_hex : t ≡ false → Prints b b' pos (content_of false s) r → Prints b b' pos (content_of t s) r
+  as_hex e f = rw e f

@@ -31,15 +31,15 @@ use Rattle.encoding.specs.declared.answer.MadeItem.{MadeItem as MadeS}
 use Rattle.encoding.specs.declared.answer.ReadAnswer.{ReadAnswer}
 use Rattle.encoding.specs.declared.answer.ReadAnswer.TheVariants.{Made, Refused}
 use Rattle.notation_theorems.proofs.ByName.{reads-is}
-use Rattle.notation_theorems.proofs.Equations.{obey-if}
+use Rattle.notation_theorems.proofs.Equations.{obey_if}
 use Rattle.notation_theorems.proofs.SoundToken.{head-most}
 use Rattle.scanning.proofs.Marked.{stands-left}
 use Rattle.encoding.proofs.ReadTokens.{SizeFine, Fine}
 use Rattle.encoding.proofs.Wrote.{wrote-more, wrote-front}
 use Rattle.encoding.proofs.ReadWriting.{width_some, kind-major, string-head}
-use Rattle.encoding.proofs.Telling.{bind-yes, bind-no, told-no, told-ok, told-lost, told-stop, denied, got, lost, token, place_at, place-left, said-refused, made-never}
-use Rattle.encoding.proofs.ReadRules.{step, shape-low, one-is}
-use Rattle.string_reader.proofs.ReadLoops.{Row, Run, row-start, row_room, row-refused, row_fits, row_count, row-comma, row-less, row-close, row-stray}
+use Rattle.encoding.proofs.Telling.{bind-yes, bind-no, told-no, told-ok, told-lost, told_stop, denied, got, lost, token, place_at, place-left, said-refused, made_never}
+use Rattle.encoding.proofs.ReadRules.{step, shape_low, one-is}
+use Rattle.string_reader.proofs.ReadLoops.{Row, Run, row_start, row_room, row_refused, row_fits, row_count, row_comma, row_less, row_close, row_stray}
 
 -- A LITERAL, by its code
 record LiteralTok (tok : Token) : Type 0 where
@@ -48,25 +48,25 @@ record LiteralTok (tok : Token) : Type 0 where
   pub held : List ℕ
   pub is : tok ≡ begins (literal kind size held)
 
-as-literal : (tok : Token) → 3 < code_of tok → code_of tok ≤ 5 → LiteralTok tok
+as_literal : (tok : Token) → 3 < code_of tok → code_of tok ≤ 5 → LiteralTok tok
 unfolding code_of begin_code item_code open_code
-as-literal (begins (leaf (int unsigned w n))) l h = absurd (omega arith)
-as-literal (begins (leaf (int negative w n))) l h = absurd (omega arith)
-as-literal (begins (leaf (string k w b))) l h = absurd (omega arith)
-as-literal (begins (leaf (chunked k cs))) l h = absurd (omega arith)
-as-literal (begins (leaf (array z xs))) l h = absurd (omega arith)
-as-literal (begins (leaf (map z ps))) l h = absurd (omega arith)
-as-literal (begins (leaf (tag w n x))) l h = absurd (omega arith)
-as-literal (begins (leaf (simple n))) l h = absurd (omega arith)
-as-literal (begins (literal k z b)) l h = record { kind = k; size = z; held = b; is = refl }
-as-literal (begins chunking) l h = absurd (omega arith)
-as-literal (begins (opens (bracket i))) l h = absurd (omega arith)
-as-literal (begins (opens (brace i))) l h = absurd (omega arith)
-as-literal (begins (opens (tagging w n))) l h = absurd (omega arith)
-as-literal (begins (opens embedding)) l h = absurd (omega arith)
-as-literal (closes h' i) l h = absurd (omega (arith, shape-low h'))
-as-literal a_comma l h = absurd (omega arith)
-as-literal a_colon l h = absurd (omega arith)
+as_literal (begins (leaf (int unsigned w n))) l h = absurd (omega arith)
+as_literal (begins (leaf (int negative w n))) l h = absurd (omega arith)
+as_literal (begins (leaf (string k w b))) l h = absurd (omega arith)
+as_literal (begins (leaf (chunked k cs))) l h = absurd (omega arith)
+as_literal (begins (leaf (array z xs))) l h = absurd (omega arith)
+as_literal (begins (leaf (map z ps))) l h = absurd (omega arith)
+as_literal (begins (leaf (tag w n x))) l h = absurd (omega arith)
+as_literal (begins (leaf (simple n))) l h = absurd (omega arith)
+as_literal (begins (literal k z b)) l h = record { kind = k; size = z; held = b; is = refl }
+as_literal (begins chunking) l h = absurd (omega arith)
+as_literal (begins (opens (bracket i))) l h = absurd (omega arith)
+as_literal (begins (opens (brace i))) l h = absurd (omega arith)
+as_literal (begins (opens (tagging w n))) l h = absurd (omega arith)
+as_literal (begins (opens embedding)) l h = absurd (omega arith)
+as_literal (closes h' i) l h = absurd (omega (arith, shape_low h'))
+as_literal a_comma l h = absurd (omega arith)
+as_literal a_colon l h = absurd (omega arith)
 
 -- a literal from a place on
 pub record LiteralHere (s : List ℕ) (at : ℕ) (t : Cut) : Type 0 where
@@ -83,7 +83,7 @@ pub literal-here : {s : List ℕ} {at pos : ℕ} {t : Cut} → Took s at t → R
 unfolding code_of mark_of number_of Written begin_code begin_mark begin_number BeginsAs limit
 literal-here {s} {at} {pos} {t} tk rm l h =
     let ta = token tk (λ z. omega arith) in
-    let lt = as-literal ta.tok (rw ta.seen.code at l) (rw ta.seen.code at h) in
+    let lt = as_literal ta.tok (rw ta.seen.code at l) (rw ta.seen.code at h) in
     let se : Seen s t (begins (literal lt.kind lt.size lt.held)) ta.rest = rw lt.is at ta.seen in
     let fi : Fine (place (drop at (marked s)) - 1) (begins (literal lt.kind lt.size lt.held)) (length ta.rest) = rw lt.is at ta.fine in
     let sh : length lt.held + t.place < t.next = omega (arith, fi.1, place-left tk, stands-left se.next, se.next.inside, tk.place.inside, ta.ahead) in
@@ -102,8 +102,8 @@ literal-here {s} {at} {pos} {t} tk rm l h =
     fits_by : (z : Size) (w : Width) (n : ℕ) → z ≡ definite w → SizeFine z n → n ≤ limit w8 → n ≤ limit w
     fits_by z w n e f h = (rw e at f) h
 
-pub literal-light : {s : List ℕ} {at : ℕ} {t : Cut} (pos : ℕ) → Took s at t → Room s at pos → 3 < t.kind → t.kind ≤ 5 → Light (pos + t.argument)
-literal-light pos tk rm l h =
+pub literal_light : {s : List ℕ} {at : ℕ} {t : Cut} (pos : ℕ) → Took s at t → Room s at pos → 3 < t.kind → t.kind ≤ 5 → Light (pos + t.argument)
+literal_light pos tk rm l h =
     let li = literal-here tk rm l h in
     record { fits = omega (arith, li.short, li.facts.number, li.stands.inside, rm.room, rm.inside, tk.from) }
 
@@ -142,33 +142,33 @@ room_fits r = record { fits = omega (arith, r.room) }
 unfoldable pub last_chunk : Kind → Chunk → Indicator → Chunks
 last_chunk k c i = record { kind = k; all = c ∷ [] }
 
-chunk-step : (k : Kind) (d : ℕ) (c : Chunk) (u : Token) (p q : ℕ) (r : List ℕ) → obey reads (after_chunk d k c u) p q r ≡ step (reads (chunks (only k) d)) add_chunk (last_chunk k) d round c u q r
+chunk_step : (k : Kind) (d : ℕ) (c : Chunk) (u : Token) (p q : ℕ) (r : List ℕ) → obey reads (after_chunk d k c u) p q r ≡ step (reads (chunks (only k) d)) add_chunk (last_chunk k) d round c u q r
 unfolding obey after_chunk step strays closes_by last_chunk
-chunk-step k d c (begins g) p q r = refl
-chunk-step k d c (closes h i) p q r = obey-if (eqb (shape_number round) (shape_number h)) (give (last_chunk k c i)) (strays d (closes h i)) p q r
-chunk-step k d c a_comma p q r = refl
-chunk-step k d c a_colon p q r = refl
+chunk_step k d c (begins g) p q r = refl
+chunk_step k d c (closes h i) p q r = obey_if (eqb (shape_number round) (shape_number h)) (give (last_chunk k c i)) (strays d (closes h i)) p q r
+chunk_step k d c a_comma p q r = refl
+chunk_step k d c a_colon p q r = refl
 
 abbrev pub Behind : Kind → ℕ → Chunk → List ℕ → Result Chunks
 Behind k d c r = bind (next r) (λ u r'. step (reads (chunks (only k) d)) add_chunk (last_chunk k) d round c u (place r) r')
 
-chunk-by : (k : Kind) (d : ℕ) (t : Token) (p : ℕ) (r : List ℕ) → obey reads (chunks_rule (only k) d t) p p r ≡ bind (chunk_read_by k d t p r) (λ c r'. Behind k d c r')
+chunk_by_lem : (k : Kind) (d : ℕ) (t : Token) (p : ℕ) (r : List ℕ) → obey reads (chunks_rule (only k) d t) p p r ≡ bind (chunk_read_by k d t p r) (λ c r'. Behind k d c r')
 unfolding chunks_rule chunk_rule is_wanted chunk_read_by chunk_of obey bind strays
-chunk-by k d (begins (leaf x)) p r = refl
-chunk-by byte_string d (begins (literal byte_string (definite w) b)) p r = bind-same (next r) _ _ (λ u r' e. chunk-step byte_string d (record { width = w; content = b }) u p (place r) r')
-chunk-by byte_string d (begins (literal text_string (definite w) b)) p r = refl
-chunk-by text_string d (begins (literal byte_string (definite w) b)) p r = refl
-chunk-by text_string d (begins (literal text_string (definite w) b)) p r = bind-same (next r) _ _ (λ u r' e. chunk-step text_string d (record { width = w; content = b }) u p (place r) r')
-chunk-by k d (begins (literal k' indefinite b)) p r = refl
-chunk-by k d (begins chunking) p r = refl
-chunk-by k d (begins (opens o)) p r = refl
-chunk-by k d (closes h i) p r = refl
-chunk-by k d a_comma p r = refl
-chunk-by k d a_colon p r = refl
+chunk_by_lem k d (begins (leaf x)) p r = refl
+chunk_by_lem byte_string d (begins (literal byte_string (definite w) b)) p r = bind-same (next r) _ _ (λ u r' e. chunk_step byte_string d (record { width = w; content = b }) u p (place r) r')
+chunk_by_lem byte_string d (begins (literal text_string (definite w) b)) p r = refl
+chunk_by_lem text_string d (begins (literal byte_string (definite w) b)) p r = refl
+chunk_by_lem text_string d (begins (literal text_string (definite w) b)) p r = bind-same (next r) _ _ (λ u r' e. chunk_step text_string d (record { width = w; content = b }) u p (place r) r')
+chunk_by_lem k d (begins (literal k' indefinite b)) p r = refl
+chunk_by_lem k d (begins chunking) p r = refl
+chunk_by_lem k d (begins (opens o)) p r = refl
+chunk_by_lem k d (closes h i) p r = refl
+chunk_by_lem k d a_comma p r = refl
+chunk_by_lem k d a_colon p r = refl
 
 pub chunks-more : (k : Kind) (d : ℕ) (s : List ℕ) → reads (chunks (only k) d) s ≡ bind (chunk_read k d s) (λ c r. Behind k d c r)
 unfolding rules chunk_read
-chunks-more k d s = reads-is (chunks (only k) d) s ∙ bind-same (next s) _ _ (λ t r e. chunk-by k d t (place s) r) ∙ sym (bind_assoc (next s) _ _)
+chunks-more k d s = reads-is (chunks (only k) d) s ∙ bind-same (next s) _ _ (λ t r e. chunk_by_lem k d t (place s) r) ∙ sym (bind_assoc (next s) _ _)
 
 pub chunks-bytes : (k : Kind) (c : Chunk) (cs : Chunks) → (of_chunks k (add_chunk c cs)).bytes ≡ (of_chunk k c).bytes ++ (of_chunks k cs).bytes
 unfolding of_chunks of_chunk add_chunk encode_chunks
@@ -186,25 +186,25 @@ pub chunks-last-count : (k : Kind) (c : Chunk) (i : Indicator) → (of_chunks k 
 unfolding of_chunks of_chunk last_chunk chunks_length
 chunks-last-count k c i = omega arith
 
-pub chunks-plain : (k : Kind) (cs : Chunks) → (of_chunks k cs).indicator ≡ 0
+pub chunks_plain : (k : Kind) (cs : Chunks) → (of_chunks k cs).indicator ≡ 0
 unfolding of_chunks
-chunks-plain k cs = refl
+chunks_plain k cs = refl
 
-tells-of : {v : Bool} (n : ℕ) (k k' : Kind) (cs : List Chunk) → v ≡ is_bytes_by (kind_code k') → Tells (held_of (chunked k cs)) v n → k ≡ k'
+tells_of : {v : Bool} (n : ℕ) (k k' : Kind) (cs : List Chunk) → v ≡ is_bytes_by (kind_code k') → Tells (held_of (chunked k cs)) v n → k ≡ k'
 unfolding Tells held_of is_bytes_by kind_code
-tells-of n byte_string byte_string cs e h = refl
-tells-of n byte_string text_string cs e h = absurd (true≢false (sym h.0 ∙ e))
-tells-of n text_string byte_string cs e h = absurd (true≢false (sym e ∙ h))
-tells-of n text_string text_string cs e h = refl
+tells_of n byte_string byte_string cs e h = refl
+tells_of n byte_string text_string cs e h = absurd (true≢false (sym h.0 ∙ e))
+tells_of n text_string byte_string cs e h = absurd (true≢false (sym e ∙ h))
+tells_of n text_string text_string cs e h = refl
 
 tells_as : (k : Kind) (cs : List Chunk) → Tells (held_of (chunked k cs)) (is_bytes_by (kind_code k)) (chunks_length cs)
 unfolding Tells held_of is_bytes_by kind_code
 tells_as byte_string cs = (refl, refl)
 tells_as text_string cs = refl
 
-pub chunks-add : (k : Kind) (c : Chunk) (cs : Chunks) → Tells (of_chunks k cs).held (is_bytes_by (kind_code k)) (of_chunks k cs).count → Tells (of_chunks k (add_chunk c cs)).held (is_bytes_by (kind_code k)) (of_chunks k (add_chunk c cs)).count
+pub chunks_add : (k : Kind) (c : Chunk) (cs : Chunks) → Tells (of_chunks k cs).held (is_bytes_by (kind_code k)) (of_chunks k cs).count → Tells (of_chunks k (add_chunk c cs)).held (is_bytes_by (kind_code k)) (of_chunks k (add_chunk c cs)).count
 unfolding of_chunks add_chunk
-chunks-add k c cs h = rw (tells-of (chunks_length cs.all) cs.kind k cs.all refl h) (tells_as k (c ∷ cs.all))
+chunks_add k c cs h = rw (tells_of (chunks_length cs.all) cs.kind k cs.all refl h) (tells_as k (c ∷ cs.all))
 
 pub chunks-end : (k : Kind) (c : Chunk) (i : Indicator) → Tells (of_chunks k (last_chunk k c i)).held (is_bytes_by (kind_code k)) (of_chunks k (last_chunk k c i)).count
 unfolding of_chunks last_chunk
@@ -225,13 +225,13 @@ chunks_row k d =
       closer = round;
       levels = d;
       rest-is = chunks-more k d;
-      add-bytes = chunks-bytes k;
-      add-count = chunks-count k;
+      add_bytes = chunks-bytes k;
+      add_count = chunks-count k;
       last-bytes = chunks-last k;
       last-count = chunks-last-count k;
-      plain = chunks-plain k;
+      plain = chunks_plain k;
       binary = is_bytes_by (kind_code k);
-      add-tells = chunks-add k;
+      add_tells = chunks_add k;
       last-tells = chunks-end k;
     }
 
@@ -241,7 +241,7 @@ pub record Chunks-run (kind d : ℕ) (s b₀ : List ℕ) (i pos at n size : ℕ)
   pub run : Run (chunks_row (kind_for kind) d) s b₀ i pos at n size b
 
 pub chunks_start : {s : List ℕ} {i pos kind : ℕ} (b : List ℕ) (d : ℕ) → Strings s i pos kind → Chunks-run kind d s b i pos i 0 0 b
-chunks_start {pos = pos} {kind = kind} b d st = record { from = st; run = row-start (chunks_row (kind_for kind) d) b pos refl st.room }
+chunks_start {pos = pos} {kind = kind} b d st = record { from = st; run = row_start (chunks_row (kind_for kind) d) b pos refl st.room }
 
 pub chunks-strings : {s b₀ : List ℕ} {kind d i pos at n size : ℕ} {b : List ℕ} → Chunks-run kind d s b₀ i pos at n size b → Strings s at (pos + size) kind
 chunks-strings {kind = kind} {d = d} r = record { room = row_room (chunks_row (kind_for kind) d) r.run; kinds = r.from.kinds }
@@ -255,7 +255,7 @@ made_kept a m m' f g v h = let e : m ≡ m' = cc in rw e at h
 module _ {s b₀ : List ℕ} {kind d i pos at n size : ℕ} {b b' : List ℕ} (a : ReadAnswer)
     (run : Chunks-run kind d s b₀ i pos at n size b) (told : ReadTold (of_chunk (kind_for kind)) s b b' (length (marked s) - at) (pos + size) a (chunk_read (kind_for kind) d (drop at (marked s)))) where
   pub chunks-lost : {b'' : List ℕ} {e : Refusal} → a ≡ Refused e → ChunksTold kind s b₀ b'' (length (marked s) - i) pos (Refused e) (reads (chunks (only (kind_for kind)) d) (drop i (marked s)))
-  chunks-lost {e = e} f = record { told = row-refused (chunks_row (kind_for kind) d) a run.run told f; kept = λ m g. made-never (Refused e) (said-refused (Refused e) e refl) g }
+  chunks-lost {e = e} f = record { told = row_refused (chunks_row (kind_for kind) d) a run.run told f; kept = λ m g. made_never (Refused e) (said-refused (Refused e) e refl) g }
 
   module _ {m : MadeS} (g : a ≡ Made m) where
     pub chunks-fits : Fits bits64 (size + m.size)
@@ -268,36 +268,36 @@ module _ {s b₀ : List ℕ} {kind d i pos at n size : ℕ} {b b' : List ℕ} (a
     chunks-sum = row_count (chunks_row (kind_for kind) d) a run.run told g
 
     module _ {t : Cut} (tk : Took s m.next t) where
-      pub chunks-comma : t.kind ≡ 11 → Chunks-run kind d s b₀ i pos t.next (n + m.count) (size + m.size) b'
-      chunks-comma e = record { from = run.from; run = row-comma (chunks_row (kind_for kind) d) a run.run told g tk e }
+      pub chunks_comma : t.kind ≡ 11 → Chunks-run kind d s b₀ i pos t.next (n + m.count) (size + m.size) b'
+      chunks_comma e = record { from = run.from; run = row_comma (chunks_row (kind_for kind) d) a run.run told g tk e }
 
-      pub chunks-less : t.kind ≡ 11 → length (marked s) - t.next < length (marked s) - at
-      chunks-less e = row-less (chunks_row (kind_for kind) d) a run.run told g tk e
+      pub chunks_less : t.kind ≡ 11 → length (marked s) - t.next < length (marked s) - at
+      chunks_less e = row_less (chunks_row (kind_for kind) d) a run.run told g tk e
 
       module _ {a' : ReadAnswer} where
-        pub chunks-close : {v : Bool} → t.kind ≡ 14 → v ≡ is_bytes_by kind → a' ≡ Made (record { next = t.next; size = size + m.size; count = n + m.count; indicator = 0; binary = v; length = n + m.count })
+        pub chunks_close : {v : Bool} → t.kind ≡ 14 → v ≡ is_bytes_by kind → a' ≡ Made (record { next = t.next; size = size + m.size; count = n + m.count; indicator = 0; binary = v; length = n + m.count })
             → ChunksTold kind s b₀ b' (length (marked s) - i) pos a' (reads (chunks (only (kind_for kind)) d) (drop i (marked s)))
         unfolding shape_code
-        chunks-close e w f = record { told = row-close (chunks_row (kind_for kind) d) a run.run told g tk e (rw run.from.kinds (rw w at f)); kept = λ m' q. made_kept a' _ m' f q (is_bytes_by kind) (w, refl) }
+        chunks_close e w f = record { told = row_close (chunks_row (kind_for kind) d) a run.run told g tk e (rw run.from.kinds (rw w at f)); kept = λ m' q. made_kept a' _ m' f q (is_bytes_by kind) (w, refl) }
 
         pub chunks-stray : (t.kind ≡ 14 → ⊥) → (t.kind ≡ 11 → ⊥) → Strayed d t a'
             → ChunksTold kind s b₀ b' (length (marked s) - i) pos a' (reads (chunks (only (kind_for kind)) d) (drop i (marked s)))
         unfolding shape_code
-        chunks-stray nc n11 f = record { told = row-stray (chunks_row (kind_for kind) d) a run.run told g tk nc n11 f; kept = λ m' q. made-never a' f.is q }
+        chunks-stray nc n11 f = record { told = row_stray (chunks_row (kind_for kind) d) a run.run told g tk nc n11 f; kept = λ m' q. made_never a' f.is q }
 
-pub ruleset chunks-ways = (chunks-lost, chunks-close, chunks-stray)
+pub ruleset chunks_ways = (chunks-lost, chunks_close, chunks-stray)
 
 -- ONE CHUNK
-not-literal : (k : Kind) (d : ℕ) (tok : Token) (p : ℕ) (r : List ℕ) → (3 < code_of tok → code_of tok ≤ 5 → ⊥) → chunk_read_by k d tok p r ≡ refuse (stray d tok) p
+not_literal : (k : Kind) (d : ℕ) (tok : Token) (p : ℕ) (r : List ℕ) → (3 < code_of tok → code_of tok ≤ 5 → ⊥) → chunk_read_by k d tok p r ≡ refuse (stray d tok) p
 unfolding chunk_read_by code_of begin_code kind_code
-not-literal k d (begins (leaf x)) p r n = refl
-not-literal k d (begins (literal byte_string z b)) p r n = absurd (n (omega arith) (omega arith))
-not-literal k d (begins (literal text_string z b)) p r n = absurd (n (omega arith) (omega arith))
-not-literal k d (begins chunking) p r n = refl
-not-literal k d (begins (opens o)) p r n = refl
-not-literal k d (closes h i) p r n = refl
-not-literal k d a_comma p r n = refl
-not-literal k d a_colon p r n = refl
+not_literal k d (begins (leaf x)) p r n = refl
+not_literal k d (begins (literal byte_string z b)) p r n = absurd (n (omega arith) (omega arith))
+not_literal k d (begins (literal text_string z b)) p r n = absurd (n (omega arith) (omega arith))
+not_literal k d (begins chunking) p r n = refl
+not_literal k d (begins (opens o)) p r n = refl
+not_literal k d (closes h i) p r n = refl
+not_literal k d a_comma p r n = refl
+not_literal k d a_colon p r n = refl
 
 wanted_by : (k k' : Kind) → kind_code k' ≡ kind_code k → k' ≡ k
 unfolding kind_code
@@ -306,27 +306,27 @@ wanted_by byte_string text_string e = absurd (omega arith)
 wanted_by text_string byte_string e = absurd (omega arith)
 wanted_by text_string text_string e = refl
 
-wanted-same : (k : Kind) → is_wanted (only k) k ≡ true
+wanted_same : (k : Kind) → is_wanted (only k) k ≡ true
 unfolding is_wanted
-wanted-same byte_string = refl
-wanted-same text_string = refl
+wanted_same byte_string = refl
+wanted_same text_string = refl
 
-wanted-other : (k k' : Kind) → (kind_code k' ≡ kind_code k → ⊥) → is_wanted (only k) k' ≡ false
+wanted_other : (k k' : Kind) → (kind_code k' ≡ kind_code k → ⊥) → is_wanted (only k) k' ≡ false
 unfolding is_wanted
-wanted-other byte_string byte_string n = absurd (n refl)
-wanted-other byte_string text_string n = refl
-wanted-other text_string byte_string n = refl
-wanted-other text_string text_string n = absurd (n refl)
+wanted_other byte_string byte_string n = absurd (n refl)
+wanted_other byte_string text_string n = refl
+wanted_other text_string byte_string n = refl
+wanted_other text_string text_string n = absurd (n refl)
 
 open_by : (k k' : Kind) (z : Size) (b : List ℕ) (p : ℕ) (r : List ℕ) → size_number z ≡ 1 → chunk_of k k' z b p r ≡ refuse bad_indicator p
 unfolding chunk_of size_number
 open_by k k' (definite w) b p r q = absurd (omega (arith, width_some w))
 open_by k k' indefinite b p r q = refl
 
-mixed-by : (k k' : Kind) (z : Size) (b : List ℕ) (p : ℕ) (r : List ℕ) → (size_number z ≡ 1 → ⊥) → (kind_code k' ≡ kind_code k → ⊥) → chunk_of k k' z b p r ≡ refuse mixed_chunks p
+mixed_by : (k k' : Kind) (z : Size) (b : List ℕ) (p : ℕ) (r : List ℕ) → (size_number z ≡ 1 → ⊥) → (kind_code k' ≡ kind_code k → ⊥) → chunk_of k k' z b p r ≡ refuse mixed_chunks p
 unfolding chunk_of size_number
-mixed-by k k' (definite w) b p r n m = rw (wanted-other k k' m, chunk_of)
-mixed-by k k' indefinite b p r n m = absurd (n refl)
+mixed_by k k' (definite w) b p r n m = rw (wanted_other k k' m, chunk_of)
+mixed_by k k' indefinite b p r n m = absurd (n refl)
 
 -- a chunk that was written
 done-by : {s b b' : List ℕ} {at pos size : ℕ} {t : Cut} {a : ReadAnswer} (k k' : Kind) (z : Size) (c r : List ℕ) (res : Result Chunk) → Took s at t → (t.indicator ≡ 1 → ⊥) → k' ≡ k → LiteralIs s t k' z c
@@ -338,7 +338,7 @@ done-by {s} {b} {b'} {at} {pos} {size} {t} {a} k k' (definite w) c r res tk n1 s
     let hs : head_bytes (initial_by t) t.argument ≡ head (strings k) w (length c) = string-head l ∙ ap (λ (x : Kind). head (strings x) w (length c)) same in
     let q : size ≡ length (head (strings k) w (length c) ++ c) = sg.size_is ∙ (rw (hs, l.number)) ∙ sym (length-append (head (strings k) w (length c)) c) in
     let z : length (head (strings k) w (length c) ++ c) ≡ length (head (strings k) w (length c)) + length c = length-append (head (strings k) w (length c)) c in
-    told-ok (record { width = w; content = c }) res (e ∙ (rw same (rw (wanted-same k, chunk_of)))) f
+    told-ok (record { width = w; content = c }) res (e ∙ (rw same (rw (wanted_same k, chunk_of)))) f
     (record {
       stands = sn;
       sized = q;
@@ -350,45 +350,45 @@ done-by {s} {b} {b'} {at} {pos} {size} {t} {a} k k' (definite w) c r res tk n1 s
       wrote = rw hs at (sg.wrote c l.number l.spelled);
     })
 
-chunk-is : {s : List ℕ} {at : ℕ} {t : Cut} (k : Kind) (d : ℕ) (li : LiteralHere s at t)
+chunk_is : {s : List ℕ} {at : ℕ} {t : Cut} (k : Kind) (d : ℕ) (li : LiteralHere s at t)
     → chunk_read k d (drop at (marked s)) ≡ chunk_of k li.kind li.size li.held (place (drop at (marked s))) li.rest
 unfolding chunk_read chunk_read_by
-chunk-is {s} {at} k d li = bind-yes (next (drop at (marked s))) _ (begins (literal li.kind li.size li.held)) li.rest li.next_is
+chunk_is {s} {at} k d li = bind-yes (next (drop at (marked s))) _ (begins (literal li.kind li.size li.held)) li.rest li.next_is
 
 module _ {s b b' : List ℕ} {at pos kind : ℕ} {t : Cut} {a : ReadAnswer} (d : ℕ) (st : Strings s at pos kind) (tk : Took s at t) where
-  chunk-other : (3 < t.kind → t.kind ≤ 5 → ⊥) → Strayed d t a → ReadTold (of_chunk (kind_for kind)) s b b' (length (marked s) - at) pos a (chunk_read (kind_for kind) d (drop at (marked s)))
+  chunk_other : (3 < t.kind → t.kind ≤ 5 → ⊥) → Strayed d t a → ReadTold (of_chunk (kind_for kind)) s b b' (length (marked s) - at) pos a (chunk_read (kind_for kind) d (drop at (marked s)))
   unfolding chunk_read
-  chunk-other n f = told-stop d _ _ tk f refl (λ tok r e u. not-literal (kind_for kind) d tok (place (drop at (marked s))) r (λ l h. n (rw e l) (rw e h)))
+  chunk_other n f = told_stop d _ _ tk f refl (λ tok r e u. not_literal (kind_for kind) d tok (place (drop at (marked s))) r (λ l h. n (rw e l) (rw e h)))
 
-  pub chunk-low : t.kind ≤ 3 → Strayed d t a → ReadTold (of_chunk (kind_for kind)) s b b' (length (marked s) - at) pos a (chunk_read (kind_for kind) d (drop at (marked s)))
-  chunk-low h f = chunk-other (λ l m. absurd (omega arith)) f
+  pub chunk_low : t.kind ≤ 3 → Strayed d t a → ReadTold (of_chunk (kind_for kind)) s b b' (length (marked s) - at) pos a (chunk_read (kind_for kind) d (drop at (marked s)))
+  chunk_low h f = chunk_other (λ l m. absurd (omega arith)) f
 
-  pub chunk-high : 5 < t.kind → Strayed d t a → ReadTold (of_chunk (kind_for kind)) s b b' (length (marked s) - at) pos a (chunk_read (kind_for kind) d (drop at (marked s)))
-  chunk-high h f = chunk-other (λ l m. absurd (omega arith)) f
+  pub chunk_high : 5 < t.kind → Strayed d t a → ReadTold (of_chunk (kind_for kind)) s b b' (length (marked s) - at) pos a (chunk_read (kind_for kind) d (drop at (marked s)))
+  chunk_high h f = chunk_other (λ l m. absurd (omega arith)) f
 
   module _ (l : 3 < t.kind) (h : t.kind ≤ 5) where
-    pub chunk-open : t.indicator ≡ 1 → Denies bad_indicator t.place a → ReadTold (of_chunk (kind_for kind)) s b b' (length (marked s) - at) pos a (chunk_read (kind_for kind) d (drop at (marked s)))
-    chunk-open e f =
+    pub chunk_open : t.indicator ≡ 1 → Denies bad_indicator t.place a → ReadTold (of_chunk (kind_for kind)) s b b' (length (marked s) - at) pos a (chunk_read (kind_for kind) d (drop at (marked s)))
+    chunk_open e f =
         let li = literal-here tk st.room l h in
-        told-no bad_indicator (place (drop at (marked s))) _ (chunk-is (kind_for kind) d li ∙ open_by (kind_for kind) li.kind li.size li.held (place (drop at (marked s))) li.rest (sym li.facts.size ∙ e)) (denied f (place_at tk))
+        told-no bad_indicator (place (drop at (marked s))) _ (chunk_is (kind_for kind) d li ∙ open_by (kind_for kind) li.kind li.size li.held (place (drop at (marked s))) li.rest (sym li.facts.size ∙ e)) (denied f (place_at tk))
 
     module _ (n1 : t.indicator ≡ 1 → ⊥) where
-      pub chunk-mixed : (t.kind ≡ kind → ⊥) → Denies mixed_chunks t.place a → ReadTold (of_chunk (kind_for kind)) s b b' (length (marked s) - at) pos a (chunk_read (kind_for kind) d (drop at (marked s)))
-      chunk-mixed n f =
+      pub chunk_mixed : (t.kind ≡ kind → ⊥) → Denies mixed_chunks t.place a → ReadTold (of_chunk (kind_for kind)) s b b' (length (marked s) - at) pos a (chunk_read (kind_for kind) d (drop at (marked s)))
+      chunk_mixed n f =
           let li = literal-here tk st.room l h in
           told-no mixed_chunks (place (drop at (marked s))) _
-          (chunk-is (kind_for kind) d li ∙ mixed-by (kind_for kind) li.kind li.size li.held (place (drop at (marked s))) li.rest (λ z. n1 (li.facts.size ∙ z)) (λ e. n (li.facts.code ∙ e ∙ st.kinds))) (denied f (place_at tk))
+          (chunk_is (kind_for kind) d li ∙ mixed_by (kind_for kind) li.kind li.size li.held (place (drop at (marked s))) li.rest (λ z. n1 (li.facts.size ∙ z)) (λ e. n (li.facts.code ∙ e ∙ st.kinds))) (denied f (place_at tk))
 
-      pub chunk-done : {size : ℕ} → t.kind ≡ kind → Stringed s t b b' pos size → a ≡ Made (record { next = t.next; size = size; count = t.argument; indicator = 0; binary = false; length = 0 })
+      pub chunk_done : {size : ℕ} → t.kind ≡ kind → Stringed s t b b' pos size → a ≡ Made (record { next = t.next; size = size; count = t.argument; indicator = 0; binary = false; length = 0 })
           → ReadTold (of_chunk (kind_for kind)) s b b' (length (marked s) - at) pos a (chunk_read (kind_for kind) d (drop at (marked s)))
-      chunk-done {size} e sg f =
+      chunk_done {size} e sg f =
           let li = literal-here tk st.room l h in
-          done-by (kind_for kind) li.kind li.size li.held li.rest _ tk n1 (wanted_by (kind_for kind) li.kind (sym li.facts.code ∙ e ∙ sym st.kinds)) li.facts (chunk-is (kind_for kind) d li) li.stands li.short sg f
+          done-by (kind_for kind) li.kind li.size li.held li.rest _ tk n1 (wanted_by (kind_for kind) li.kind (sym li.facts.code ∙ e ∙ sym st.kinds)) li.facts (chunk_is (kind_for kind) d li) li.stands li.short sg f
 
-pub ruleset chunk-ways = (chunk-low, chunk-high, chunk-open, chunk-mixed, chunk-done)
+pub ruleset chunk_ways = (chunk_low, chunk_high, chunk_open, chunk_mixed, chunk_done)
 
-pub chunk-light : {s : List ℕ} {at kind : ℕ} {t : Cut} (pos : ℕ) → Strings s at pos kind → Took s at t → 3 < t.kind → t.kind ≤ 5 → Light (pos + t.argument)
-chunk-light pos st tk l h = literal-light pos tk st.room l h
+pub chunk_light : {s : List ℕ} {at kind : ℕ} {t : Cut} (pos : ℕ) → Strings s at pos kind → Took s at t → 3 < t.kind → t.kind ≤ 5 → Light (pos + t.argument)
+chunk_light pos st tk l h = literal_light pos tk st.room l h
 
 -- A STRING IN CHUNKS
 either-by : (k : Kind) (d : ℕ) (z : Size) (b : List ℕ) (p : ℕ) (r : List ℕ) → obey reads (chunk_rule either d k z b) p p r ≡ obey reads (chunk_rule (only k) d k z b) p p r
@@ -409,29 +409,29 @@ unfolding kind_for kind_code
 kind-back byte_string = refl
 kind-back text_string = refl
 
-not-either : (d : ℕ) (tok : Token) (p : ℕ) (r : List ℕ) → (3 < code_of tok → code_of tok ≤ 5 → ⊥) → obey reads (chunks_rule either d tok) p p r ≡ refuse (stray d tok) p
+not_either : (d : ℕ) (tok : Token) (p : ℕ) (r : List ℕ) → (3 < code_of tok → code_of tok ≤ 5 → ⊥) → obey reads (chunks_rule either d tok) p p r ≡ refuse (stray d tok) p
 unfolding chunks_rule obey strays code_of begin_code kind_code
-not-either d (begins (leaf x)) p r n = refl
-not-either d (begins (literal byte_string z b)) p r n = absurd (n (omega arith) (omega arith))
-not-either d (begins (literal text_string z b)) p r n = absurd (n (omega arith) (omega arith))
-not-either d (begins chunking) p r n = refl
-not-either d (begins (opens o)) p r n = refl
-not-either d (closes h i) p r n = refl
-not-either d a_comma p r n = refl
-not-either d a_colon p r n = refl
+not_either d (begins (leaf x)) p r n = refl
+not_either d (begins (literal byte_string z b)) p r n = absurd (n (omega arith) (omega arith))
+not_either d (begins (literal text_string z b)) p r n = absurd (n (omega arith) (omega arith))
+not_either d (begins chunking) p r n = refl
+not_either d (begins (opens o)) p r n = refl
+not_either d (closes h i) p r n = refl
+not_either d a_comma p r n = refl
+not_either d a_colon p r n = refl
 
 abbrev Whole : Chunks → List ℕ → Result Item
 Whole c r = ok (chunked c.kind c.all) r
 
-pub open-room : {s : List ℕ} {at place : ℕ} (pos : ℕ) → Opened s at pos place → Room s at (pos + 1)
-open-room pos o = record { inside = o.inside; room = omega (arith, o.room) }
+pub open_room : {s : List ℕ} {at place : ℕ} (pos : ℕ) → Opened s at pos place → Room s at (pos + 1)
+open_room pos o = record { inside = o.inside; room = omega (arith, o.room) }
 
 module _ {s b b' : List ℕ} {at pos place' : ℕ} {t : Cut} {a : ReadAnswer} (d : ℕ) (o : Opened s at pos place') (tk : Took s at t) where
   chunked-other : (3 < t.kind → t.kind ≤ 5 → ⊥) → Strayed d t a → ReadTold of_item s b b' (length (marked s) - at + 1) pos a (chunked_read d (drop at (marked s)))
   unfolding chunked_read rules bind
   chunked-other n f =
-      told-stop d _ _ tk f (ap (λ (u : Result Chunks). bind u (λ c r. Whole c r)) (reads-is (chunks either d) (drop at (marked s))) ∙ bind_assoc (next (drop at (marked s))) _ _)
-      (λ tok r e u. bind-no _ (λ c r. Whole c r) _ _ (not-either d tok (place (drop at (marked s))) r (λ l h. n (rw e l) (rw e h))))
+      told_stop d _ _ tk f (ap (λ (u : Result Chunks). bind u (λ c r. Whole c r)) (reads-is (chunks either d) (drop at (marked s))) ∙ bind_assoc (next (drop at (marked s))) _ _)
+      (λ tok r e u. bind-no _ (λ c r. Whole c r) _ _ (not_either d tok (place (drop at (marked s))) r (λ l h. n (rw e l) (rw e h))))
 
   pub chunked-low : t.kind ≤ 3 → Strayed d t a → ReadTold of_item s b b' (length (marked s) - at + 1) pos a (chunked_read d (drop at (marked s)))
   chunked-low h f = chunked-other (λ l m. absurd (omega arith)) f
@@ -441,7 +441,7 @@ module _ {s b b' : List ℕ} {at pos place' : ℕ} {t : Cut} {a : ReadAnswer} (d
 
 kind-told : {s b b' : List ℕ} {most pos : ℕ} {m : MadeS} {r : List ℕ} (k : Kind) (cs : Chunks) → m.binary ≡ is_bytes_by (kind_code k) → MovedOn s b b' most pos m (of_chunks k cs) r → cs.kind ≡ k
 unfolding of_chunks
-kind-told {m = m} k cs e mv = tells-of m.length cs.kind k cs.all e mv.tells
+kind-told {m = m} k cs e mv = tells_of m.length cs.kind k cs.all e mv.tells
 
 -- the chunks between their first byte and the break
 whole-told : {s b b' b'' : List ℕ} {at pos place' first : ℕ} {m : MadeS} {a' : ReadAnswer} (k : Kind) (cs : Chunks) (res : Result Item) (r : List ℕ) → res ≡ ok (chunked cs.kind cs.all) r → cs.kind ≡ k
@@ -468,15 +468,15 @@ whole-told {s} {b} {b'} {b''} {at} {pos} {place'} {first} {m} {a'} k cs res r e 
 
 pub chunked-strings : {s : List ℕ} {at place' : ℕ} {t : Cut} (pos : ℕ) → Opened s at pos place' → Took s at t → 3 < t.kind → t.kind ≤ 5 → Strings s at (pos + 1) t.kind
 chunked-strings pos o tk l h =
-    let li = literal-here tk (open-room pos o) l h in
-    record { room = open-room pos o; kinds = rw li.facts.code (ap kind_code (kind-back li.kind)) }
+    let li = literal-here tk (open_room pos o) l h in
+    record { room = open_room pos o; kinds = rw li.facts.code (ap kind_code (kind-back li.kind)) }
 
 module _ {s b b' : List ℕ} {at pos place' : ℕ} {t : Cut} (d : ℕ) (a : ReadAnswer) (o : Opened s at pos place') (tk : Took s at t) (l : 3 < t.kind) (h : t.kind ≤ 5)
     (ct : ChunksTold t.kind s b b' (length (marked s) - at) (pos + 1) a (reads (chunks (only (kind_for t.kind)) d) (drop at (marked s)))) where
   chunked-is : chunked_read d (drop at (marked s)) ≡ bind (reads (chunks (only (kind_for t.kind)) d) (drop at (marked s))) (λ c r. Whole c r)
   unfolding chunked_read
   chunked-is =
-      let li = literal-here tk (open-room pos o) l h in
+      let li = literal-here tk (open_room pos o) l h in
       let e : li.kind ≡ kind_for t.kind = sym (kind-back li.kind) ∙ ap kind_for (sym li.facts.code) in
       ap (λ (u : Result Chunks). bind u (λ c r. Whole c r)) (chunks-either d li ∙ ap (λ (k : Kind). reads (chunks (only k) d) (drop at (marked s))) e)
 
@@ -484,8 +484,8 @@ module _ {s b b' : List ℕ} {at pos place' : ℕ} {t : Cut} (d : ℕ) (a : Read
   chunked-lost f = told-lost _ _ (lost a ct.told f) chunked-is
 
   module _ {m : MadeS} (g : a ≡ Made m) where
-    pub chunked-light : Light (pos + m.size)
-    chunked-light = record { fits = omega (arith, (got a ct.told g).moved.short, o.room) }
+    pub chunked_light : Light (pos + m.size)
+    chunked_light = record { fits = omega (arith, (got a ct.told g).moved.short, o.room) }
 
     pub chunked-done : {b'' : List ℕ} {a' : ReadAnswer} {major : ℕ} → MajorBy t.kind major → Ended b' b'' pos (major * 32 + 31) m.next m.size m.binary m.length a'
         → ReadTold of_item s b b'' (length (marked s) - at + 1) pos a' (chunked_read d (drop at (marked s)))
@@ -497,13 +497,13 @@ module _ {s b b' : List ℕ} {at pos place' : ℕ} {t : Cut} (d : ℕ) (a : Read
         whole-told (kind_for t.kind) it.thing _ it.rest (chunked-is ∙ bind-yes (reads (chunks (only (kind_for t.kind)) d) (drop at (marked s))) _ it.thing it.rest it.is) same
         (ap (λ (x : ℕ). x * 32 + 31) (mj.is ∙ ap major_by (sym code))) it.moved en o
 
-pub ruleset chunked-ways = (chunked-low, chunked-high, chunked-lost, chunked-done)
+pub ruleset chunked_ways = (chunked-low, chunked-high, chunked-lost, chunked-done)
 
 pub major-fits : {c r : ℕ} → MajorBy c r → Fits bits8 (r * 32)
 major-fits m = record { fits = omega (arith, m.most) }
 
-pub major-open : {c r : ℕ} → MajorBy c r → Fits bits8 (r * 32 + 31)
-major-open m = record { fits = omega (arith, m.most) }
+pub major_open : {c r : ℕ} → MajorBy c r → Fits bits8 (r * 32 + 31)
+major_open m = record { fits = omega (arith, m.most) }
 
 pub opened-fits : {s : List ℕ} {at place' : ℕ} (pos : ℕ) → Opened s at pos place' → Fits bits64 (pos + 1)
 opened-fits pos o = record { fits = omega (arith, o.room) }

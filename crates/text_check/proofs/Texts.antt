@@ -12,16 +12,16 @@ use Rattle.cbor.specs.Utf8.{first_bad, is_utf8}
 use Rattle.cbor.specs.Decode.{most_bytes}
 use Rattle.refusal.specs.RefusalKinds.{kind_number}
 use Rattle.refusal.specs.declared.RefusalKind.TheVariants.{TooLong, NotUtf8}
-use Rattle.cbor.proofs.Results.{refused-not-accepted}
+use Rattle.cbor.proofs.Results.{refused_not_accepted}
 use Rattle.notation.specs.Reading.{checked}
 use Rattle.text_check.specs.TextAnswers.{text_told, passing}
 use Rattle.text_check.specs.declared.Text.TheVariants.{Good, Refused as TextRefused}
 
 -- A TEXT: 1, then 2
 module _ (s : List ℕ) where
-  pub text-long : 65535 < length s → text_told (TextRefused (record { kind = TooLong; place = 0 })) ≡ passing s
+  pub text_long : 65535 < length s → text_told (TextRefused (record { kind = TooLong; place = 0 })) ≡ passing s
   unfolding text_told passing checked kind_number
-  text-long h = rw (lt-leb (length s) most_bytes h, checked)
+  text_long h = rw (lt-leb (length s) most_bytes h, checked)
 
   pub text-good : {k : ℕ} → length s ≤ 65535 → k ≡ first_bad s → k ≡ length s → text_told Good ≡ passing s
   unfolding text_told passing checked is_utf8
@@ -31,7 +31,7 @@ module _ (s : List ℕ) where
   unfolding text_told passing checked is_utf8 kind_number
   text-bad h f e = rw (le-leb (length s) most_bytes h, checked) (rw (ne_eqb (first_bad s) (length s) (λ i. e (f ∙ i)), f))
 
-pub ruleset text-ways = (text-long, text-good, text-bad)
+pub ruleset text_ways = (text_long, text-good, text-bad)
 
 -- a text that passed is read; one that did not is refused as such
 pub passes : {A : Type 0} (s : List ℕ) (v : Verdict A) → passing s ≡ accepted tt → checked s v ≡ v
@@ -41,12 +41,12 @@ passes {A} s v e = long? (leb (length s) most_bytes) e
     text? : (b : Bool) → ◌≡◌ {A = Verdict Unit} (elim b [ true ↦ accepted tt | false ↦ refused not_utf8 (first_bad s) ]) (accepted tt)
         → ◌≡◌ {A = Verdict A} (elim b [ true ↦ v | false ↦ refused not_utf8 (first_bad s) ]) v
     text? true f = refl
-    text? false f = absurd (refused-not-accepted f)
+    text? false f = absurd (refused_not_accepted f)
 
     long? : (b : Bool) → ◌≡◌ {A = Verdict Unit} (elim b [ true ↦ elim (is_utf8 s) [ true ↦ accepted tt | false ↦ refused not_utf8 (first_bad s) ] | false ↦ refused too_long 0 ]) (accepted tt)
         → ◌≡◌ {A = Verdict A} (elim b [ true ↦ elim (is_utf8 s) [ true ↦ v | false ↦ refused not_utf8 (first_bad s) ] | false ↦ refused too_long 0 ]) v
     long? true f = text? (is_utf8 s) f
-    long? false f = absurd (refused-not-accepted f)
+    long? false f = absurd (refused_not_accepted f)
 
 pub fails : {A : Type 0} (s : List ℕ) (v : Verdict A) {n q : ℕ} → passing s ≡ refused n q → checked s v ≡ refused n q
 unfolding passing checked
@@ -54,7 +54,7 @@ fails {A} s v {n} {q} e = long? (leb (length s) most_bytes) e
   where
     text? : (b : Bool) → ◌≡◌ {A = Verdict Unit} (elim b [ true ↦ accepted tt | false ↦ refused not_utf8 (first_bad s) ]) (refused n q)
         → ◌≡◌ {A = Verdict A} (elim b [ true ↦ v | false ↦ refused not_utf8 (first_bad s) ]) (refused n q)
-    text? true f = absurd (refused-not-accepted (sym f))
+    text? true f = absurd (refused_not_accepted (sym f))
     text? false f = let i : not_utf8 ≡ n = cc in let j : first_bad s ≡ q = cc in rw (i, j)
 
     long? : (b : Bool) → ◌≡◌ {A = Verdict Unit} (elim b [ true ↦ elim (is_utf8 s) [ true ↦ accepted tt | false ↦ refused not_utf8 (first_bad s) ] | false ↦ refused too_long 0 ]) (refused n q)
@@ -69,4 +69,4 @@ passed-short s e = go (leb (length s) most_bytes) refl e
     go : (b : Bool) → leb (length s) most_bytes ≡ b → ◌≡◌ {A = Verdict Unit} (elim b [ true ↦ elim (is_utf8 s) [ true ↦ accepted tt | false ↦ refused not_utf8 (first_bad s) ] | false ↦ refused too_long 0 ]) (accepted tt)
         → length s ≤ most_bytes
     go true i f = leb-true (length s) most_bytes i
-    go false i f = absurd (refused-not-accepted f)
+    go false i f = absurd (refused_not_accepted f)

@@ -10,7 +10,7 @@ use lib.Seq.{take-suc}
 use mir.Syntax.{w64 as bits64}
 use mir.Val.{Fits}
 use Rattle.memory.specs.Buffer.{clipped}
-use Rattle.memory.proofs.Buffer.{clipped-past, clipped-nil, clipped-one, clipped-more}
+use Rattle.memory.proofs.Buffer.{clipped-past, clipped_nil, clipped-one, clipped-more}
 use Rattle.memory.specs.Sums.{capped}
 use Rattle.text_output.specs.PrintParts.{Prints}
 
@@ -29,12 +29,12 @@ prints-more {b} {b₁} {b₂} {ws} {vs} {pos} {p} {q} f g =
     }
 
 -- what is printed, under another name
-pub prints-as : {b b' ws vs : List ℕ} {pos p : ℕ} → ws ≡ vs → Prints b b' pos ws p → Prints b b' pos vs p
-prints-as {b} {b'} {ws} {vs} {pos} {p} e f = rw e at f
+pub prints_as : {b b' ws vs : List ℕ} {pos p : ℕ} → ws ≡ vs → Prints b b' pos ws p → Prints b b' pos vs p
+prints_as {b} {b'} {ws} {vs} {pos} {p} e f = rw e at f
 
 module _ {b : List ℕ} {pos : ℕ} (s : length b * 1 < 2 ^ 63) where
   pub prints-none : Fits bits64 pos → Prints b b pos [] pos
-  prints-none u = record { same = refl; short = omega arith; next = omega arith; is = sym (clipped-nil b pos) }
+  prints-none u = record { same = refl; short = omega arith; next = omega arith; is = sym (clipped_nil b pos) }
 
   pub put_in : {v : ℕ} → pos < length b → Prints b (set b pos v) pos (v ∷ []) (pos + 1)
   put_in {v} h = record { same = length-set b pos v; short = omega arith; next = omega arith; is = clipped-one b pos v h }
@@ -63,10 +63,10 @@ module _ {s b : List ℕ} {pos : ℕ} where
 
   module _ {b' : List ℕ} {i p : ℕ} (inv : Copied s b pos i p b') where
     pub copy_step : {c : List ℕ} {q : ℕ} → i < length s → Prints b' c p (get_or s i 0 ∷ []) q → Copied s b pos (i + 1) q c
-    copy_step h f = record { done = prints-as (sym (take_next s i h)) (prints-more inv.done f) }
+    copy_step h f = record { done = prints_as (sym (take_next s i h)) (prints-more inv.done f) }
 
-    pub copy-end : length s ≤ i → Prints b b' pos s p
-    copy-end h = prints-as (take_whole s i h) inv.done
+    pub copy_end : length s ≤ i → Prints b b' pos s p
+    copy_end h = prints_as (take_whole s i h) inv.done
 
-    pub copy-same : length b' ≡ length b
-    copy-same = inv.done.same
+    pub copy_same : length b' ≡ length b
+    copy_same = inv.done.same

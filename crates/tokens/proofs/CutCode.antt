@@ -30,8 +30,8 @@ use Rattle.notation_theorems.proofs.Good.{Below}
 use Rattle.notation_theorems.proofs.Locality.{cut_below}
 use Rattle.notation_theorems.proofs.ScanningElements.{class-is}
 use Rattle.scanning.proofs.Marked.{front, length_marked, byte_at, stands_at}
-use Rattle.numbers.proofs.NumberCode.{says-as, says-refuse}
-use Rattle.words.proofs.WordCode.{stood-digit}
+use Rattle.numbers.proofs.NumberCode.{says_as, says_refuse}
+use Rattle.words.proofs.WordCode.{stood_digit}
 
 -- BY CLASS
 class-most : (c : Class) → class_number c ≤ 21
@@ -59,9 +59,9 @@ class-most less = omega arith
 class-most greater = omega arith
 class-most end_mark = omega arith
 
-pub stood-some : {s : List ℕ} {at k : ℕ} → Stood s at k → (c : Class) → k ≡ class_number c → at < length (marked s)
+pub stood_some : {s : List ℕ} {at k : ℕ} → Stood s at k → (c : Class) → k ≡ class_number c → at < length (marked s)
 unfolding front_class
-stood-some {s} {at} {k} st c e = go (leb (length (marked s)) at) refl
+stood_some {s} {at} {k} st c e = go (leb (length (marked s)) at) refl
   where
     go : (t : Bool) → leb (length (marked s)) at ≡ t → at < length (marked s)
     go true q =
@@ -72,7 +72,7 @@ stood-some {s} {at} {k} st c e = go (leb (length (marked s)) at) refl
 cut_at : {s : List ℕ} {at k : ℕ} → Stood s at k → (c : Class) → k ≡ class_number c → cut (drop at (marked s)) ≡ cut_by c (get_or (marked s) at 0) (drop (at + 1) (marked s))
 unfolding cut front_class is
 cut_at {s} {at} {k} st c e =
-    let f = front (marked s) at (stood-some st c e) in
+    let f = front (marked s) at (stood_some st c e) in
     let b = get_or (marked s) at 0 in
     let q : class_number c ≡ class_number (class_of b) = sym e ∙ (st.is ∙ rw f) in
     rw f (ap (λ (k : Class). cut_by k b (drop (at + 1) (marked s))) (class-is c b (eq-eqb (class_number c) (class_number (class_of b)) q)))
@@ -88,40 +88,40 @@ plain m tok ec em en w h =
 
 -- where such a class stands, a byte does
 module _ {s : List ℕ} {at k : ℕ} (st : Stood s at k) where
-  pub in-letter : k ≡ 3 → at < length s
-  in-letter e = st.inside (omega arith)
+  pub in_letter : k ≡ 3 → at < length s
+  in_letter e = st.inside (omega arith)
 
-  pub in-minus : k ≡ 5 → at < length s
-  in-minus e = st.inside (omega arith)
+  pub in_minus : k ≡ 5 → at < length s
+  in_minus e = st.inside (omega arith)
 
-  pub in-dot : k ≡ 6 → at < length s
-  in-dot e = st.inside (omega arith)
+  pub in_dot : k ≡ 6 → at < length s
+  in_dot e = st.inside (omega arith)
 
-  pub in-open_paren : k ≡ 13 → at < length s
-  in-open_paren e = st.inside (omega arith)
+  pub in_open_paren : k ≡ 13 → at < length s
+  in_open_paren e = st.inside (omega arith)
 
-  pub in-open_bracket : k ≡ 15 → at < length s
-  in-open_bracket e = st.inside (omega arith)
+  pub in_open_bracket : k ≡ 15 → at < length s
+  in_open_bracket e = st.inside (omega arith)
 
-  pub in-open_brace : k ≡ 17 → at < length s
-  in-open_brace e = st.inside (omega arith)
+  pub in_open_brace : k ≡ 17 → at < length s
+  in_open_brace e = st.inside (omega arith)
 
-  pub in-less : k ≡ 19 → at < length s
-  in-less e = st.inside (omega arith)
+  pub in_less : k ≡ 19 → at < length s
+  in_less e = st.inside (omega arith)
 
-  pub in-greater : k ≡ 20 → at < length s
-  in-greater e = st.inside (omega arith)
+  pub in_greater : k ≡ 20 → at < length s
+  in_greater e = st.inside (omega arith)
 
-  pub in-quote : k ≡ 7 → QuotedAt s at 0
-  in-quote e = record { inside = st.inside (omega arith); quoted = omega arith }
+  pub in_quote : k ≡ 7 → QuotedAt s at 0
+  in_quote e = record { inside = st.inside (omega arith); quoted = omega arith }
 
-  pub in-apostrophe : k ≡ 8 → QuotedAt s at 1
-  in-apostrophe e = record { inside = st.inside (omega arith); quoted = omega arith }
+  pub in_apostrophe : k ≡ 8 → QuotedAt s at 1
+  in_apostrophe e = record { inside = st.inside (omega arith); quoted = omega arith }
 
-  pub behind-minus : k ≡ 5 → at + 1 ≤ length s
-  behind-minus e = let h : at < length s = st.inside (omega arith) in omega arith
+  pub behind_minus : k ≡ 5 → at + 1 ≤ length s
+  behind_minus e = let h : at < length s = st.inside (omega arith) in omega arith
 
-pub ruleset insides = (stood-digit, in-letter, in-dot, in-open_paren, in-open_bracket, in-open_brace, in-less, in-greater, in-quote, in-apostrophe, behind-minus)
+pub ruleset insides = (stood_digit, in_letter, in_dot, in_open_paren, in_open_bracket, in_open_brace, in_less, in_greater, in_quote, in_apostrophe, behind_minus)
 
 cut-nothing : (r : List ℕ) → front_class r ≡ 22 → cut r ≡ fault not_allowed
 unfolding cut front_class
@@ -162,79 +162,79 @@ cut-other (b ∷ r) k e n2 n3 n5 n6 n7 n8 n11 n12 n13 n14 n15 n16 n17 n18 n19 n2
 module _ {s : List ℕ} {at k : ℕ} {t : Cut} (st : Stood s at k) where
   pub cut_digit : k ≡ 2 → Says s at t (number (sign_of false) (get_or s at 0) (drop (at + 1) (marked s))) → Says s at t (cut (drop at (marked s)))
   unfolding cut_by class_number sign_of
-  cut_digit e h = says-as (cut_at st digit e ∙ ap (λ (b : ℕ). number unsigned b (drop (at + 1) (marked s))) (byte_at s at (st.inside (omega arith)))) h
+  cut_digit e h = says_as (cut_at st digit e ∙ ap (λ (b : ℕ). number unsigned b (drop (at + 1) (marked s))) (byte_at s at (st.inside (omega arith)))) h
 
   pub cut-letter : k ≡ 3 → Says s at t (word (get_or s at 0) (drop (at + 1) (marked s))) → Says s at t (cut (drop at (marked s)))
   unfolding cut_by class_number
-  cut-letter e h = says-as (cut_at st letter e ∙ ap (λ (b : ℕ). word b (drop (at + 1) (marked s))) (byte_at s at (st.inside (omega arith)))) h
+  cut-letter e h = says_as (cut_at st letter e ∙ ap (λ (b : ℕ). word b (drop (at + 1) (marked s))) (byte_at s at (st.inside (omega arith)))) h
 
-  pub cut-minus : k ≡ 5 → Says s at t (after_minus (drop (at + 1) (marked s))) → Says s at t (cut (drop at (marked s)))
+  pub cut_minus : k ≡ 5 → Says s at t (after_minus (drop (at + 1) (marked s))) → Says s at t (cut (drop at (marked s)))
   unfolding cut_by class_number
-  cut-minus e h = says-as (cut_at st minus e) h
+  cut_minus e h = says_as (cut_at st minus e) h
 
-  pub cut-dot : k ≡ 6 → Says s at t (cut_by dot 0 (drop (at + 1) (marked s))) → Says s at t (cut (drop at (marked s)))
+  pub cut_dot : k ≡ 6 → Says s at t (cut_by dot 0 (drop (at + 1) (marked s))) → Says s at t (cut (drop at (marked s)))
   unfolding cut_by class_number
-  cut-dot e h = says-as (cut_at st dot e) h
+  cut_dot e h = says_as (cut_at st dot e) h
 
-  pub cut-greater : k ≡ 20 → Says s at t (cut_by greater 0 (drop (at + 1) (marked s))) → Says s at t (cut (drop at (marked s)))
+  pub cut_greater : k ≡ 20 → Says s at t (cut_by greater 0 (drop (at + 1) (marked s))) → Says s at t (cut (drop at (marked s)))
   unfolding cut_by class_number
-  cut-greater e h = says-as (cut_at st greater e) h
+  cut_greater e h = says_as (cut_at st greater e) h
 
   pub cut-quote : k ≡ 7 → Says s at t (quoted (quote_kind 0) (quote_byte 0) (drop (at + 1) (marked s))) → Says s at t (cut (drop at (marked s)))
   unfolding cut_by class_number quote_kind quote_byte
-  cut-quote e h = says-as (cut_at st quote e) h
+  cut-quote e h = says_as (cut_at st quote e) h
 
-  pub cut-apostrophe : k ≡ 8 → Says s at t (quoted (quote_kind 1) (quote_byte 1) (drop (at + 1) (marked s))) → Says s at t (cut (drop at (marked s)))
+  pub cut_apostrophe : k ≡ 8 → Says s at t (quoted (quote_kind 1) (quote_byte 1) (drop (at + 1) (marked s))) → Says s at t (cut (drop at (marked s)))
   unfolding cut_by class_number quote_kind quote_byte
-  cut-apostrophe e h = says-as (cut_at st apostrophe e) h
+  cut_apostrophe e h = says_as (cut_at st apostrophe e) h
 
   pub cut-bracket : k ≡ 15 → Opens s at 15 t → Says s at t (cut (drop at (marked s)))
   unfolding cut_by class_number
-  cut-bracket e h = says-as (cut_at st open_bracket e) (h.square refl)
+  cut-bracket e h = says_as (cut_at st open_bracket e) (h.square refl)
 
-  pub cut-brace : k ≡ 17 → Opens s at 17 t → Says s at t (cut (drop at (marked s)))
+  pub cut_brace : k ≡ 17 → Opens s at 17 t → Says s at t (cut (drop at (marked s)))
   unfolding cut_by class_number
-  cut-brace e h = says-as (cut_at st open_brace e) (h.curly refl)
+  cut_brace e h = says_as (cut_at st open_brace e) (h.curly refl)
 
   pub cut-chunking : k ≡ 13 → Paired s at 0x5f 13 t → Says s at t (cut (drop at (marked s)))
   unfolding cut_by class_number code_of begin_code mark_of begin_mark number_of begin_number Written BeginsAs
-  cut-chunking e h = says-as (cut_at st open_paren e) (h.is (begins chunking) refl refl refl tt)
+  cut-chunking e h = says_as (cut_at st open_paren e) (h.is (begins chunking) refl refl refl tt)
 
   pub cut-embedding : k ≡ 19 → Paired s at 0x3c 19 t → Says s at t (cut (drop at (marked s)))
   unfolding cut_by class_number code_of begin_code open_code mark_of begin_mark open_mark number_of begin_number open_number Written BeginsAs
-  cut-embedding e h = says-as (cut_at st less e) (h.is (begins (opens embedding)) refl refl refl tt)
+  cut-embedding e h = says_as (cut_at st less e) (h.is (begins (opens embedding)) refl refl refl tt)
 
-  pub cut-comma : k ≡ 11 → TokenMade 11 0 0 at (at + 1) t → Says s at t (cut (drop at (marked s)))
+  pub cut_comma : k ≡ 11 → TokenMade 11 0 0 at (at + 1) t → Says s at t (cut (drop at (marked s)))
   unfolding cut_by class_number code_of shape_code mark_of indicator_number number_of Written
-  cut-comma e h = says-as (cut_at st comma e) (plain h a_comma refl refl refl tt (stood-some st comma e))
+  cut_comma e h = says_as (cut_at st comma e) (plain h a_comma refl refl refl tt (stood_some st comma e))
 
-  pub cut-colon : k ≡ 12 → TokenMade 12 0 0 at (at + 1) t → Says s at t (cut (drop at (marked s)))
+  pub cut_colon : k ≡ 12 → TokenMade 12 0 0 at (at + 1) t → Says s at t (cut (drop at (marked s)))
   unfolding cut_by class_number code_of shape_code mark_of indicator_number number_of Written
-  cut-colon e h = says-as (cut_at st colon e) (plain h a_colon refl refl refl tt (stood-some st colon e))
+  cut_colon e h = says_as (cut_at st colon e) (plain h a_colon refl refl refl tt (stood_some st colon e))
 
-  pub cut-round : k ≡ 14 → TokenMade 14 0 0 at (at + 1) t → Says s at t (cut (drop at (marked s)))
+  pub cut_round : k ≡ 14 → TokenMade 14 0 0 at (at + 1) t → Says s at t (cut (drop at (marked s)))
   unfolding cut_by class_number code_of shape_code mark_of indicator_number number_of Written
-  cut-round e h = says-as (cut_at st close_paren e) (plain h (closes round absent) refl refl refl tt (stood-some st close_paren e))
+  cut_round e h = says_as (cut_at st close_paren e) (plain h (closes round absent) refl refl refl tt (stood_some st close_paren e))
 
   pub cut-square : k ≡ 16 → TokenMade 16 0 0 at (at + 1) t → Says s at t (cut (drop at (marked s)))
   unfolding cut_by class_number code_of shape_code mark_of indicator_number number_of Written
-  cut-square e h = says-as (cut_at st close_bracket e) (plain h (closes square absent) refl refl refl tt (stood-some st close_bracket e))
+  cut-square e h = says_as (cut_at st close_bracket e) (plain h (closes square absent) refl refl refl tt (stood_some st close_bracket e))
 
   pub cut-curly : k ≡ 18 → TokenMade 18 0 0 at (at + 1) t → Says s at t (cut (drop at (marked s)))
   unfolding cut_by class_number code_of shape_code mark_of indicator_number number_of Written
-  cut-curly e h = says-as (cut_at st close_brace e) (plain h (closes curly absent) refl refl refl tt (stood-some st close_brace e))
+  cut-curly e h = says_as (cut_at st close_brace e) (plain h (closes curly absent) refl refl refl tt (stood_some st close_brace e))
 
   pub cut-end : k ≡ 21 → TokenMade 21 0 0 at (at + 1) t → Says s at t (cut (drop at (marked s)))
   unfolding cut_by class_number code_of shape_code mark_of indicator_number number_of Written
-  cut-end e h = says-as (cut_at st end_mark e) (plain h (closes whole absent) refl refl refl tt (stood-some st end_mark e))
+  cut-end e h = says_as (cut_at st end_mark e) (plain h (closes whole absent) refl refl refl tt (stood_some st end_mark e))
 
   pub cut-past : k ≡ 22 → Refused 11 at t → Says s at t (cut (drop at (marked s)))
-  cut-past e r = says-as (cut-nothing (drop at (marked s)) (sym st.is ∙ e)) (says-refuse 0 r)
+  cut-past e r = says_as (cut-nothing (drop at (marked s)) (sym st.is ∙ e)) (says_refuse 0 r)
 
   pub cut-none : (k ≡ 2 → ⊥) → (k ≡ 3 → ⊥) → (k ≡ 5 → ⊥) → (k ≡ 6 → ⊥) → (k ≡ 7 → ⊥) → (k ≡ 8 → ⊥) → (k ≡ 11 → ⊥) → (k ≡ 12 → ⊥) → (k ≡ 13 → ⊥) → (k ≡ 14 → ⊥) → (k ≡ 15 → ⊥) → (k ≡ 16 → ⊥) → (k ≡ 17 → ⊥) → (k ≡ 18 → ⊥) → (k ≡ 19 → ⊥) → (k ≡ 20 → ⊥) → (k ≡ 21 → ⊥) → (k ≡ 22 → ⊥) → Refused 3 at t → Says s at t (cut (drop at (marked s)))
-  cut-none n2 n3 n5 n6 n7 n8 n11 n12 n13 n14 n15 n16 n17 n18 n19 n20 n21 n22 r = says-as (cut-other (drop at (marked s)) k st.is n2 n3 n5 n6 n7 n8 n11 n12 n13 n14 n15 n16 n17 n18 n19 n20 n21 n22) (says-refuse 0 r)
+  cut-none n2 n3 n5 n6 n7 n8 n11 n12 n13 n14 n15 n16 n17 n18 n19 n20 n21 n22 r = says_as (cut-other (drop at (marked s)) k st.is n2 n3 n5 n6 n7 n8 n11 n12 n13 n14 n15 n16 n17 n18 n19 n20 n21 n22) (says_refuse 0 r)
 
-pub ruleset cut-ways = (cut_digit, cut-letter, cut-minus, cut-dot, cut-quote, cut-apostrophe, cut-comma, cut-colon, cut-chunking, cut-round, cut-bracket, cut-square, cut-brace, cut-curly, cut-embedding, cut-greater, cut-end, cut-past)
+pub ruleset cut_ways = (cut_digit, cut-letter, cut_minus, cut_dot, cut-quote, cut_apostrophe, cut_comma, cut_colon, cut-chunking, cut_round, cut-bracket, cut-square, cut_brace, cut-curly, cut-embedding, cut_greater, cut-end, cut-past)
 
 -- THE NEXT TOKEN
 pub skips-inside : {s : List ℕ} {i at : ℕ} → Skips s i at → at ≤ length s + 1

@@ -32,10 +32,10 @@ use Rattle.words.specs.declared.Prefix.{Prefix}
 use Rattle.words.specs.declared.Prefix.TheVariants.{Form, Refused as PrefixRefused}
 use Rattle.scanning.proofs.Marked.{here}
 use Rattle.scanning.proofs.ScanCode.{whether-yes, whether-no}
-use Rattle.literal_body.proofs.LiteralViews.{scan_good, raw-good, quoted-bad, raw-bad, decodes-bad}
+use Rattle.literal_body.proofs.LiteralViews.{scan_good, raw_good, quoted-bad, raw_bad, decodes-bad}
 use Rattle.numbers.proofs.IndicatorCode.{choose-is, width_some, chosen_none, chosen-some}
-use Rattle.numbers.proofs.NumberCode.{says-as, says-refuse}
-use Rattle.words.proofs.WordCode.{part-cons}
+use Rattle.numbers.proofs.NumberCode.{says_as, says_refuse}
+use Rattle.words.proofs.WordCode.{part_cons}
 
 -- FORMS
 module _ (form : ℕ) where
@@ -59,9 +59,9 @@ module _ (form : ℕ) where
   unfolding literal_content
   content-hex l e d = rw e d
 
-  pub content-base64 : {r : LiteralScan} (l : List ℕ) → (form ≡ 2 → ⊥) → Decodes r (base64_content l) → Decodes r (literal_content form l)
+  pub content_base64 : {r : LiteralScan} (l : List ℕ) → (form ≡ 2 → ⊥) → Decodes r (base64_content l) → Decodes r (literal_content form l)
   unfolding literal_content
-  content-base64 l n d = rw (ne_eqb form 2 n, literal_content) d
+  content_base64 l n d = rw (ne_eqb form 2 n, literal_content) d
 
 -- LITERALS OF A SIZE
 literal-ok : (k : Kind) (b : List ℕ) (i : Indicator) (r : List ℕ) {c : Chosen} → choose i (length b) ≡ c
@@ -70,13 +70,13 @@ unfolding literal_token
 literal-ok k b i r e = rw (e, literal_token)
 
 module _ {form mark size start stop place next : ℕ} (w : ℕ) (f : w ≡ choose_by mark size) where
-  pub lit-misfit : {t : Cut} → w ≡ 0 → Refused 9 place t → Literally form mark size start stop place next t
-  lit-misfit z r =
+  pub lit_misfit : {t : Cut} → w ≡ 0 → Refused 9 place t → Literally form mark size start stop place next t
+  lit_misfit z r =
       record {
         is =
             λ s b i es em sp.
             let c : chosen_number (choose i (length b)) ≡ 0 = choose-is i (length b) ∙ (sym (f ∙ (ap (λ (k : ℕ). choose_by k size) em ∙ ap (choose_by (indicator_number i)) es)) ∙ z) in
-            says-as (literal-ok (quote_kind form) b i (drop next (marked s)) (chosen_none (choose i (length b)) c)) (says-refuse 0 r);
+            says_as (literal-ok (quote_kind form) b i (drop next (marked s)) (chosen_none (choose i (length b)) c)) (says_refuse 0 r);
       }
 
   pub lit_made : (c : ℕ) → (w ≡ 0 → ⊥) → c ≡ kind_code (quote_kind form)
@@ -88,7 +88,7 @@ module _ {form mark size start stop place next : ℕ} (w : ℕ) (f : w ≡ choos
             λ s b i es em sp.
             let q : w ≡ chosen_number (choose i (length b)) = f ∙ (ap (λ (k : ℕ). choose_by k size) em ∙ (ap (choose_by (indicator_number i)) es ∙ sym (choose-is i (length b)))) in
             let x = chosen-some (choose i (length b)) (λ k. z (q ∙ k)) in
-            says-as (literal-ok (quote_kind form) b i (drop next (marked s)) x.1.0)
+            says_as (literal-ok (quote_kind form) b i (drop next (marked s)) x.1.0)
             (record { shown = record { code = g; indicator = q ∙ x.1.1; number = es; written = sp.is; next = here s sp.inside }; place = refl });
       }
 
@@ -100,17 +100,17 @@ indicator-one indefinitely e = refl
 indicator-one unknown e = absurd (omega arith)
 indicator-one (wide w) e = absurd (omega (arith, width_some w))
 
-quoted-plain : (k : Kind) (b : List ℕ) (i : Indicator) (r : List ℕ) → (indicator_number i ≡ 1 → ⊥) → quoted_token k b i r ≡ literal_token k b i r
+quoted_plain : (k : Kind) (b : List ℕ) (i : Indicator) (r : List ℕ) → (indicator_number i ≡ 1 → ⊥) → quoted_token k b i r ≡ literal_token k b i r
 unfolding quoted_token indicator_number
-quoted-plain k b absent r n = refl
-quoted-plain k b indefinitely r n = absurd (n refl)
-quoted-plain k b unknown r n = refl
-quoted-plain k b (wide w) r n = refl
+quoted_plain k b absent r n = refl
+quoted_plain k b indefinitely r n = absurd (n refl)
+quoted_plain k b unknown r n = refl
+quoted_plain k b (wide w) r n = refl
 
-quoted-open : (k : Kind) (b : List ℕ) (r : List ℕ) → (length b ≡ 0 → ⊥) → quoted_token k b indefinitely r ≡ fault bad_indicator
+quoted_open : (k : Kind) (b : List ℕ) (r : List ℕ) → (length b ≡ 0 → ⊥) → quoted_token k b indefinitely r ≡ fault bad_indicator
 unfolding quoted_token literal_token choose
-quoted-open k [] r n = absurd (n refl)
-quoted-open k (c ∷ b) r n = refl
+quoted_open k [] r n = absurd (n refl)
+quoted_open k (c ∷ b) r n = refl
 
 empty : (b : List ℕ) → 0 ≡ length b → b ≡ []
 empty [] e = refl
@@ -129,7 +129,7 @@ module _ {form size start place : ℕ} {m : Mark} where
             let sp' : Spelled s form start 0 [] = rw n at sp.is in
             let q : quoted_token (quote_kind form) b x.ind (drop m.next (marked s)) ≡ ok (begins (literal (quote_kind form) indefinite [])) (drop m.next (marked s)) =
             ap (λ (j : Indicator). quoted_token (quote_kind form) b j (drop m.next (marked s))) i ∙ ap (λ (l : List ℕ). quoted_token (quote_kind form) l indefinitely (drop m.next (marked s))) n in
-            says-as q (record { shown = record { code = g; indicator = refl; number = refl; written = sp'; next = here s sp.inside }; place = refl });
+            says_as q (record { shown = record { code = g; indicator = refl; number = refl; written = sp'; next = here s sp.inside }; place = refl });
       }
 
   module _ {t : Cut} where
@@ -139,7 +139,7 @@ module _ {form size start place : ℕ} {m : Mark} where
           is =
               λ s b at es x sp.
               let i : x.ind ≡ indefinitely = indicator-one x.ind (sym x.mark ∙ e) in
-              says-as (ap (λ (j : Indicator). quoted_token (quote_kind form) b j (drop m.next (marked s))) i ∙ quoted-open (quote_kind form) b (drop m.next (marked s)) (λ k. z (es ∙ k))) (says-refuse 0 r);
+              says_as (ap (λ (j : Indicator). quoted_token (quote_kind form) b j (drop m.next (marked s))) i ∙ quoted_open (quote_kind form) b (drop m.next (marked s)) (λ k. z (es ∙ k))) (says_refuse 0 r);
         }
 
     pub quoted-literal : (m.mark ≡ 1 → ⊥) → Literally form m.mark size start 0 place m.next t → Quotedly form size start place m t
@@ -147,14 +147,14 @@ module _ {form size start place : ℕ} {m : Mark} where
         record {
           is =
               λ s b at es x sp.
-              says-as (quoted-plain (quote_kind form) b x.ind (drop m.next (marked s)) (λ k. n (x.mark ∙ k))) (l.is s b x.ind es x.mark sp);
+              says_as (quoted_plain (quote_kind form) b x.ind (drop m.next (marked s)) (λ k. n (x.mark ∙ k))) (l.is s b x.ind es x.mark sp);
         }
 
-pub ruleset quoted-tokens = (quoted-empty, quoted-misfit, quoted-literal)
+pub ruleset quoted_tokens = (quoted-empty, quoted-misfit, quoted-literal)
 
 -- QUOTED STRINGS
-pub scan-inside : {s : List ℕ} {at : ℕ} {r : LiteralScan} (res : Result (List ℕ)) → Scans s at r res → r.good ≡ true → r.next ≤ length s
-scan-inside res h e = (scan_good res h e).found.inside
+pub scan_inside : {s : List ℕ} {at : ℕ} {r : LiteralScan} (res : Result (List ℕ)) → Scans s at r res → r.good ≡ true → r.next ≤ length s
+scan_inside res h e = (scan_good res h e).found.inside
 
 spelled-quote : (s : List ℕ) (form start stop : ℕ) (b : List ℕ) → form ≤ 1 → QuotedAs s (quote_byte form) start b → Spelled s form start stop b
 unfolding Spelled quote_byte
@@ -172,13 +172,13 @@ module _ {s : List ℕ} {place form : ℕ} {t : Cut} {r : LiteralScan} (p : Quot
       ap (λ (k : ℕ). unquote k character (drop (place + 1) (marked s))) (sym e) ∙ (a.is ∙ ap (λ (l : List ℕ). ok a.all l) (sym a.found.left)) in
       let sp : Spells s form (place + 1) 0 m.next a.all =
       record { is = spelled-quote s form (place + 1) 0 a.all p.quoted (record { rest = drop r.next (marked s); is = i }); inside = x.inside } in
-      says-as (rw i (rw x.is)) (j.is s a.all r.next a.found.size x sp)
+      says_as (rw i (rw x.is)) (j.is s a.all r.next a.found.size x sp)
 
   pub quoted-wrong : r.good ≡ false → Refused 3 place t → Says s place t (quoted (quote_kind form) (quote_byte form) (drop (place + 1) (marked s)))
   unfolding quoted bind
   quoted-wrong g f =
       let i : unquote (quote_byte form) character (drop (place + 1) (marked s)) ≡ fault no_token = ap (λ (k : ℕ). unquote k character (drop (place + 1) (marked s))) (sym e) ∙ quoted-bad q h g in
-      says-as (rw i) (says-refuse 0 f)
+      says_as (rw i) (says_refuse 0 f)
 
 -- ENCODED ONES
 decoded : {r : LiteralScan} (res : Content) → Decodes r res → r.good ≡ true → (c : List ℕ) × ((res ≡ stands_for c) × (r.size ≡ length c))
@@ -198,36 +198,36 @@ kind-encoded : (form : ℕ) → 2 ≤ form → quote_kind form ≡ byte_string
 unfolding quote_kind
 kind-encoded form h = rw (ne_eqb form 0 (λ e. omega arith), quote_kind)
 
-pub raw-inside : {s : List ℕ} {at : ℕ} {r : LiteralScan} (res : Result (List ℕ)) → Raw s at r res → r.good ≡ true → r.next ≤ length s
-raw-inside res h e = scan-inside res h.scans e
+pub raw_inside : {s : List ℕ} {at : ℕ} {r : LiteralScan} (res : Result (List ℕ)) → Raw s at r res → r.good ≡ true → r.next ≤ length s
+raw_inside res h e = scan_inside res h.scans e
 
-pub raw-some : {s : List ℕ} {at : ℕ} {r : LiteralScan} (res : Result (List ℕ)) → Raw s at r res → r.good ≡ true → 1 ≤ r.next
-raw-some res h e = omega (arith, h.next e)
+pub raw_some : {s : List ℕ} {at : ℕ} {r : LiteralScan} (res : Result (List ℕ)) → Raw s at r res → r.good ≡ true → 1 ≤ r.next
+raw_some res h e = omega (arith, h.next e)
 
 encoded-is : {s : List ℕ} {at form : ℕ} {r : LiteralScan} {m : Mark} → EncodedAt s at form → Raw s at r (body (drop at (marked s))) → r.good ≡ true → (x : Indicated s r.next m)
     → encoded_literal (literal_content form) (drop at (marked s)) ≡ contained (literal_content form (take (r.next - 1 - at) (drop at s))) x.ind (drop m.next (marked s))
 unfolding encoded_literal bind
-encoded-is p h g x = rw (raw-good h g) (rw x.is)
+encoded-is p h g x = rw (raw_good h g) (rw x.is)
 
 module _ {s : List ℕ} {place at form : ℕ} {t : Cut} {r : LiteralScan} (p : EncodedAt s at form) (h : Raw s at r (body (drop at (marked s)))) where
   pub encoded-bad : r.good ≡ false → Refused 3 place t → Says s place t (encoded_literal (literal_content form) (drop at (marked s)))
   unfolding encoded_literal bind
-  encoded-bad g f = says-as (rw (raw-bad h g)) (says-refuse 0 f)
+  encoded-bad g f = says_as (rw (raw_bad h g)) (says_refuse 0 f)
 
   module _ (g : r.good ≡ true) {m : Mark} (x : Indicated s r.next m) {c : LiteralScan} (d : Decodes c (literal_content form (take (r.next - 1 - at) (drop at s)))) where
     pub encoded-wrong : c.good ≡ false → Refused 8 place t → Says s place t (encoded_literal (literal_content form) (drop at (marked s)))
     unfolding contained
-    encoded-wrong k f = says-as (encoded-is p h g x ∙ ap (λ (j : Content). contained j x.ind (drop m.next (marked s))) (decodes-bad _ d k)) (says-refuse 0 f)
+    encoded-wrong k f = says_as (encoded-is p h g x ∙ ap (λ (j : Content). contained j x.ind (drop m.next (marked s))) (decodes-bad _ d k)) (says_refuse 0 f)
 
     pub encoded-good : c.good ≡ true → Literally form m.mark c.size at (r.next - 1) place m.next t → Says s place t (encoded_literal (literal_content form) (drop at (marked s)))
     unfolding contained
     encoded-good k l =
         let v = decoded (literal_content form (take (r.next - 1 - at) (drop at s))) d k in
         let sp : Spells s form at (r.next - 1) m.next v.0 = record { is = spelled-encoded s form at (r.next - 1) v.0 p.encoded v.1.0; inside = x.inside } in
-        says-as (encoded-is p h g x ∙ (ap (λ (j : Content). contained j x.ind (drop m.next (marked s))) v.1.0 ∙ ap (λ (k : Kind). literal_token k v.0 x.ind (drop m.next (marked s))) (sym (kind-encoded form p.encoded))))
+        says_as (encoded-is p h g x ∙ (ap (λ (j : Content). contained j x.ind (drop m.next (marked s))) v.1.0 ∙ ap (λ (k : Kind). literal_token k v.0 x.ind (drop m.next (marked s))) (sym (kind-encoded form p.encoded))))
         (l.is s v.0 x.ind v.1.1 x.mark sp)
 
-pub ruleset encoded-ways = (encoded-bad, encoded-wrong, encoded-good)
+pub ruleset encoded_ways = (encoded-bad, encoded-wrong, encoded-good)
 
 -- WORDS
 abbrev prefixed_by : Prefix → List ℕ → Result Token
@@ -250,9 +250,9 @@ abbrev Encodes : Prefix → Type 0
 Encodes (Form f) = 2 ≤ f
 Encodes (PrefixRefused k) = Unit
 
-prefix-encodes : (w : List ℕ) → Encodes (prefix_word w)
+prefix_encodes : (w : List ℕ) → Encodes (prefix_word w)
 unfolding prefix_word
-prefix-encodes w = go (same w hex_prefix) (same w base64_prefix)
+prefix_encodes w = go (same w hex_prefix) (same w base64_prefix)
   where
     go : (a b : Bool) → Encodes (elim a [ true ↦ Form 2 | false ↦ elim b [ true ↦ Form 3 | false ↦ PrefixRefused (other_word w) ] ])
     go true b = omega arith
@@ -260,20 +260,20 @@ prefix-encodes w = go (same w hex_prefix) (same w base64_prefix)
     go false false = tt
 
 module _ {s : List ℕ} {place end : ℕ} (p : Enclosed s place end) {x : Prefix} (e : x ≡ prefix_word (span place end (marked s))) where
-  pub prefix-encoded : (form : ℕ) → x ≡ Form form → EncodedAt s (end + 1) form
-  prefix-encoded form f = record { inside = p.inside; encoded = rw (sym e ∙ f) at (prefix-encodes (span place end (marked s))) }
+  pub prefix_encoded : (form : ℕ) → x ≡ Form form → EncodedAt s (end + 1) form
+  prefix_encoded form f = record { inside = p.inside; encoded = rw (sym e ∙ f) at (prefix_encodes (span place end (marked s))) }
 
   prefixed-by : {y : Prefix} → x ≡ y → prefixed (span place end (marked s)) (drop (end + 1) (marked s)) ≡ prefixed_by y (drop (end + 1) (marked s))
   prefixed-by f = prefixed-is (span place end (marked s)) (drop (end + 1) (marked s)) ∙ ap (λ (y : Prefix). prefixed_by y (drop (end + 1) (marked s))) (sym e ∙ f)
 
   module _ {t : Cut} where
     pub prefixed-encoded : (form : ℕ) → x ≡ Form form → Says s place t (encoded_literal (literal_content form) (drop (end + 1) (marked s))) → Says s place t (prefixed (span place end (marked s)) (drop (end + 1) (marked s)))
-    prefixed-encoded form f h = says-as (prefixed-by f) h
+    prefixed-encoded form f h = says_as (prefixed-by f) h
 
     pub prefixed-refused : (k : ℕ) → x ≡ PrefixRefused k → Refused k place t → Says s place t (prefixed (span place end (marked s)) (drop (end + 1) (marked s)))
-    prefixed-refused k f r = says-as (prefixed-by f) (says-refuse 0 r)
+    prefixed-refused k f r = says_as (prefixed-by f) (says_refuse 0 r)
 
-pub ruleset prefixed-ways = (prefixed-encoded, prefixed-refused)
+pub ruleset prefixed_ways = (prefixed-encoded, prefixed-refused)
 
 module _ {s : List ℕ} (place : ℕ) {end : ℕ} (r : Ran s is_word (place + 1) end) where
   pub word-part : WordPart s place end
@@ -283,14 +283,14 @@ module _ {s : List ℕ} (place : ℕ) {end : ℕ} (r : Ran s is_word (place + 1)
   word-enclosed p e = record { ahead = omega (arith, r.ahead); inside = p.inside e }
 
   word-is : span place end (marked s) ≡ get_or s place 0 ∷ span (place + 1) end (marked s)
-  word-is = part-cons word-part (λ z. omega (arith, r.ahead))
+  word-is = part_cons word-part (λ z. omega (arith, r.ahead))
 
   pub word-prefixed : {t : Cut} {b : Bool} → Peeked s end 0x27 b → b ≡ true → Says s place t (prefixed (span place end (marked s)) (drop (end + 1) (marked s)))
       → Says s place t (word (get_or s place 0) (drop (place + 1) (marked s)))
   unfolding word bind
-  word-prefixed p e h = says-as (rw r.is (rw (whether-yes p e) (ap (λ (w : List ℕ). prefixed w (drop (end + 1) (marked s))) (sym word-is)))) h
+  word-prefixed p e h = says_as (rw r.is (rw (whether-yes p e) (ap (λ (w : List ℕ). prefixed w (drop (end + 1) (marked s))) (sym word-is)))) h
 
   pub word-worded : {t : Cut} {b : Bool} → Peeked s end 0x27 b → b ≡ false → Says s place t (worded (span place end (marked s)) (drop end (marked s)))
       → Says s place t (word (get_or s place 0) (drop (place + 1) (marked s)))
   unfolding word bind
-  word-worded p e h = says-as (rw r.is (rw (whether-no p e) (ap (λ (w : List ℕ). worded w (drop end (marked s))) (sym word-is)))) h
+  word-worded p e h = says_as (rw r.is (rw (whether-no p e) (ap (λ (w : List ℕ). worded w (drop end (marked s))) (sym word-is)))) h

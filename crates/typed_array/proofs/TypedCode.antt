@@ -14,22 +14,22 @@ module _ (n : ℕ) where
   unfolding element_size
   element e r h i p = record { is = rw (h) i; some = p }
 
-  pub element-one : n / 16 % 2 + n % 4 ≡ 0 → ElementSize n 1
-  element-one h = element 0 1 h refl (omega arith)
+  pub element_one : n / 16 % 2 + n % 4 ≡ 0 → ElementSize n 1
+  element_one h = element 0 1 h refl (omega arith)
 
-  pub element-two : n / 16 % 2 + n % 4 ≡ 1 → ElementSize n 2
-  element-two h = element 1 2 h refl (omega arith)
+  pub element_two : n / 16 % 2 + n % 4 ≡ 1 → ElementSize n 2
+  element_two h = element 1 2 h refl (omega arith)
 
-  pub element-four : n / 16 % 2 + n % 4 ≡ 2 → ElementSize n 4
-  element-four h = element 2 4 h refl (omega arith)
+  pub element_four : n / 16 % 2 + n % 4 ≡ 2 → ElementSize n 4
+  element_four h = element 2 4 h refl (omega arith)
 
-  pub element-eight : n / 16 % 2 + n % 4 ≡ 3 → ElementSize n 8
-  element-eight h = element 3 8 h refl (omega arith)
+  pub element_eight : n / 16 % 2 + n % 4 ≡ 3 → ElementSize n 8
+  element_eight h = element 3 8 h refl (omega arith)
 
-  pub element-sixteen : (n / 16 % 2 + n % 4 ≡ 0 → ⊥) → (n / 16 % 2 + n % 4 ≡ 1 → ⊥) → (n / 16 % 2 + n % 4 ≡ 2 → ⊥) → (n / 16 % 2 + n % 4 ≡ 3 → ⊥) → ElementSize n 16
-  element-sixteen a b c d = element 4 16 (omega arith) refl (omega arith)
+  pub element_sixteen : (n / 16 % 2 + n % 4 ≡ 0 → ⊥) → (n / 16 % 2 + n % 4 ≡ 1 → ⊥) → (n / 16 % 2 + n % 4 ≡ 2 → ⊥) → (n / 16 % 2 + n % 4 ≡ 3 → ⊥) → ElementSize n 16
+  element_sixteen a b c d = element 4 16 (omega arith) refl (omega arith)
 
-pub ruleset element-ways = (element-one, element-two, element-four, element-eight, element-sixteen)
+pub ruleset element_ways = (element_one, element_two, element_four, element_eight, element_sixteen)
 
 typed : (n : ℕ) → 64 ≤ n → n ≤ 87 → is_typed_array n ≡ true
 unfolding is_typed_array
@@ -59,4 +59,4 @@ module _ (n : ℕ) (bytes : Bool) (l : ℕ) where
         unfolding may_tag_by
         may-bytes m z = rw z.is (rw (typed n g h, asked) (rw (ne_eqb n 76 e) (rw m)))
 
-pub ruleset may-ways = (may-low, may-high, may-reserved, may-other, may-bytes)
+pub ruleset may_ways = (may-low, may-high, may-reserved, may-other, may-bytes)

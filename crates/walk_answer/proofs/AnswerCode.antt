@@ -34,7 +34,7 @@ module _ (from size : ℕ) {t : PassTold} {part : Passed} {x : ℕ} where
   unfolding pass_told after_told
   after-refused e i h = h ∙ rw (e, i)
 
-pub ruleset after-ways = (after-made, after-refused)
+pub ruleset after_ways = (after-made, after-refused)
 
 -- AN ITEM AND WHAT WAS PASSED OVER
 
@@ -47,7 +47,7 @@ module _ (major : ℕ) {span : Passed} where
   unfolding walk_told pass_told with_major
   major-refused e = rw e
 
-pub ruleset with-ways = (major-made, major-refused)
+pub ruleset with_ways = (major-made, major-refused)
 
 module _ (from x : ℕ) {inner : Walked} where
   pub item-after-made : {m : WalkedItem} → inner ≡ MadeV m → x ≡ capped from m.end → walk_told (MadeV (record { end = x; major = m.major; size = m.size })) ≡ item_after from (walk_told inner)
@@ -58,4 +58,4 @@ module _ (from x : ℕ) {inner : Walked} where
   unfolding walk_told item_after
   item-after-refused e h = rw (e, h)
 
-pub ruleset item-after-ways = (item-after-made, item-after-refused)
+pub ruleset item-after_ways = (item-after-made, item-after-refused)

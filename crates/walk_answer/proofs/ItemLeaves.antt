@@ -17,7 +17,7 @@ use Rattle.cbor.specs.Valid.{is_text}
 use Rattle.cbor.specs.Decode.{Until, broken, several, content_at, chunk_by, chunk_at, entry_at, extent, tagged, elements, pair, entries, chunks_of, item_by, item_with, item}
 use Rattle.walk_answer.specs.WalkAnswers.{contents, contents_all, contents_all₂, map_result, below, entry_contents, chunk_contents}
 use Rattle.cbor.proofs.DecodeEncode.{enter_at}
-use Rattle.walk_answer.proofs.Leaves.{Left, Leaves, left_cut, left-weak, left-on, leaves-behind, leaves-bind, same, leaves-sized, sized-leaves, several-sized, several-leaves}
+use Rattle.walk_answer.proofs.Leaves.{Left, Leaves, left_cut, left_weak, left-on, leaves-behind, leaves-bind, same, leaves-sized, sized-leaves, several-sized, several-leaves}
 
 -- HEADS
 
@@ -66,7 +66,7 @@ HeadLeaves s m (refuse n left) = left ≤ length s
 
 module _ (b : ℕ) (s : List ℕ) (m : Major) where
   behind-one : (r : List ℕ) (z : ℕ) → Left 0 s r z → Left 1 (b ∷ s) r 0
-  behind-one r z l = left-weak (omega arith) (omega arith) (left-on (left_cut 1 0 1 (b ∷ s) (omega arith) (omega arith) (omega arith)) l)
+  behind-one r z l = left_weak (omega arith) (omega arith) (left-on (left_cut 1 0 1 (b ∷ s) (omega arith) (omega arith) (omega arith)) l)
 
   argued-leaves : (w : Width) (n : ℕ) (r : List ℕ) → information w n ≤ 27 → Left 1 (b ∷ s) r 0 → HeadLeaves (b ∷ s) m (argued m w n (suc (length s)) r)
   unfolding argued
@@ -135,12 +135,12 @@ head-leaves (b ∷ s) = by-leaves b s (major_of (b / 32)) (information_of (b % 3
 pub head-left : (s : List ℕ) {h : Head} {r : List ℕ} → next_head s ≡ ok h r → HeadLeft s (major_of (get_or s 0 0 / 32)) h r
 head-left s e = rw e at (head-leaves s)
 
-head-weak : (s : List ℕ) (m : Major) (res : Result Head) → HeadLeaves s m res → Leaves 1 nought s res
-head-weak s m (ok h r) l = l.left
-head-weak s m (refuse n left) l = l
+head_weak : (s : List ℕ) (m : Major) (res : Result Head) → HeadLeaves s m res → Leaves 1 nought s res
+head_weak s m (ok h r) l = l.left
+head_weak s m (refuse n left) l = l
 
 pub head-within : (s : List ℕ) → Leaves 1 nought s (next_head s)
-head-within s = head-weak s (major_of (get_or s 0 0 / 32)) (next_head s) (head-leaves s)
+head-within s = head_weak s (major_of (get_or s 0 0 / 32)) (next_head s) (head-leaves s)
 
 -- STRINGS
 
@@ -150,7 +150,7 @@ module _ (s r : List ℕ) (l : Left 1 s r 0) where
   content-leaves k n = by (leb n (length r)) refl
     where
       text : (b : List ℕ) (t : Bool) → length b ≤ n → n ≤ length r → Leaves {A = List ℕ} 1 length s (elim t [ true ↦ ok b (drop n r) | false ↦ refuse not_utf8 (length s) ])
-      text b true h i = left-weak (omega arith) (omega arith) (left-on l (left_cut 0 n n r (omega arith) (omega arith) i))
+      text b true h i = left_weak (omega arith) (omega arith) (left-on l (left_cut 0 n n r (omega arith) (omega arith) i))
       text b false h i = omega arith
 
       by : (t : Bool) → leb n (length r) ≡ t
@@ -158,19 +158,19 @@ module _ (s r : List ℕ) (l : Left 1 s r 0) where
       by true e = text (take n r) (is_text k (take n r)) (omega (arith, length-take n r)) (leb-true n (length r) e)
       by false e = omega arith
 
-  by-chunk-leaves : (k : Kind) (z : Size) (n : ℕ) → Leaves 1 chunk_contents s (chunk_by k z n (length s) r)
+  by_chunk_leaves : (k : Kind) (z : Size) (n : ℕ) → Leaves 1 chunk_contents s (chunk_by k z n (length s) r)
   unfolding chunk_by chunk_contents
-  by-chunk-leaves k (definite w) n = leaves-bind length chunk_contents (content_at k n (length s) r) _ (content-leaves k n) (λ b t i. i)
-  by-chunk-leaves k indefinite n = omega arith
+  by_chunk_leaves k (definite w) n = leaves-bind length chunk_contents (content_at k n (length s) r) _ (content-leaves k n) (λ b t i. i)
+  by_chunk_leaves k indefinite n = omega arith
 
-pub chunk-leaves : (k : Kind) (s : List ℕ) → Leaves 1 chunk_contents s (chunk_at k s)
+pub chunk_leaves : (k : Kind) (s : List ℕ) → Leaves 1 chunk_contents s (chunk_at k s)
 unfolding chunk_at
-chunk-leaves k [] = omega arith
-chunk-leaves k (b ∷ s) = by (eqb (b / 32) (major_number (strings k)))
+chunk_leaves k [] = omega arith
+chunk_leaves k (b ∷ s) = by (eqb (b / 32) (major_number (strings k)))
   where
     by : (t : Bool)
         → Leaves {A = Chunk} 1 chunk_contents (b ∷ s) (elim t [ true ↦ bind (next_head (b ∷ s)) (λ h r. chunk_by k h.size h.argument (suc (length s)) r) | false ↦ refuse not_well_formed (suc (length s)) ])
-    by true = leaves-bind nought chunk_contents (next_head (b ∷ s)) _ (head-within (b ∷ s)) (λ h r l. by-chunk-leaves (b ∷ s) r l k h.size h.argument)
+    by true = leaves-bind nought chunk_contents (next_head (b ∷ s)) _ (head-within (b ∷ s)) (λ h r l. by_chunk_leaves (b ∷ s) r l k h.size h.argument)
     by false = omega arith
 
 pub chunks-sized : (k : Kind) (s : List ℕ) → map_result chunks_length (chunks_of k s) ≡ several 0 ◌+◌ (λ t. map_result chunk_contents (chunk_at k t)) broken s
@@ -182,9 +182,9 @@ chunks-sized k s = several-sized [] ◌∷◌ (chunk_at k) chunk_contents chunks
 abbrev pub ItemLeaves : (List ℕ → Result Item) → Type 0
 ItemLeaves rd = (s : List ℕ) → Leaves 1 contents s (rd s)
 
-pub entry-leaves : (rd : List ℕ → Result Item) → ItemLeaves rd → (s : List ℕ) → Leaves 1 entry_contents s (entry_at rd s)
+pub entry_leaves : (rd : List ℕ → Result Item) → ItemLeaves rd → (s : List ℕ) → Leaves 1 entry_contents s (entry_at rd s)
 unfolding entry_at entry_contents
-entry-leaves rd well s =
+entry_leaves rd well s =
     leaves-bind contents entry_contents (rd s) _ (well s)
     (λ k r l. leaves-bind (λ x. contents k + contents x) entry_contents (rd r) _ (leaves-behind 1 contents (λ x. contents k + contents x) l (λ x. omega arith) (rd r) (well r)) (λ x t i. i))
 
@@ -206,7 +206,7 @@ several-behind : {L : Type 0} (g : L → ℕ) (made : L → Item) (s r : List �
     → map_result g res ≡ several 0 ◌+◌ rd u r → ((xs : L) → contents (made xs) ≡ g xs) → Leaves 1 contents s (bind res (λ xs r'. ok (made xs) r'))
 several-behind g made s r l rd one u res e law =
     leaves-bind g contents res _ (leaves-behind {a = 0} 0 g g l (λ xs. omega arith) res (sized-leaves 0 g r res (rw e (several-leaves rd one u r))))
-    (λ xs t i. left-weak (omega arith) (omega (arith, law xs)) i)
+    (λ xs t i. left_weak (omega arith) (omega (arith, law xs)) i)
 
 module _ (s r : List ℕ) (l : Left 1 s r 0) where
   tag-leaves : (d : ℕ) → ItemLeaves (item d) → (w : Width) (n : ℕ) → Leaves 1 contents s (bind (item d r) (tagged w n (length s)))
@@ -225,14 +225,14 @@ module _ (s r : List ℕ) (l : Left 1 s r 0) where
   item-by-leaves d i (integers g) indefinite n = omega arith
   item-by-leaves d i (strings k) (definite w) n = leaves-bind length contents (content_at k n (length s) r) _ (content-leaves s r l k n) (λ b t j. j)
   item-by-leaves d i (strings k) indefinite n =
-      several-behind chunks_length (chunked k) s r l (λ t. map_result chunk_contents (chunk_at k t)) (λ t. leaves-sized 1 chunk_contents t (chunk_at k t) (chunk-leaves k t)) broken (chunks_of k r) (chunks-sized k r) (λ cs. refl)
+      several-behind chunks_length (chunked k) s r l (λ t. map_result chunk_contents (chunk_at k t)) (λ t. leaves-sized 1 chunk_contents t (chunk_at k t) (chunk_leaves k t)) broken (chunks_of k r) (chunks-sized k r) (λ cs. refl)
   item-by-leaves zero i arrays z n = omega arith
   item-by-leaves (suc d) i arrays z n =
       several-behind contents_all (array z) s r l (λ t. map_result contents (item d t)) (λ t. leaves-sized 1 contents t (item d t) (i t)) (extent z n) (elements (item d) (extent z n) r) (elements-sized (item d) (extent z n) r)
       (λ xs. refl)
   item-by-leaves zero i maps z n = omega arith
   item-by-leaves (suc d) i maps z n =
-      several-behind contents_all₂ (map z) s r l (λ t. map_result entry_contents (entry_at (item d) t)) (λ t. leaves-sized 1 entry_contents t (entry_at (item d) t) (entry-leaves (item d) i t)) (extent z n)
+      several-behind contents_all₂ (map z) s r l (λ t. map_result entry_contents (entry_at (item d) t)) (λ t. leaves-sized 1 entry_contents t (entry_at (item d) t) (entry_leaves (item d) i t)) (extent z n)
       (entries (item d) (extent z n) r) (entries-sized (item d) (extent z n) r) (λ ps. refl)
   item-by-leaves zero i tags (definite w) n = omega arith
   item-by-leaves (suc d) i tags (definite w) n = tag-leaves d i w n
@@ -240,14 +240,14 @@ module _ (s r : List ℕ) (l : Left 1 s r 0) where
   item-by-leaves d i simples (definite w) n = l
   item-by-leaves d i simples indefinite n = omega arith
 
-with-leaves : (d : ℕ) → Deeper d → (s : List ℕ) → Leaves 1 contents s (item_with (enter_at d) s)
+with_leaves : (d : ℕ) → Deeper d → (s : List ℕ) → Leaves 1 contents s (item_with (enter_at d) s)
 unfolding item_with
-with-leaves d i s = leaves-bind nought contents (next_head s) _ (head-within s) (λ h r l. item-by-leaves s r l d i h.major h.size h.argument)
+with_leaves d i s = leaves-bind nought contents (next_head s) _ (head-within s) (λ h r l. item-by-leaves s r l d i h.major h.size h.argument)
 
 pub item-leaves : (d : ℕ) → ItemLeaves (item d)
 unfolding item
-item-leaves zero s = with-leaves zero tt s
-item-leaves (suc d) s = with-leaves (suc d) (item-leaves d) s
+item-leaves zero s = with_leaves zero tt s
+item-leaves (suc d) s = with_leaves (suc d) (item-leaves d) s
 
 pub below-leaves : (d : ℕ) → ItemLeaves (below d)
 unfolding below

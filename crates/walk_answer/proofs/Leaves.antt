@@ -33,8 +33,8 @@ left_cut k size at s h z i =
 pub left-all : (s : List ℕ) → Left 0 s s 0
 left-all s = left_cut 0 0 0 s (omega arith) (omega arith) (omega arith)
 
-pub left-weak : {k j size z : ℕ} {s r : List ℕ} → j ≤ k → z ≤ size → Left k s r size → Left j s r z
-left-weak h i l = record { less = omega (arith, l.less); drops = l.drops; small = omega (arith, l.small) }
+pub left_weak : {k j size z : ℕ} {s r : List ℕ} → j ≤ k → z ≤ size → Left k s r size → Left j s r z
+left_weak h i l = record { less = omega (arith, l.less); drops = l.drops; small = omega (arith, l.small) }
 
 pub left-on : {k j a b : ℕ} {s t r : List ℕ} → Left k s t a → Left j t r b → Left k s r (a + b)
 left-on {k} {j} {a} {b} {s} {t} {r} l m =
@@ -47,7 +47,7 @@ left-on {k} {j} {a} {b} {s} {t} {r} l m =
 
 -- what is read behind a part
 pub leaves-behind : {A : Type 0} {k a : ℕ} (j : ℕ) (f g : A → ℕ) {s t : List ℕ} → Left k s t a → ((x : A) → g x ≤ a + f x) → (res : Result A) → Leaves j f t res → Leaves k g s res
-leaves-behind j f g l h (ok x r) m = left-weak (omega arith) (h x) (left-on l m)
+leaves-behind j f g l h (ok x r) m = left_weak (omega arith) (h x) (left-on l m)
 leaves-behind j f g l h (refuse n left) m = omega (arith, l.less)
 
 -- a part, and then what is read behind it
@@ -57,9 +57,9 @@ unfolding bind
 leaves-bind f g (ok x r) go l h = h x r l
 leaves-bind f g (refuse n left) go l h = l
 
-pub leaves-weak : {A : Type 0} (k j : ℕ) (f : A → ℕ) (s : List ℕ) → j ≤ k → (res : Result A) → Leaves k f s res → Leaves j f s res
-leaves-weak k j f s h (ok x r) l = left-weak h (omega arith) l
-leaves-weak k j f s h (refuse n left) l = l
+pub leaves_weak : {A : Type 0} (k j : ℕ) (f : A → ℕ) (s : List ℕ) → j ≤ k → (res : Result A) → Leaves k f s res → Leaves j f s res
+leaves_weak k j f s h (ok x r) l = left_weak h (omega arith) l
+leaves_weak k j f s h (refuse n left) l = l
 
 abbrev pub same : ℕ → ℕ
 same n = n
@@ -80,9 +80,9 @@ abbrev Fewer : {A : Type 0} → List ℕ → Result A → Type 0
 Fewer s (ok x r) = length r < length s
 Fewer s (refuse n left) = Unit
 
-leaves-fewer : {A : Type 0} (f : A → ℕ) (s : List ℕ) (res : Result A) → Leaves 1 f s res → Fewer s res
-leaves-fewer f s (ok x r) l = omega (arith, l.less)
-leaves-fewer f s (refuse n left) l = tt
+leaves_fewer : {A : Type 0} (f : A → ℕ) (s : List ℕ) (res : Result A) → Leaves 1 f s res → Fewer s res
+leaves_fewer f s (ok x r) l = omega (arith, l.less)
+leaves_fewer f s (refuse n left) l = tt
 
 -- the bound on their number has no effect
 module _ {A L : Type 0} (nil : L) (cons : A → L → L) (rd : List ℕ → Result A) (f : A → ℕ) (one : (s : List ℕ) → Leaves 1 f s (rd s)) where
@@ -90,7 +90,7 @@ module _ {A L : Type 0} (nil : L) (cons : A → L → L) (rd : List ℕ → Resu
       → several_by nil cons rd go t s ≡ several_by nil cons rd to t s
   unfolding several_by bind
   by-same go to s h (finished r) = refl
-  by-same go to s h (another u) = by (rd s) (leaves-fewer f s (rd s) (one s))
+  by-same go to s h (another u) = by (rd s) (leaves_fewer f s (rd s) (one s))
     where
       by : (res : Result A) → Fewer s res → bind res (λ x r. bind (go u r) (λ xs r'. ok (cons x xs) r')) ≡ bind res (λ x r. bind (to u r) (λ xs r'. ok (cons x xs) r'))
       by (ok x r) i = ap (λ (k : Result L). bind k (λ xs r'. ok (cons x xs) r')) (h u r i)
@@ -103,9 +103,9 @@ module _ {A L : Type 0} (nil : L) (cons : A → L → L) (rd : List ℕ → Resu
   within_same (suc f) (suc g) u s h i =
       by-same (several_within nil cons rd f) (several_within nil cons rd g) s (λ v r l. within_same f g v r (omega arith) (omega arith)) (step_at u s)
 
-  pub several-eq : (u : Until) (s : List ℕ) → several nil cons rd u s ≡ several_by nil cons rd (several nil cons rd) (step_at u s) s
+  pub several_eq : (u : Until) (s : List ℕ) → several nil cons rd u s ≡ several_by nil cons rd (several nil cons rd) (step_at u s) s
   unfolding several several_within
-  several-eq u s =
+  several_eq u s =
       by-same (several_within nil cons rd (length s)) (several nil cons rd) s (λ v r l. within_same (length s) (suc (length r)) v r l (omega arith)) (step_at u s)
 
 -- only a number of what was read is kept
@@ -157,7 +157,7 @@ module _ (rd : List ℕ → Result ℕ) (one : (s : List ℕ) → Leaves 1 same 
   unfolding several_by
   by-leaves go s h (finished r) l = l
   by-leaves go s h (another u) l =
-      leaves-bind same same (rd s) _ (leaves-weak 1 0 same s (omega arith) (rd s) (one s))
+      leaves-bind same same (rd s) _ (leaves_weak 1 0 same s (omega arith) (rd s) (one s))
       (λ x r i. leaves-bind (λ m. x + m) same (go u r) _ (leaves-behind 0 same (λ m. x + m) i (λ m. omega arith) (go u r) (h u r)) (λ m r' j. j))
 
   within-leaves : (n : ℕ) (u : Until) (s : List ℕ) → Leaves 0 same s (several_within 0 ◌+◌ rd n u s)

@@ -19,8 +19,8 @@ use Rattle.walk_answer.specs.declared.Passage.{Passage}
 use Rattle.walk_answer.specs.declared.Passed.{Passed}
 use Rattle.walk_answer.specs.declared.Passed.TheVariants.{Span as SpanV, Refused as RefusedV}
 use Rattle.memory.specs.Sums.{capped}
-use Rattle.walk_answer.proofs.Leaves.{Leaves, same, leaves-sized, several-eq, several-leaves}
-use Rattle.walk_answer.proofs.ItemLeaves.{chunk-leaves, entry-leaves, below-leaves}
+use Rattle.walk_answer.proofs.Leaves.{Leaves, same, leaves-sized, several_eq, several-leaves}
+use Rattle.walk_answer.proofs.ItemLeaves.{chunk_leaves, entry_leaves, below-leaves}
 
 -- ANSWERS
 
@@ -33,26 +33,26 @@ pub record Reached (n : ℕ) (m : Passage) (res : Result ℕ) : Type 0 where
   pub is : res ≡ ok m.size rest
   pub ends : m.end ≡ n - length rest
 
-reached-of : (n : ℕ) (m : Passage) (res : Result ℕ) → pass_told (SpanV m) ≡ told_of n res → Reached n m res
+reached_of : (n : ℕ) (m : Passage) (res : Result ℕ) → pass_told (SpanV m) ≡ told_of n res → Reached n m res
 unfolding pass_told told_of
-reached-of n m (ok k r) e = let i : m.size ≡ k = cc in record { rest = r; is = ap (λ (x : ℕ). ok x r) (sym i); ends = cc }
-reached-of n m (refuse k l) e = let z : ◌≡◌ {A = ℕ} 0 1 = cc in absurd (omega arith)
+reached_of n m (ok k r) e = let i : m.size ≡ k = cc in record { rest = r; is = ap (λ (x : ℕ). ok x r) (sym i); ends = cc }
+reached_of n m (refuse k l) e = let z : ◌≡◌ {A = ℕ} 0 1 = cc in absurd (omega arith)
 
 pub reached : {n : ℕ} {m : Passage} (res : Result ℕ) (a : Passed) → pass_told a ≡ told_of n res → a ≡ SpanV m → Reached n m res
-reached res a e i = reached-of _ _ res (rw i at e)
+reached res a e i = reached_of _ _ res (rw i at e)
 
-lost-of : (n : ℕ) (e : Refusal) (res : Result ℕ) (go : ℕ → List ℕ → Result ℕ) → pass_told (RefusedV e) ≡ told_of n res → pass_told (RefusedV e) ≡ told_of n (bind res go)
+lost_of : (n : ℕ) (e : Refusal) (res : Result ℕ) (go : ℕ → List ℕ → Result ℕ) → pass_told (RefusedV e) ≡ told_of n res → pass_told (RefusedV e) ≡ told_of n (bind res go)
 unfolding pass_told told_of bind
-lost-of n e (ok k r) go h = let z : ◌≡◌ {A = ℕ} 0 1 = cc in absurd (omega arith)
-lost-of n e (refuse k l) go h = h
+lost_of n e (ok k r) go h = let z : ◌≡◌ {A = ℕ} 0 1 = cc in absurd (omega arith)
+lost_of n e (refuse k l) go h = h
 
 -- a part that is refused, and whatever begins with it
 pub lost : (n : ℕ) {e : Refusal} (res : Result ℕ) (go : ℕ → List ℕ → Result ℕ) (a : Passed) → pass_told a ≡ told_of n res → a ≡ RefusedV e → pass_told (RefusedV e) ≡ told_of n (bind res go)
-lost n res go a h i = lost-of n _ res go (rw i at h)
+lost n res go a h i = lost_of n _ res go (rw i at h)
 
 -- the part of a slice from a place on, as the code has it
-pub tail-is : (s : List ℕ) (at : ℕ) → take (length s - at) (drop at s) ≡ drop at s
-tail-is s at = take_all (length s - at) (drop at s) (omega (arith, length-drop at s))
+pub tail_is : (s : List ℕ) (at : ℕ) → take (length s - at) (drop at s) ≡ drop at s
+tail_is s at = take_all (length s - at) (drop at s) (omega (arith, length-drop at s))
 
 -- the answer for a part, as that for the whole
 pub after-told : (k : ℕ) (s : List ℕ) (at size : ℕ) (res : Result ℕ) → at ≤ length s → size ≤ at → length s < 2 ^ 63 → Leaves k same (drop at s) res
@@ -81,10 +81,10 @@ unfolding pass_of one_of below
 one-item n d s h = h
 
 -- an entry is two of them
-entry-sized : (rd : List ℕ → Result Item) (s : List ℕ)
+entry_sized : (rd : List ℕ → Result Item) (s : List ℕ)
     → map_result entry_contents (entry_at rd s) ≡ bind (map_result contents (rd s)) (λ k r. bind (map_result contents (rd r)) (λ x r'. ok (k + x) r'))
 unfolding entry_at entry_contents bind map_result
-entry-sized rd s = by (rd s)
+entry_sized rd s = by (rd s)
   where
     last : (k : Item) (res : Result Item) → map_result entry_contents (bind res (λ x r. ok (record { key = k; value = x }) r)) ≡ bind (map_result contents res) (λ x r. ok (contents k + x) r)
     last k (ok x r) = refl
@@ -94,9 +94,9 @@ entry-sized rd s = by (rd s)
     by (ok k r) = last k (rd r)
     by (refuse n l) = refl
 
-entry-two : (d : ℕ) (s : List ℕ) → one_of 5 d s ≡ bind (one_of 4 d s) (λ k r. bind (one_of 4 d r) (λ x r'. ok (k + x) r'))
+entry_two : (d : ℕ) (s : List ℕ) → one_of 5 d s ≡ bind (one_of 4 d s) (λ k r. bind (one_of 4 d r) (λ x r'. ok (k + x) r'))
 unfolding one_of
-entry-two d s = entry-sized (below d) s
+entry_two d s = entry_sized (below d) s
 
 pub one-leaves : (major d : ℕ) (s : List ℕ) → Leaves 1 same s (one_of major d s)
 unfolding one_of
@@ -105,14 +105,14 @@ one-leaves major d s = by (eqb major 4) (eqb major 5)
     by : (a b : Bool)
         → Leaves {A = ℕ} 1 same s (elim a [ true ↦ map_result contents (below d s) | false ↦ elim b [ true ↦ map_result entry_contents (entry_at (below d) s) | false ↦ map_result chunk_contents (chunk_at (kind_of (eqb major 3)) s) ] ])
     by true b = leaves-sized 1 contents s (below d s) (below-leaves d s)
-    by false true = leaves-sized 1 entry_contents s (entry_at (below d) s) (entry-leaves (below d) (below-leaves d) s)
-    by false false = leaves-sized 1 chunk_contents s (chunk_at (kind_of (eqb major 3)) s) (chunk-leaves (kind_of (eqb major 3)) s)
+    by false true = leaves-sized 1 entry_contents s (entry_at (below d) s) (entry_leaves (below d) (below-leaves d) s)
+    by false false = leaves-sized 1 chunk_contents s (chunk_at (kind_of (eqb major 3)) s) (chunk_leaves (kind_of (eqb major 3)) s)
 
 -- SEVERAL
 
-all-eq : (major d : ℕ) (u : Until) (s : List ℕ) → all_of major d u s ≡ several_by 0 ◌+◌ (one_of major d) (all_of major d) (step_at u s) s
+all_eq : (major d : ℕ) (u : Until) (s : List ℕ) → all_of major d u s ≡ several_by 0 ◌+◌ (one_of major d) (all_of major d) (step_at u s) s
 unfolding all_of
-all-eq major d u s = several-eq 0 ◌+◌ (one_of major d) same (one-leaves major d) u s
+all_eq major d u s = several_eq 0 ◌+◌ (one_of major d) same (one-leaves major d) u s
 
 pub all-leaves : (major d : ℕ) (u : Until) (s : List ℕ) → Leaves 0 same s (all_of major d u s)
 unfolding all_of
@@ -124,11 +124,11 @@ others major d u m r = bind (all_of major d u r) (λ n r'. ok (m + n) r')
 
 pub all_more : (major d n : ℕ) (s : List ℕ) → all_of major d (counted (suc n)) s ≡ bind (one_of major d s) (others major d (counted n))
 unfolding step_at several_by
-all_more major d n s = all-eq major d (counted (suc n)) s
+all_more major d n s = all_eq major d (counted (suc n)) s
 
 pub all_none : (major d : ℕ) (s : List ℕ) → all_of major d (counted 0) s ≡ ok 0 s
 unfolding step_at several_by
-all_none major d s = all-eq major d (counted 0) s
+all_none major d s = all_eq major d (counted 0) s
 
 -- one of a number of one
 pub all_one : (major d : ℕ) (s : List ℕ) → all_of major d (counted 1) s ≡ one_of major d s
@@ -140,12 +140,12 @@ all_one major d s = all_more major d 0 s ∙ by (one_of major d s)
     by (refuse n l) = refl
 
 -- the entries of a map are twice as many items
-all-twice : (d n : ℕ) (s : List ℕ) → all_of 5 d (counted n) s ≡ all_of 4 d (counted (n + n)) s
+all_twice : (d n : ℕ) (s : List ℕ) → all_of 5 d (counted n) s ≡ all_of 4 d (counted (n + n)) s
 unfolding bind
-all-twice d zero s = all_none 5 d s ∙ sym (all_none 4 d s)
-all-twice d (suc n) s =
+all_twice d zero s = all_none 5 d s ∙ sym (all_none 4 d s)
+all_twice d (suc n) s =
     let e : suc n + suc n ≡ suc (suc (n + n)) = omega arith in
-    all_more 5 d n s ∙ ap (λ (res : Result ℕ). bind res (others 5 d (counted n))) (entry-two d s) ∙ first (all-twice d n) (one_of 4 d s)
+    all_more 5 d n s ∙ ap (λ (res : Result ℕ). bind res (others 5 d (counted n))) (entry_two d s) ∙ first (all_twice d n) (one_of 4 d s)
     ∙ sym (all_more 4 d (suc (n + n)) s) ∙ ap (λ (k : ℕ). all_of 4 d (counted k) s) (sym e)
   where
     last : (k m : ℕ) (res : Result ℕ) → bind res (λ x r. ok (k + m + x) r) ≡ bind (bind res (λ x r. ok (m + x) r)) (λ x r. ok (k + x) r)
@@ -160,8 +160,8 @@ all-twice d (suc n) s =
     first ih (ok k r) = second ih k (one_of 4 d r) ∙ ap (λ (res : Result ℕ). bind res (λ x r'. ok (k + x) r')) (sym (all_more 4 d (n + n) r))
     first ih (refuse i l) = refl
 
-pub all-double : (d n : ℕ) (s : List ℕ) → all_of 4 d (counted (n * 2)) s ≡ all_of 5 d (counted n) s
-all-double d n s = let e : n * 2 ≡ n + n = omega arith in ap (λ (k : ℕ). all_of 4 d (counted k) s) e ∙ sym (all-twice d n s)
+pub all_double : (d n : ℕ) (s : List ℕ) → all_of 4 d (counted (n * 2)) s ≡ all_of 5 d (counted n) s
+all_double d n s = let e : n * 2 ≡ n + n = omega arith in ap (λ (k : ℕ). all_of 4 d (counted k) s) e ∙ sym (all_twice d n s)
 
 -- a number of items, and then all to the end
 pub all_rest : (d k : ℕ) (s : List ℕ) {z : ℕ} {r : List ℕ} → all_of 4 d (counted k) s ≡ ok z r → all_of 4 d ended s ≡ bind (all_of 4 d ended r) (λ n r'. ok (z + n) r')
@@ -187,7 +187,7 @@ all_rest d (suc k) s {z} {r} e = first (one_of 4 d s) refl (sym (all_more 4 d k 
 
     going : (t : List ℕ) {m : ℕ} {u : List ℕ} → one_of 4 d t ≡ ok m u → all_of 4 d ended t ≡ bind (one_of 4 d t) (others 4 d ended)
     going [] h = let l = rw h at (one-leaves 4 d []) in absurd (omega (arith, l.less))
-    going (b ∷ t) h = all-eq 4 d ended (b ∷ t)
+    going (b ∷ t) h = all_eq 4 d ended (b ∷ t)
 
     first : (res : Result ℕ) → one_of 4 d s ≡ res → bind res (others 4 d (counted k)) ≡ ok z r → ((t : List ℕ) (x : ℕ) (u : List ℕ) → all_of 4 d (counted k) t ≡ ok x u → all_of 4 d ended t ≡ bind (all_of 4 d ended u) (λ n r'. ok (x + n) r'))
         → all_of 4 d ended s ≡ bind (all_of 4 d ended r) (λ n r'. ok (z + n) r')
@@ -195,15 +195,15 @@ all_rest d (suc k) s {z} {r} e = first (one_of 4 d s) refl (sym (all_more 4 d k 
     first (refuse n l) h i ih = let o : ◌≡◌ {A = ℕ} 0 1 = cc in absurd (omega arith)
 
 module _ (n d : ℕ) (s : List ℕ) {t : PassTold} where
-  pub other-entry : {major : ℕ} → major ≡ 5 → t ≡ told_of n (all_of 4 d (until_by 0 2) s) → t ≡ told_of n (one_of major d s)
+  pub other_entry : {major : ℕ} → major ≡ 5 → t ≡ told_of n (all_of 4 d (until_by 0 2) s) → t ≡ told_of n (one_of major d s)
   unfolding until_by
-  other-entry e h = rw e (h ∙ ap (told_of n) (all-double d 1 s ∙ all_one 5 d s))
+  other_entry e h = rw e (h ∙ ap (told_of n) (all_double d 1 s ∙ all_one 5 d s))
 
-  pub other-chunk : {major : ℕ} → (major ≡ 4 → ⊥) → (major ≡ 5 → ⊥) → t ≡ told_of n (map_result chunk_contents (chunk_at (kind_of (eqb major 3)) s)) → t ≡ told_of n (one_of major d s)
+  pub other_chunk : {major : ℕ} → (major ≡ 4 → ⊥) → (major ≡ 5 → ⊥) → t ≡ told_of n (map_result chunk_contents (chunk_at (kind_of (eqb major 3)) s)) → t ≡ told_of n (one_of major d s)
   unfolding one_of
-  other-chunk {major} o e h = h ∙ rw (ne_eqb major 4 o, one_of) (rw (ne_eqb major 5 e))
+  other_chunk {major} o e h = h ∙ rw (ne_eqb major 4 o, one_of) (rw (ne_eqb major 5 e))
 
-pub ruleset other-ways = (other-entry, other-chunk)
+pub ruleset other_ways = (other_entry, other_chunk)
 
 -- before a turn: what is left to walk over is the whole answer, with what was walked over before it
 pub record Run (major d : ℕ) (s : List ℕ) (first : Until) (at size : ℕ) (u : Until) : Type 0 where
@@ -215,9 +215,9 @@ pub run-start : {major d : ℕ} {s : List ℕ} {u : Until} → Run major d s u 0
 run-start {major} {d} {s} {u} = record { inside = omega arith; small = omega arith; left = bind-none (all_of major d u s) }
 
 module _ {major d : ℕ} {s : List ℕ} {first : Until} {at size mode n : ℕ} (run : Run major d s first at size (until_by mode n)) {t : Bool} (tu : Turned s at mode n t) where
-  run-eq : (x : Step) → step_by t mode n s at ≡ x → all_of major d first s ≡ bind (several_by 0 ◌+◌ (one_of major d) (all_of major d) x (drop at s)) (λ m r. ok (size + m) r)
-  run-eq x e =
-      run.left ∙ ap (λ (k : Result ℕ). bind k (λ m r. ok (size + m) r)) (all-eq major d (until_by mode n) (drop at s)
+  run_eq : (x : Step) → step_by t mode n s at ≡ x → all_of major d first s ≡ bind (several_by 0 ◌+◌ (one_of major d) (all_of major d) x (drop at s)) (λ m r. ok (size + m) r)
+  run_eq x e =
+      run.left ∙ ap (λ (k : Result ℕ). bind k (λ m r. ok (size + m) r)) (all_eq major d (until_by mode n) (drop at s)
       ∙ ap (λ (y : Step). several_by 0 ◌+◌ (one_of major d) (all_of major d) y (drop at s)) (tu.is ∙ e))
 
   pub run-over : {end : ℕ} {o : PassTold} → not t ≡ false → length s * 1 < 2 ^ 63 → end ≡ capped at (behind_by mode) → o ≡ passed end size → o ≡ told_of (length s) (all_of major d first s)
@@ -227,14 +227,14 @@ module _ {major d : ℕ} {s : List ℕ} {first : Until} {at size mode n : ℕ} (
       let i = tu.inside tr run.inside in
       let p : end ≡ length s - length (drop (at + behind_by mode) s) = omega (arith, length-drop (at + behind_by mode) s) in
       let q : size ≡ size + 0 = omega arith in
-      h ∙ (λ j. passed (p j) (q j)) ∙ sym (ap (told_of (length s)) (run-eq (finished (drop (at + behind_by mode) s)) (ap (λ (v : Bool). step_by v mode n s at) tr)))
+      h ∙ (λ j. passed (p j) (q j)) ∙ sym (ap (told_of (length s)) (run_eq (finished (drop (at + behind_by mode) s)) (ap (λ (v : Bool). step_by v mode n s at) tr)))
 
   module _ (y : not t ≡ true) (one : Passed) (long : length s * 1 < 2 ^ 63) (told : pass_told one ≡ told_of (length (take (length s - at) (drop at s))) (one_of major d (take (length s - at) (drop at s)))) (part : Passed)
       (after : pass_told part ≡ after_told at size (pass_told one)) where
     -- this one, with what was walked over before it, and then the others
     on : all_of major d first s ≡ bind (bind (one_of major d (drop at s)) (λ m r. ok (size + m) r)) (others major d (until_by mode (n - 1)))
     unfolding step_by several_by bind
-    on = run-eq (another (until_by mode (n - 1))) (ap (λ (v : Bool). step_by v mode n s at) (not-true t y)) ∙ by (one_of major d (drop at s))
+    on = run_eq (another (until_by mode (n - 1))) (ap (λ (v : Bool). step_by v mode n s at) (not-true t y)) ∙ by (one_of major d (drop at s))
       where
         last : (m : ℕ) (res : Result ℕ) → bind (bind res (λ n r. ok (m + n) r)) (λ n r. ok (size + n) r) ≡ bind res (λ n r. ok (size + m + n) r)
         last m (ok n r) = let z : size + (m + n) ≡ size + m + n = omega arith in ap (λ (k : ℕ). ok k r) z
@@ -246,7 +246,7 @@ module _ {major d : ℕ} {s : List ℕ} {first : Until} {at size mode n : ℕ} (
 
     part-told : pass_told part ≡ told_of (length s) (bind (one_of major d (drop at s)) (λ m r. ok (size + m) r))
     part-told =
-        after ∙ ap (after_told at size) (told ∙ ap (λ (t : List ℕ). told_of (length t) (one_of major d t)) (tail-is s at)) ∙ after-told 1 s at size (one_of major d (drop at s)) run.inside run.small (omega arith) (one-leaves major d (drop at s))
+        after ∙ ap (after_told at size) (told ∙ ap (λ (t : List ℕ). told_of (length t) (one_of major d t)) (tail_is s at)) ∙ after-told 1 s at size (one_of major d (drop at s)) run.inside run.small (omega arith) (one-leaves major d (drop at s))
 
     pub run-refused : {x : Refusal} → part ≡ RefusedV x → pass_told (RefusedV x) ≡ told_of (length s) (all_of major d first s)
     run-refused h = lost (length s) (bind (one_of major d (drop at s)) (λ m r. ok (size + m) r)) (others major d (until_by mode (n - 1))) part part-told h ∙ ap (told_of (length s)) (sym on)
@@ -269,8 +269,8 @@ module _ {major d : ℕ} {s : List ℕ} {first : Until} {at size mode n : ℕ} (
       behind-part : (length at_part.rest < length s - at) × (at_part.rest ≡ drop (length s - length at_part.rest) s) × (m.size + length at_part.rest ≤ length s)
       behind-part = part_left (one_of major d (drop at s)) (one-leaves major d (drop at s)) at_part.rest at_part.is
 
-      pub run-less : length s - m.end < length s - at
-      run-less = let b = behind-part in omega (arith, at_part.ends, b.0)
+      pub run_less : length s - m.end < length s - at
+      run_less = let b = behind-part in omega (arith, at_part.ends, b.0)
 
       pub run_on : {k : ℕ} → k ≡ n - 1 → Run major d s first m.end m.size (until_by mode k)
       unfolding bind
@@ -286,4 +286,4 @@ module _ {major d : ℕ} {s : List ℕ} {first : Until} {at size mode n : ℕ} (
                 ∙ ap (λ (i : ℕ). bind (all_of major d (until_by mode i) (drop m.end s)) (λ n r'. ok (m.size + n) r')) (sym e);
           }
 
-pub ruleset run-ways = (run-over, run-refused)
+pub ruleset run_ways = (run-over, run-refused)

@@ -36,7 +36,7 @@ pub text-no : (s : List ℕ) (t : Bool) → t ≡ false → true ≡ is_text (ki
 unfolding is_text kind_of
 text-no s t e = rw e
 
-pub ruleset text-ways = (text-yes, text-no)
+pub ruleset text_ways = (text-yes, text-no)
 
 pub major-text : (t : Bool) → t ≡ true → 3 ≡ major_number (strings (kind_of t))
 unfolding major_number kind_of
@@ -46,7 +46,7 @@ pub major-bytes : (t : Bool) → t ≡ false → 2 ≡ major_number (strings (ki
 unfolding major_number kind_of
 major-bytes t e = rw e
 
-pub ruleset major-ways = (major-text, major-bytes)
+pub ruleset major_ways = (major-text, major-bytes)
 
 content-is : (k : Kind) (n : ℕ) (left : ℕ) (r : List ℕ) → n ≤ length r → content_at k n left r ≡ elim (is_text k (take n r)) [ true ↦ ok (take n r) (drop n r) | false ↦ refuse not_utf8 left ]
 unfolding content_at taking bind
@@ -79,7 +79,7 @@ module _ {s : List ℕ} {from : ℕ} (n : ℕ) (k : Bool) {v : Bool} (w : Within
   unfolding map_result told_of kind_number
   content-bad y e = let z : 0 ≡ length s - length s = omega arith in e ∙ rw content-at (rw y (ap (pass_refused not_utf8) z))
 
-pub ruleset content-ways = (content-short, content-good, content-bad)
+pub ruleset content_ways = (content-short, content-good, content-bad)
 
 -- HEADS
 
@@ -107,8 +107,8 @@ pub got : {s : List ℕ} {h : HeadAt} → Headed s h → Got s h
 unfolding head_at
 got {s} {h} e = got_of s h (next_head s) refl e.is
 
-pub got-both : {X : Type 0} {s : List ℕ} {h : HeadAt} (g : Got s h) (f : ℕ → List ℕ → X) → f h.argument (drop h.end s) ≡ f g.head.argument g.rest
-got-both g f = λ j. f (g.argument j) (g.drops j)
+pub got_both : {X : Type 0} {s : List ℕ} {h : HeadAt} (g : Got s h) (f : ℕ → List ℕ → X) → f h.argument (drop h.end s) ≡ f g.head.argument g.rest
+got_both g f = λ j. f (g.argument j) (g.drops j)
 
 pub headed : (s : List ℕ) {h : HeadAt} (a : HeadRead) → head_told a ≡ head_at s 0 → a ≡ HeadV h → Headed s h
 headed s a e i = record { is = rw i at e }
@@ -120,11 +120,11 @@ pub head-inside : {s : List ℕ} {h : HeadAt} → Headed s h → h.end ≤ lengt
 head-inside e = (head-room e).inside
 
 -- a head that is refused, and whatever begins with it
-lost-of : {A : Type 0} (f : A → ℕ) (s : List ℕ) (e : Refusal) (res : Result Head) (go : Head → List ℕ → Result A) → head_told (HeadRefusedV e) ≡ head_from (length s) res
+lost_of : {A : Type 0} (f : A → ℕ) (s : List ℕ) (e : Refusal) (res : Result Head) (go : Head → List ℕ → Result A) → head_told (HeadRefusedV e) ≡ head_from (length s) res
     → pass_told (RefusedV e) ≡ told_of (length s) (map_result f (bind res go))
 unfolding head_told head_from pass_told told_of map_result bind
-lost-of f s e (ok d r) go h = let z : ◌≡◌ {A = ℕ} 0 1 = cc in absurd (omega arith)
-lost-of f s e (refuse n left) go h =
+lost_of f s e (ok d r) go h = let z : ◌≡◌ {A = ℕ} 0 1 = cc in absurd (omega arith)
+lost_of f s e (refuse n left) go h =
     let i : kind_number e.kind ≡ n = cc in
     let j : e.place ≡ length s - left = cc in
     λ k. pass_refused (i k) (j k)
@@ -132,7 +132,7 @@ lost-of f s e (refuse n left) go h =
 pub head-lost : {A : Type 0} (s : List ℕ) {e : Refusal} (f : A → ℕ) (go : Head → List ℕ → Result A) (a : HeadRead) → head_told a ≡ head_at s 0 → a ≡ HeadRefusedV e
     → pass_told (RefusedV e) ≡ told_of (length s) (map_result f (bind (next_head s) go))
 unfolding head_at
-head-lost s {e} f go a h i = lost-of f s e (next_head s) go (rw i at h)
+head-lost s {e} f go a h i = lost_of f s e (next_head s) go (rw i at h)
 
 -- CHUNKS
 
@@ -159,57 +159,57 @@ size-indefinite {m = m} {h = h} l e = by h.size l.low e
     by (definite w) i e = absurd (omega arith)
     by indefinite i e = refl
 
-pub chunk-none : (k : Bool) (s : List ℕ) {t : PassTold} → length s ≡ 0 → t ≡ pass_refused (kind_number EndsInside) 0 → t ≡ told_of (length s) (map_result chunk_contents (chunk_at (kind_of k) s))
+pub chunk_none : (k : Bool) (s : List ℕ) {t : PassTold} → length s ≡ 0 → t ≡ pass_refused (kind_number EndsInside) 0 → t ≡ told_of (length s) (map_result chunk_contents (chunk_at (kind_of k) s))
 unfolding chunk_at map_result told_of kind_number
-chunk-none k [] h e = e
-chunk-none k (b ∷ s) h e = absurd (omega arith)
+chunk_none k [] h e = e
+chunk_none k (b ∷ s) h e = absurd (omega arith)
 
-pub chunk-other : (k : Bool) (s : List ℕ) {m : ℕ} {t : PassTold} → (length s ≡ 0 → ⊥) → m ≡ major_number (strings (kind_of k)) → (get_or s 0 0 / 32 ≡ m → ⊥) → t ≡ pass_refused (kind_number NotWellFormed) 0
+pub chunk_other : (k : Bool) (s : List ℕ) {m : ℕ} {t : PassTold} → (length s ≡ 0 → ⊥) → m ≡ major_number (strings (kind_of k)) → (get_or s 0 0 / 32 ≡ m → ⊥) → t ≡ pass_refused (kind_number NotWellFormed) 0
     → t ≡ told_of (length s) (map_result chunk_contents (chunk_at (kind_of k) s))
 unfolding chunk_at map_result told_of kind_number
-chunk-other k [] n i h e = absurd (n refl)
-chunk-other k (b ∷ s) {m} n i h e =
+chunk_other k [] n i h e = absurd (n refl)
+chunk_other k (b ∷ s) {m} n i h e =
     let z : 0 ≡ suc (length s) - suc (length s) = omega arith in
     e ∙ rw (ne_eqb (b / 32) (major_number (strings (kind_of k))) (λ x. h (x ∙ sym i)), chunk_at) (ap (pass_refused not_well_formed) z)
 
 -- a chunk of the right major type, by its head
-chunk-is : (k : Kind) (s : List ℕ) {m : ℕ} → (length s ≡ 0 → ⊥) → m ≡ major_number (strings k) → get_or s 0 0 / 32 ≡ m
+chunk_is : (k : Kind) (s : List ℕ) {m : ℕ} → (length s ≡ 0 → ⊥) → m ≡ major_number (strings k) → get_or s 0 0 / 32 ≡ m
     → chunk_at k s ≡ bind (next_head s) (λ h r. chunk_by k h.size h.argument (length s) r)
 unfolding chunk_at
-chunk-is k [] n i h = absurd (n refl)
-chunk-is k (b ∷ s) n i h = rw (eq-eqb (b / 32) (major_number (strings k)) (h ∙ i), chunk_at)
+chunk_is k [] n i h = absurd (n refl)
+chunk_is k (b ∷ s) n i h = rw (eq-eqb (b / 32) (major_number (strings k)) (h ∙ i), chunk_at)
 
 module _ (k : Bool) (s : List ℕ) {m : ℕ} (n : length s ≡ 0 → ⊥) (i : m ≡ major_number (strings (kind_of k))) (j : get_or s 0 0 / 32 ≡ m) (a : HeadRead) (told : head_told a ≡ head_at s 0) where
-  pub chunk-lost : {e : Refusal} → a ≡ HeadRefusedV e → pass_told (RefusedV e) ≡ told_of (length s) (map_result chunk_contents (chunk_at (kind_of k) s))
-  chunk-lost h = rw (chunk-is (kind_of k) s n i j) (head-lost s chunk_contents _ a told h)
+  pub chunk_lost : {e : Refusal} → a ≡ HeadRefusedV e → pass_told (RefusedV e) ≡ told_of (length s) (map_result chunk_contents (chunk_at (kind_of k) s))
+  chunk_lost h = rw (chunk_is (kind_of k) s n i j) (head-lost s chunk_contents _ a told h)
 
   module _ {h : HeadAt} (e : a ≡ HeadV h) where
-    pub chunk-room : Within s h.end
-    chunk-room = head-room (headed s a told e)
+    pub chunk_room : Within s h.end
+    chunk_room = head-room (headed s a told e)
 
-    chunk-at : (g : Got s h) → chunk_at (kind_of k) s ≡ chunk_by (kind_of k) g.head.size g.head.argument (length s) g.rest
+    chunk_at_lem : (g : Got s h) → chunk_at (kind_of k) s ≡ chunk_by (kind_of k) g.head.size g.head.argument (length s) g.rest
     unfolding bind
-    chunk-at g = chunk-is (kind_of k) s n i j ∙ rw g.is
+    chunk_at_lem g = chunk_is (kind_of k) s n i j ∙ rw g.is
 
-    pub chunk-open : {t : PassTold} → h.info ≡ 31 → t ≡ pass_refused (kind_number NotWellFormed) 0 → t ≡ told_of (length s) (map_result chunk_contents (chunk_at (kind_of k) s))
+    pub chunk_open : {t : PassTold} → h.info ≡ 31 → t ≡ pass_refused (kind_number NotWellFormed) 0 → t ≡ told_of (length s) (map_result chunk_contents (chunk_at (kind_of k) s))
     unfolding chunk_by map_result told_of kind_number
-    chunk-open o f =
+    chunk_open o f =
         let g = got (headed s a told e) in
         let z : 0 ≡ length s - length s = omega arith in
         f ∙ ap (pass_refused not_well_formed) z
-        ∙ sym (ap (λ (u : Result Chunk). told_of (length s) (map_result chunk_contents u)) (chunk-at g
+        ∙ sym (ap (λ (u : Result Chunk). told_of (length s) (map_result chunk_contents u)) (chunk_at_lem g
         ∙ ap (λ (x : Size). chunk_by (kind_of k) x g.head.argument (length s) g.rest) (size-indefinite g.left (sym g.info ∙ o))))
 
-    pub chunk-content : {t : PassTold} → (h.info ≡ 31 → ⊥) → t ≡ told_of (length s) (map_result length (content_at (kind_of k) h.argument (length s) (drop h.end s)))
+    pub chunk_content : {t : PassTold} → (h.info ≡ 31 → ⊥) → t ≡ told_of (length s) (map_result length (content_at (kind_of k) h.argument (length s) (drop h.end s)))
         → t ≡ told_of (length s) (map_result chunk_contents (chunk_at (kind_of k) s))
     unfolding chunk_by chunk_contents
-    chunk-content o f =
+    chunk_content o f =
         let g = got (headed s a told e) in
-        f ∙ got-both g (λ n r. told_of (length s) (map_result length (content_at (kind_of k) n (length s) r)))
+        f ∙ got_both g (λ n r. told_of (length s) (map_result length (content_at (kind_of k) n (length s) r)))
         ∙ size-definite g.left
         (λ z. told_of (length s) (map_result length (content_at (kind_of k) g.head.argument (length s) g.rest)) ≡ told_of (length s) (map_result chunk_contents (chunk_by (kind_of k) z g.head.argument (length s) g.rest)))
         (λ x. o (g.info ∙ x))
         (λ w. ap (told_of (length s)) (sym (sized-made chunk_contents length (λ b. record { width = w; content = b }) (λ b. refl) (content_at (kind_of k) g.head.argument (length s) g.rest))))
-        ∙ sym (ap (λ (u : Result Chunk). told_of (length s) (map_result chunk_contents u)) (chunk-at g))
+        ∙ sym (ap (λ (u : Result Chunk). told_of (length s) (map_result chunk_contents u)) (chunk_at_lem g))
 
-pub ruleset chunk-ways = (chunk-none, chunk-other, chunk-lost, chunk-open, chunk-content)
+pub ruleset chunk_ways = (chunk_none, chunk_other, chunk_lost, chunk_open, chunk_content)

@@ -35,8 +35,8 @@ use Rattle.cbor.proofs.Heads.{major-back, major-most}
 use Rattle.cbor.proofs.Table.{byte}
 use Rattle.walk_answer.proofs.Leaves.{Leaves, same}
 use Rattle.walk_answer.proofs.ItemLeaves.{LowSize, head-left, chunks-sized, elements-sized, entries-sized, item-leaves}
-use Rattle.walk_parts.proofs.StringCode.{Got, got, got-both, head-room, head-lost, sized-made, size-definite, size-indefinite}
-use Rattle.walk_answer.proofs.WalkCycle.{at_front, tail-is, after-told, all-leaves, one-item, all_one, all-double}
+use Rattle.walk_parts.proofs.StringCode.{Got, got, got_both, head-room, head-lost, sized-made, size-definite, size-indefinite}
+use Rattle.walk_answer.proofs.WalkCycle.{at_front, tail_is, after-told, all-leaves, one-item, all_one, all_double}
 
 -- THE MAJOR TYPE
 
@@ -76,23 +76,23 @@ by-major d simples (definite w) n left r = refl
 by-major d simples indefinite n left r = tt
 
 -- an item is read by its head
-pub item-eq : (d : ℕ) (s : List ℕ) → item d s ≡ bind (next_head s) (λ h r. item_by (enter_at d) h.major h.size h.argument (length s) r)
+pub item_eq : (d : ℕ) (s : List ℕ) → item d s ≡ bind (next_head s) (λ h r. item_by (enter_at d) h.major h.size h.argument (length s) r)
 unfolding item item_with
-item-eq zero s = refl
-item-eq (suc d) s = refl
+item_eq zero s = refl
+item_eq (suc d) s = refl
 
 item-major : (d : ℕ) (s : List ℕ) → MajorIn (major_of (get_or s 0 0 / 32)) (item d s)
 unfolding bind
-item-major d s = rw (item-eq d s) (by (next_head s) refl)
+item-major d s = rw (item_eq d s) (by (next_head s) refl)
   where
     by : (res : Result Head) → next_head s ≡ res → MajorIn (major_of (get_or s 0 0 / 32)) (bind res (λ h r. item_by (enter_at d) h.major h.size h.argument (length s) r))
     by (ok h r) e = rw (← (head-left s e).major) (by-major d h.major h.size h.argument (length s) r)
     by (refuse n l) e = tt
 
-with-major : (n : ℕ) (m : Major) (res : Result Item) → MajorIn m res → with_major (major_number m) (pass_of n res) ≡ walk_of n res
+with_major_lem : (n : ℕ) (m : Major) (res : Result Item) → MajorIn m res → with_major (major_number m) (pass_of n res) ≡ walk_of n res
 unfolding with_major pass_of map_result told_of walk_of
-with-major n m (ok x r) h = ap (λ (k : Major). item_passed (n - length r) (major_number k) (contents x)) (sym h)
-with-major n m (refuse k l) h = refl
+with_major_lem n m (ok x r) h = ap (λ (k : Major). item_passed (n - length r) (major_number k) (contents x)) (sym h)
+with_major_lem n m (refuse k l) h = refl
 
 -- FROM A PLACE ON
 
@@ -105,7 +105,7 @@ pub part-told : (k : ℕ) (s : List ℕ) (at : ℕ) (rd : List ℕ → Result �
     → pass_told inner ≡ told_of (length (take (length s - at) (drop at s))) (rd (take (length s - at) (drop at s))) → pass_told part ≡ after_told at 0 (pass_told inner)
     → pass_told part ≡ told_of (length s) (rd (drop at s))
 part-told k s at rd inner part h long one told after =
-    after ∙ ap (after_told at 0) (told ∙ ap (λ (t : List ℕ). told_of (length t) (rd t)) (tail-is s at))
+    after ∙ ap (after_told at 0) (told ∙ ap (λ (t : List ℕ). told_of (length t) (rd t)) (tail_is s at))
     ∙ after-told k s at 0 (rd (drop at s)) h (omega arith) (omega arith) (one (drop at s))
     ∙ ap (told_of (length s)) (bind-zero (rd (drop at s)))
 
@@ -130,7 +130,7 @@ pub item-told : (d : ℕ) (s : List ℕ) (at : ℕ) (inner part : Walked) → at
     → walk_told inner ≡ walk_of (length (take (length s - at) (drop at s))) (item d (take (length s - at) (drop at s))) → walk_told part ≡ item_after at (walk_told inner)
     → walk_told part ≡ walk_of (length s) (item d (drop at s))
 item-told d s at inner part h long told after =
-    after ∙ ap (item_after at) (told ∙ ap (λ (t : List ℕ). walk_of (length t) (item d t)) (tail-is s at)) ∙ after-item s at (item d (drop at s)) h (omega arith) (item-leaves d (drop at s))
+    after ∙ ap (item_after at) (told ∙ ap (λ (t : List ℕ). walk_of (length t) (item d t)) (tail_is s at)) ∙ after-item s at (item d (drop at s)) h (omega arith) (item-leaves d (drop at s))
 
 -- TAGS
 
@@ -207,7 +207,7 @@ module _ (n d : ℕ) {s : List ℕ} {from : ℕ} (w : Within s from) (inner : Pa
     unfolding kind_number
     tag-bad y f = f ∙ at_front bad_typed_array (length s) ∙ ap (tag_told (length s) m) (sym y) ∙ tag_is
 
-pub ruleset tag-turns = (tag-refused, tag-good, tag-bad)
+pub ruleset tag_turns = (tag-refused, tag-good, tag-bad)
 
 -- ITEMS
 
@@ -226,7 +226,7 @@ pub item-is : (d : ℕ) (s : List ℕ) (span : Passed) {m : ℕ} {t : WalkTold} 
     → t ≡ walk_of (length s) (item d s)
 unfolding pass_of
 item-is d s span i e f =
-    f ∙ (λ z. with_major (i z) ((e ∙ ap (told_of (length s)) (only_one d s)) z)) ∙ with-major (length s) (major_of (get_or s 0 0 / 32)) (item d s) (item-major d s)
+    f ∙ (λ z. with_major (i z) ((e ∙ ap (told_of (length s)) (only_one d s)) z)) ∙ with_major_lem (length s) (major_of (get_or s 0 0 / 32)) (item d s) (item-major d s)
 
 -- several inside an item, as the code walks over them
 all-chunks : (k : Kind) (d : ℕ) (s : List ℕ) → all_of (major_number (strings k)) d broken s ≡ map_result chunks_length (chunks_of k s)
@@ -284,17 +284,17 @@ module _ (d size : ℕ) {t : PassTold} where
   a-chunked c tags n r l h e = absurd (omega arith)
   a-chunked c simples n r l h e = absurd (omega arith)
 
-  too-deep : (m : Major) (z : Size) (n : ℕ) (r : List ℕ) → LowSize m z n → d ≡ 0 → 3 < major_number m → (major_number m ≡ 7 → ⊥) → t ≡ pass_refused too_deep 0 → Behind d size m z n r t
+  too_deep_lem : (m : Major) (z : Size) (n : ℕ) (r : List ℕ) → LowSize m z n → d ≡ 0 → 3 < major_number m → (major_number m ≡ 7 → ⊥) → t ≡ pass_refused too_deep 0 → Behind d size m z n r t
   unfolding item_by map_result told_of major_number is_indefinite
-  too-deep (integers unsigned) z n r l o h s e = absurd (omega arith)
-  too-deep (integers negative) z n r l o h s e = absurd (omega arith)
-  too-deep (strings byte_string) z n r l o h s e = absurd (omega arith)
-  too-deep (strings text_string) z n r l o h s e = absurd (omega arith)
-  too-deep arrays z n r l o h s e = rw o (e ∙ at_front too_deep size)
-  too-deep maps z n r l o h s e = rw o (e ∙ at_front too_deep size)
-  too-deep tags (definite w) n r l o h s e = rw o (e ∙ at_front too_deep size)
-  too-deep tags indefinite n r l o h s e = let z : ◌≡◌ {A = ℕ} 0 1 = cc in absurd (omega arith)
-  too-deep simples z n r l o h s e = absurd (s refl)
+  too_deep_lem (integers unsigned) z n r l o h s e = absurd (omega arith)
+  too_deep_lem (integers negative) z n r l o h s e = absurd (omega arith)
+  too_deep_lem (strings byte_string) z n r l o h s e = absurd (omega arith)
+  too_deep_lem (strings text_string) z n r l o h s e = absurd (omega arith)
+  too_deep_lem arrays z n r l o h s e = rw o (e ∙ at_front too_deep size)
+  too_deep_lem maps z n r l o h s e = rw o (e ∙ at_front too_deep size)
+  too_deep_lem tags (definite w) n r l o h s e = rw o (e ∙ at_front too_deep size)
+  too_deep_lem tags indefinite n r l o h s e = let z : ◌≡◌ {A = ℕ} 0 1 = cc in absurd (omega arith)
+  too_deep_lem simples z n r l o h s e = absurd (s refl)
 
 -- with a level left
 module _ (size : ℕ) {t : PassTold} where
@@ -313,27 +313,27 @@ module _ (size : ℕ) {t : PassTold} where
       by (refuse k q) = refl
   a-tag (suc d) indefinite n r l o e = let z : ◌≡◌ {A = ℕ} 0 1 = cc in absurd (omega arith)
 
-  an-array : (d : ℕ) (z : Size) (n : ℕ) (r : List ℕ) → (d ≡ 0 → ⊥) → t ≡ told_of size (all_of 4 d (extent z n) r) → Behind d size arrays z n r t
+  an_array : (d : ℕ) (z : Size) (n : ℕ) (r : List ℕ) → (d ≡ 0 → ⊥) → t ≡ told_of size (all_of 4 d (extent z n) r) → Behind d size arrays z n r t
   unfolding item_by below contents
-  an-array zero z n r o e = absurd (o refl)
-  an-array (suc d) z n r o e = e ∙ ap (told_of size) (all-items (suc d) (extent z n) r ∙ sym (sized-made contents contents_all (array z) (λ xs. refl) (elements (item d) (extent z n) r)))
+  an_array zero z n r o e = absurd (o refl)
+  an_array (suc d) z n r o e = e ∙ ap (told_of size) (all-items (suc d) (extent z n) r ∙ sym (sized-made contents contents_all (array z) (λ xs. refl) (elements (item d) (extent z n) r)))
 
   a-map : (d : ℕ) (z : Size) (n : ℕ) (r : List ℕ) → (d ≡ 0 → ⊥) → t ≡ told_of size (all_of 5 d (extent z n) r) → Behind d size maps z n r t
   unfolding item_by below contents
   a-map zero z n r o e = absurd (o refl)
   a-map (suc d) z n r o e = e ∙ ap (told_of size) (all-entries (suc d) (extent z n) r ∙ sym (sized-made contents contents_all₂ (map z) (λ xs. refl) (entries (item d) (extent z n) r)))
 
-  several-in : (d : ℕ) (m : Major) (z : Size) (n : ℕ) (r : List ℕ) → (d ≡ 0 → ⊥) → 3 < major_number m → (major_number m ≡ 6 → ⊥) → (major_number m ≡ 7 → ⊥) → t ≡ told_of size (all_of (major_number m) d (extent z n) r)
+  several_in : (d : ℕ) (m : Major) (z : Size) (n : ℕ) (r : List ℕ) → (d ≡ 0 → ⊥) → 3 < major_number m → (major_number m ≡ 6 → ⊥) → (major_number m ≡ 7 → ⊥) → t ≡ told_of size (all_of (major_number m) d (extent z n) r)
       → Behind d size m z n r t
   unfolding major_number
-  several-in d (integers unsigned) z n r o l p q e = absurd (omega arith)
-  several-in d (integers negative) z n r o l p q e = absurd (omega arith)
-  several-in d (strings byte_string) z n r o l p q e = absurd (omega arith)
-  several-in d (strings text_string) z n r o l p q e = absurd (omega arith)
-  several-in d arrays z n r o l p q e = an-array d z n r o e
-  several-in d maps z n r o l p q e = a-map d z n r o e
-  several-in d tags z n r o l p q e = absurd (p refl)
-  several-in d simples z n r o l p q e = absurd (q refl)
+  several_in d (integers unsigned) z n r o l p q e = absurd (omega arith)
+  several_in d (integers negative) z n r o l p q e = absurd (omega arith)
+  several_in d (strings byte_string) z n r o l p q e = absurd (omega arith)
+  several_in d (strings text_string) z n r o l p q e = absurd (omega arith)
+  several_in d arrays z n r o l p q e = an_array d z n r o e
+  several_in d maps z n r o l p q e = a-map d z n r o e
+  several_in d tags z n r o l p q e = absurd (p refl)
+  several_in d simples z n r o l p q e = absurd (q refl)
 
 -- the ways through the code, from the head that it has
 module _ {s : List ℕ} {h : HeadAt} (hd : Headed s h) where
@@ -350,9 +350,9 @@ module _ {s : List ℕ} {h : HeadAt} (hd : Headed s h) where
   unfolding major_number
   simply e = major-is simples e
 
-  until-is : until_by (mode_by h.info) h.argument ≡ extent g.head.size h.argument
+  until_is : until_by (mode_by h.info) h.argument ≡ extent g.head.size h.argument
   unfolding until_by mode_by extent
-  until-is = by (eqb h.info 31) refl
+  until_is = by (eqb h.info 31) refl
     where
       by : (v : Bool) → eqb h.info 31 ≡ v → until_by (elim v [ true ↦ 1 | false ↦ 0 ]) h.argument ≡ extent g.head.size h.argument
       by true i = sym (ap (λ (z : Size). extent z h.argument) (size-indefinite g.left (sym g.info ∙ eqb-true h.info 31 i)))
@@ -371,11 +371,11 @@ module _ {s : List ℕ} {h : HeadAt} (hd : Headed s h) where
       behind-string o e =
           known (size-definite g.left (λ z. Behind d (length s) g.head.major z g.head.argument g.rest t) (λ x. o (g.info ∙ x))
           (λ w. a-string d (length s) g.head.major w g.head.argument g.rest (omega (arith, g.major)) (omega (arith, g.major))
-          (e ∙ got-both g (λ n r. told_of (length s) (map_result length (content_at (kind_of (eqb h.major 3)) n (length s) r)))
+          (e ∙ got_both g (λ n r. told_of (length s) (map_result length (content_at (kind_of (eqb h.major 3)) n (length s) r)))
           ∙ ap (λ (m : ℕ). told_of (length s) (map_result length (content_at (kind_of (eqb m 3)) g.head.argument (length s) g.rest))) g.major)))
 
-      chunks-in : (c : ℕ) → h.info ≡ 31 → t ≡ told_of (length s) (all_of h.major c broken (drop h.end s)) → t ≡ pass_of (length s) (item d s)
-      chunks-in c o e =
+      chunks_in : (c : ℕ) → h.info ≡ 31 → t ≡ told_of (length s) (all_of h.major c broken (drop h.end s)) → t ≡ pass_of (length s) (item d s)
+      chunks_in c o e =
           known (rw (size-indefinite g.left (sym g.info ∙ o))
           (a-chunked d (length s) c g.head.major g.head.argument g.rest (omega (arith, g.major)) (omega (arith, g.major))
           (e ∙ ap (λ (r : List ℕ). told_of (length s) (all_of h.major c broken r)) g.drops ∙ ap (λ (m : ℕ). told_of (length s) (all_of m c broken g.rest)) g.major)))
@@ -392,27 +392,27 @@ module _ {s : List ℕ} {h : HeadAt} (hd : Headed s h) where
           (λ w. rw (simply e) (f ∙ ap (λ (n : ℕ). passed n 0) g.ends)))
 
     module _ (l : 3 < h.major) (o : h.major ≡ 7 → ⊥) where
-      pub behind-deep : d ≡ 0 → t ≡ pass_refused (kind_number TooDeep) 0 → t ≡ pass_of (length s) (item d s)
+      pub behind_deep : d ≡ 0 → t ≡ pass_refused (kind_number TooDeep) 0 → t ≡ pass_of (length s) (item d s)
       unfolding kind_number
-      behind-deep z e = known (too-deep d (length s) g.head.major g.head.size g.head.argument g.rest low z (omega (arith, g.major)) (λ x. o (g.major ∙ x)) e)
+      behind_deep z e = known (too_deep_lem d (length s) g.head.major g.head.size g.head.argument g.rest low z (omega (arith, g.major)) (λ x. o (g.major ∙ x)) e)
 
       module _ (p : d ≡ 0 → ⊥) where
         pub behind-tag : h.major ≡ 6 → t ≡ told_of (length s) (tag_of h.argument (d - 1) (length s) (drop h.end s)) → t ≡ pass_of (length s) (item d s)
         unfolding major_number
         behind-tag e f =
             let m = major-is tags e in
-            known (rw m (a-tag (length s) d g.head.size g.head.argument g.rest (rw m at low) p (f ∙ got-both g (λ n r. told_of (length s) (tag_of n (d - 1) (length s) r)))))
+            known (rw m (a-tag (length s) d g.head.size g.head.argument g.rest (rw m at low) p (f ∙ got_both g (λ n r. told_of (length s) (tag_of n (d - 1) (length s) r)))))
 
         module _ (q : h.major ≡ 6 → ⊥) where
           several-at : (z : Size) → t ≡ told_of (length s) (all_of h.major d (extent z h.argument) (drop h.end s)) → Behind d (length s) g.head.major z g.head.argument g.rest t
           several-at z e =
-              several-in (length s) d g.head.major z g.head.argument g.rest p (omega (arith, g.major)) (λ x. q (g.major ∙ x)) (λ x. o (g.major ∙ x))
-              (e ∙ got-both g (λ n r. told_of (length s) (all_of h.major d (extent z n) r)) ∙ ap (λ (m : ℕ). told_of (length s) (all_of m d (extent z g.head.argument) g.rest)) g.major)
+              several_in (length s) d g.head.major z g.head.argument g.rest p (omega (arith, g.major)) (λ x. q (g.major ∙ x)) (λ x. o (g.major ∙ x))
+              (e ∙ got_both g (λ n r. told_of (length s) (all_of h.major d (extent z n) r)) ∙ ap (λ (m : ℕ). told_of (length s) (all_of m d (extent z g.head.argument) g.rest)) g.major)
 
           pub inside : t ≡ told_of (length s) (all_of h.major (suc (d - 1)) (until_by (mode_by h.info) h.argument) (drop h.end s)) → t ≡ pass_of (length s) (item d s)
           inside e =
               let k : suc (d - 1) ≡ d = omega arith in
-              known (several-at g.head.size (e ∙ (λ z. told_of (length s) (all_of h.major (k z) (until-is z) (drop h.end s)))))
+              known (several-at g.head.size (e ∙ (λ z. told_of (length s) (all_of h.major (k z) (until_is z) (drop h.end s)))))
 
           pub behind-map : (h.major ≡ 4 → ⊥) → {mode : ℕ} → mode ≡ mode_by h.info → t ≡ told_of (length s) (all_of 5 (suc (d - 1)) (until_by mode h.argument) (drop h.end s)) → t ≡ pass_of (length s) (item d s)
           behind-map r m e =
@@ -424,7 +424,7 @@ module _ {s : List ℕ} {h : HeadAt} (hd : Headed s h) (d : ℕ) (inner part : P
   pub behind-chunks : 1 < h.major → h.major ≤ 3 → h.info ≡ 31
       → pass_told inner ≡ told_of (length (take (length s - h.end) (drop h.end s))) (all_of h.major (suc d) (until_by 1 0) (take (length s - h.end) (drop h.end s))) → pass_told part ≡ pass_of (length s) (item d s)
   unfolding until_by
-  behind-chunks l u o told = chunks-in hd d l u (suc d) o (all_told h.major (suc d) broken inner part (head-room hd) long told after)
+  behind-chunks l u o told = chunks_in hd d l u (suc d) o (all_told h.major (suc d) broken inner part (head-room hd) long told after)
 
   pub behind-array : (d ≡ 0 → ⊥) → h.major ≡ 4 → {mode : ℕ} → mode ≡ mode_by h.info
       → pass_told inner ≡ told_of (length (take (length s - h.end) (drop h.end s))) (all_of 4 (suc (d - 1)) (until_by mode h.argument) (take (length s - h.end) (drop h.end s))) → pass_told part ≡ pass_of (length s) (item d s)
@@ -433,20 +433,20 @@ module _ {s : List ℕ} {h : HeadAt} (hd : Headed s h) (d : ℕ) (inner part : P
       (all_told 4 (suc (d - 1)) (until_by mode h.argument) inner part (head-room hd) long told after
       ∙ (λ z. told_of (length s) (all_of (sym r z) (suc (d - 1)) (until_by (m z) h.argument) (drop h.end s))))
 
-pub ruleset behind-ways = (behind-string, behind-chunks, behind-deep, behind-tag, behind-array, behind-map)
+pub ruleset behind_ways = (behind-string, behind-chunks, behind_deep, behind-tag, behind-array, behind-map)
 
 -- the entries of a map
 module _ (d : ℕ) {s : List ℕ} {from : ℕ} (w : Within s from) (inner : Passed) (long : length s * 1 < 2 ^ 63) (part : Passed) (after : pass_told part ≡ after_told from 0 (pass_told inner)) (mode count : ℕ) where
-  pub map-twice : mode ≡ 0 → pass_told inner ≡ told_of (length (take (length s - from) (drop from s))) (all_of 4 (suc d) (until_by 0 (count * 2)) (take (length s - from) (drop from s)))
+  pub map_twice : mode ≡ 0 → pass_told inner ≡ told_of (length (take (length s - from) (drop from s))) (all_of 4 (suc d) (until_by 0 (count * 2)) (take (length s - from) (drop from s)))
       → pass_told part ≡ told_of (length s) (all_of 5 (suc d) (until_by mode count) (drop from s))
   unfolding until_by
-  map-twice e told = rw e (all_told 4 (suc d) (counted (count * 2)) inner part w long told after ∙ ap (told_of (length s)) (all-double (suc d) count (drop from s)))
+  map_twice e told = rw e (all_told 4 (suc d) (counted (count * 2)) inner part w long told after ∙ ap (told_of (length s)) (all_double (suc d) count (drop from s)))
 
   pub map-several : pass_told inner ≡ told_of (length (take (length s - from) (drop from s))) (all_of 5 (suc d) (until_by mode count) (take (length s - from) (drop from s)))
       → pass_told part ≡ told_of (length s) (all_of 5 (suc d) (until_by mode count) (drop from s))
   map-several told = all_told 5 (suc d) (until_by mode count) inner part w long told after
 
-pub ruleset map-ways = (map-twice, map-several)
+pub ruleset map_ways = (map_twice, map-several)
 
 -- AN ITEM BY WHERE ITS HEAD ENDS
 
@@ -454,18 +454,18 @@ pub no-head : {s : List ℕ} {at r : ℕ} → HeadEnd s at r → r ≡ 0 → Hea
 no-head h e = rw e at h
 
 module _ {s : List ℕ} (he : HeadEnd s 0 0) (a : HeadRead) (told : head_told a ≡ head_at s 0) where
-  pub headless-refused : {e : Refusal} → a ≡ HeadRefusedV e → Headless s (RefusedV e)
+  pub headless_refused : {e : Refusal} → a ≡ HeadRefusedV e → Headless s (RefusedV e)
   unfolding pass_of
-  headless-refused i = record { is = λ d. rw (item-eq d s) (head-lost s contents _ a told i) }
+  headless_refused i = record { is = λ d. rw (item_eq d s) (head-lost s contents _ a told i) }
 
-  pub headless-not : {h : HeadAt} {r : Passed} → a ≡ HeadV h → Headless s r
+  pub headless_not : {h : HeadAt} {r : Passed} → a ≡ HeadV h → Headless s r
   unfolding head_told
-  headless-not {h} i = absurd (he.lost refl h.major h.info h.argument h.end (rw i at told))
+  headless_not {h} i = absurd (he.lost refl h.major h.info h.argument h.end (rw i at told))
 
-pub ruleset headless-ways = (headless-refused, headless-not)
+pub ruleset headless_ways = (headless_refused, headless_not)
 
-pub one-headless : (d : ℕ) {s : List ℕ} {r : Passed} → Headless s r → pass_told r ≡ told_of (length s) (one_of 4 (suc d) s)
-one-headless d {s} h = one-item (length s) d s (h.is d)
+pub one_headless : (d : ℕ) {s : List ℕ} {r : Passed} → Headless s r → pass_told r ≡ told_of (length s) (one_of 4 (suc d) s)
+one_headless d {s} h = one-item (length s) d s (h.is d)
 
 module _ {s : List ℕ} {end : ℕ} (he : HeadEnd s 0 end) (nz : end ≡ 0 → ⊥) where
   pub one-room : HeadRoom s 0
@@ -474,30 +474,30 @@ module _ {s : List ℕ} {end : ℕ} (he : HeadEnd s 0 end) (nz : end ≡ 0 → �
   pub one_inside : 0 < length s
   one_inside = omega (arith, (he.room nz).inside)
 
-  pub one-headed : {n : ℕ} → n ≡ argument_at s 0 → Headed s (record { major = get_or s 0 0 / 32; info = get_or s 0 0 % 32; argument = n; end = end })
+  pub one_headed : {n : ℕ} → n ≡ argument_at s 0 → Headed s (record { major = get_or s 0 0 / 32; info = get_or s 0 0 % 32; argument = n; end = end })
   unfolding head_told
-  one-headed e = record { is = ap (λ (n : ℕ). head_found (get_or s 0 0 / 32) (get_or s 0 0 % 32) n end) e ∙ he.found nz }
+  one_headed e = record { is = ap (λ (n : ℕ). head_found (get_or s 0 0 / 32) (get_or s 0 0 % 32) n end) e ∙ he.found nz }
 
   module _ (d : ℕ) {t : PassTold} where
     pub one-leaf : get_or s 0 0 / 32 ≤ 1 → t ≡ passed end 0 → t ≡ told_of (length s) (one_of 4 (suc d) s)
-    one-leaf l e = one-item (length s) d s (behind-leaf (one-headed refl) d l e)
+    one-leaf l e = one-item (length s) d s (behind-leaf (one_headed refl) d l e)
 
     pub one-break : get_or s 0 0 / 32 ≡ 7 → get_or s 0 0 ≡ 255 → t ≡ pass_refused (kind_number NotWellFormed) 0 → t ≡ told_of (length s) (one_of 4 (suc d) s)
-    one-break m b e = one-item (length s) d s (behind-break (one-headed refl) d m (ap (λ (k : ℕ). k % 32) b) e)
+    one-break m b e = one-item (length s) d s (behind-break (one_headed refl) d m (ap (λ (k : ℕ). k % 32) b) e)
 
     pub one-simple : get_or s 0 0 / 32 ≡ 7 → (get_or s 0 0 ≡ 255 → ⊥) → t ≡ passed end 0 → t ≡ told_of (length s) (one_of 4 (suc d) s)
-    one-simple m b e = one-item (length s) d s (behind-simple (one-headed refl) d m (omega arith) e)
+    one-simple m b e = one-item (length s) d s (behind-simple (one_headed refl) d m (omega arith) e)
 
-pub ruleset one-ways = (one-headless, one-leaf, one-break, one-simple, one-item)
+pub ruleset one_ways = (one_headless, one-leaf, one-break, one-simple, one-item)
 
 -- THE WHOLE
 
-pub all-long : (s : List ℕ) {t : PassTold} → 65535 < length s → t ≡ pass_refused (kind_number TooLong) 0 → t ≡ walk_all_of (length s) (decode s)
+pub all_long : (s : List ℕ) {t : PassTold} → 65535 < length s → t ≡ pass_refused (kind_number TooLong) 0 → t ≡ walk_all_of (length s) (decode s)
 unfolding walk_all_of decode map_result told_of kind_number
-all-long s h e = e ∙ rw (lt-leb (length s) 65535 h, decode) (at_front too_long (length s))
+all_long s h e = e ∙ rw (lt-leb (length s) 65535 h, decode) (at_front too_long (length s))
 
 pub all_short : (s : List ℕ) {t : PassTold} → length s ≤ 65535 → t ≡ told_of (length s) (all_of 4 (suc 16) (until_by 2 0) s) → t ≡ walk_all_of (length s) (decode s)
 unfolding walk_all_of decode until_by below
 all_short s h e = e ∙ ap (told_of (length s)) (all-items 17 ended s) ∙ sym (rw (le-leb (length s) 65535 h, decode))
 
-pub ruleset all_ways = (all-long, all_short)
+pub ruleset all_ways = (all_long, all_short)

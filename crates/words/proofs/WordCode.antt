@@ -34,41 +34,41 @@ use Rattle.words.specs.declared.WordMeaning.{WordMeaning}
 use Rattle.words.specs.declared.WordMeaning.TheVariants.{Value, SimpleOf, Refused as WordRefused}
 use Rattle.words.specs.declared.Prefix.TheVariants.{Form, Refused as PrefixRefused}
 use Rattle.notation_theorems.proofs.ScanningElements.{class-digit}
-use Rattle.scanning.proofs.Marked.{front, length_marked, at_byte, at-end, past_end, span_none, span-split, span-length}
-use Rattle.scanning.proofs.ScanCode.{eqb-sym, peeked-yes, whether-yes, whether-no, expect-yes, expect-no}
-use Rattle.numbers.proofs.NumberCode.{says-as, says-refuse, says-made}
+use Rattle.scanning.proofs.Marked.{front, length_marked, at_byte, at-end, past_end, span_none, span_split, span-length}
+use Rattle.scanning.proofs.ScanCode.{eqb_sym, peeked_yes, whether-yes, whether-no, expect-yes, expect-no}
+use Rattle.numbers.proofs.NumberCode.{says_as, says_refuse, says_made}
 
 -- A WORD AT A PLACE: the state of the loop
 pub record Matching (s : List ℕ) (at : ℕ) (u : List ℕ) (i : ℕ) : Type 0 where
   pub same : starts_with u (drop at (marked s)) ≡ starts_with (drop i u) (drop (at + i) (marked s))
   pub inside : i ≤ length u
 
-starts-not : (a : ℕ) (u r : List ℕ) → is_next a r ≡ false → starts_with (a ∷ u) r ≡ false
+starts_not : (a : ℕ) (u r : List ℕ) → is_next a r ≡ false → starts_with (a ∷ u) r ≡ false
 unfolding starts_with is_next
-starts-not a u [] h = refl
-starts-not a u (b ∷ r) h = rw (eqb-sym a b, h)
+starts_not a u [] h = refl
+starts_not a u (b ∷ r) h = rw (eqb_sym a b, h)
 
 module _ (s : List ℕ) (at : ℕ) (u : List ℕ) where
-  pub match-start : Matching s at u 0
-  match-start = let e : at + 0 ≡ at = omega arith in record { same = rw e; inside = omega arith }
+  pub match_start : Matching s at u 0
+  match_start = let e : at + 0 ≡ at = omega arith in record { same = rw e; inside = omega arith }
 
   module _ {i : ℕ} (m : Matching s at u i) where
-    pub match-step : {t : Bool} → i < length u → Peeked s (at + i) (get_or u i 0) t → not t ≡ false → Matching s at u (i + 1)
+    pub match_step : {t : Bool} → i < length u → Peeked s (at + i) (get_or u i 0) t → not t ≡ false → Matching s at u (i + 1)
     unfolding starts_with
-    match-step {t} h p n =
+    match_step {t} h p n =
         let e : at + i + 1 ≡ at + (i + 1) = omega arith in
         let a = get_or u i 0 in
         record {
-          same = m.same ∙ (rw (front u i h, peeked-yes p (not-false t n)) (rw (eq-eqb a a refl) (rw e)));
+          same = m.same ∙ (rw (front u i h, peeked_yes p (not-false t n)) (rw (eq-eqb a a refl) (rw e)));
           inside = omega arith;
         }
 
-    pub match-stop : {t : Bool} → i < length u → Peeked s (at + i) (get_or u i 0) t → not t ≡ true → false ≡ starts_with u (drop at (marked s))
-    match-stop {t} h p n = sym (m.same ∙ (rw (front u i h) (starts-not (get_or u i 0) (drop (i + 1) u) (drop (at + i) (marked s)) (sym p.is ∙ not-true t n))))
+    pub match_stop : {t : Bool} → i < length u → Peeked s (at + i) (get_or u i 0) t → not t ≡ true → false ≡ starts_with u (drop at (marked s))
+    match_stop {t} h p n = sym (m.same ∙ (rw (front u i h) (starts_not (get_or u i 0) (drop (i + 1) u) (drop (at + i) (marked s)) (sym p.is ∙ not-true t n))))
 
-    pub match-end : length u ≤ i → true ≡ starts_with u (drop at (marked s))
+    pub match_end : length u ≤ i → true ≡ starts_with u (drop at (marked s))
     unfolding starts_with
-    match-end h = sym (m.same ∙ rw (drop_of_length-le u h))
+    match_end h = sym (m.same ∙ rw (drop_of_length-le u h))
 
 -- SAME WORDS
 same_length : (a b : List ℕ) → (length a ≡ length b → ⊥) → false ≡ same a b
@@ -87,7 +87,7 @@ unfolding same starts_with
 same-starts [] [] r e = refl
 same-starts [] (y ∷ b) r e = absurd (omega arith)
 same-starts (x ∷ a) [] r e = absurd (omega arith)
-same-starts (x ∷ a) (y ∷ b) r e = let h = same-starts a b r (omega arith) in rw (h, eqb-sym y x)
+same-starts (x ∷ a) (y ∷ b) r e = let h = same-starts a b r (omega arith) in rw (h, eqb_sym y x)
 
 module _ {s : List ℕ} {from end : ℕ} (u : List ℕ) (p : WordPart s from end) where
   pub part-inside : from ≤ length s
@@ -98,46 +98,46 @@ module _ {s : List ℕ} {from end : ℕ} (u : List ℕ) (p : WordPart s from end
 
   pub same_word : (t : Bool) → end - from ≡ length u → t ≡ starts_with u (drop from (marked s)) → t ≡ same (span from end (marked s)) u
   same_word t e h =
-      h ∙ (ap (starts_with u) (span-split from end (marked s) p.ahead) ∙ same-starts (span from end (marked s)) u (drop end (marked s)) (size ∙ e))
+      h ∙ (ap (starts_with u) (span_split from end (marked s) p.ahead) ∙ same-starts (span from end (marked s)) u (drop end (marked s)) (size ∙ e))
 
   pub other-size : (end - from ≡ length u → ⊥) → false ≡ same (span from end (marked s)) u
   other-size n = same_length (span from end (marked s)) u (λ e. n (sym size ∙ e))
 
 -- WHAT WORDS STAND FOR
 module _ (w : List ℕ) (a : Bool) (e₁ : a ≡ same w nan_word) where
-  pub other-nan : a ≡ true → 6 ≡ other_word w
+  pub other_nan : a ≡ true → 6 ≡ other_word w
   unfolding other_word is_float_word
-  other-nan h = rw (sym e₁ ∙ h, other_word)
+  other_nan h = rw (sym e₁ ∙ h, other_word)
 
-  pub other-infinity : (b : Bool) → a ≡ false → b ≡ same w infinity_word → b ≡ true → 6 ≡ other_word w
+  pub other_infinity : (b : Bool) → a ≡ false → b ≡ same w infinity_word → b ≡ true → 6 ≡ other_word w
   unfolding other_word is_float_word
-  other-infinity b h e₂ g = rw (sym e₁ ∙ h, sym e₂ ∙ g, other_word)
+  other_infinity b h e₂ g = rw (sym e₁ ∙ h, sym e₂ ∙ g, other_word)
 
-  pub other-unknown : (b : Bool) → a ≡ false → b ≡ same w infinity_word → b ≡ false → 4 ≡ other_word w
+  pub other_unknown : (b : Bool) → a ≡ false → b ≡ same w infinity_word → b ≡ false → 4 ≡ other_word w
   unfolding other_word is_float_word
-  other-unknown b h e₂ g = rw (sym e₁ ∙ h, sym e₂ ∙ g, other_word)
+  other_unknown b h e₂ g = rw (sym e₁ ∙ h, sym e₂ ∙ g, other_word)
 
-pub ruleset other-ways = (other-nan, other-infinity, other-unknown)
+pub ruleset other_ways = (other_nan, other_infinity, other_unknown)
 
 module _ (w : List ℕ) (a : Bool) (e₁ : a ≡ same w false_word) where
-  pub value-false : a ≡ true → Value 20 ≡ value_word w
+  pub value_false : a ≡ true → Value 20 ≡ value_word w
   unfolding value_word
-  value-false h = rw (sym e₁ ∙ h, value_word)
+  value_false h = rw (sym e₁ ∙ h, value_word)
 
   module _ (h₁ : a ≡ false) (b : Bool) (e₂ : b ≡ same w true_word) where
-    pub value-true : b ≡ true → Value 21 ≡ value_word w
+    pub value_true : b ≡ true → Value 21 ≡ value_word w
     unfolding value_word
-    value-true h = rw (sym e₁ ∙ h₁, value_word) (rw (sym e₂ ∙ h))
+    value_true h = rw (sym e₁ ∙ h₁, value_word) (rw (sym e₂ ∙ h))
 
     module _ (h₂ : b ≡ false) (c : Bool) (e₃ : c ≡ same w null_word) where
-      pub value-null : c ≡ true → Value 22 ≡ value_word w
+      pub value_null : c ≡ true → Value 22 ≡ value_word w
       unfolding value_word
-      value-null h = rw (sym e₁ ∙ h₁, value_word) (rw (sym e₂ ∙ h₂) (rw (sym e₃ ∙ h)))
+      value_null h = rw (sym e₁ ∙ h₁, value_word) (rw (sym e₂ ∙ h₂) (rw (sym e₃ ∙ h)))
 
       module _ (h₃ : c ≡ false) (d : Bool) (e₄ : d ≡ same w undefined_word) where
-        pub value-undefined : d ≡ true → Value 23 ≡ value_word w
+        pub value_undefined : d ≡ true → Value 23 ≡ value_word w
         unfolding value_word
-        value-undefined h = rw (sym e₁ ∙ h₁, value_word) (rw (sym e₂ ∙ h₂) (rw (sym e₃ ∙ h₃) (rw (sym e₄ ∙ h))))
+        value_undefined h = rw (sym e₁ ∙ h₁, value_word) (rw (sym e₂ ∙ h₂) (rw (sym e₃ ∙ h₃) (rw (sym e₄ ∙ h))))
 
         module _ (h₄ : d ≡ false) (f : Bool) (e₅ : f ≡ same w simple_word) where
           pub value-simple : f ≡ true → SimpleOf ≡ value_word w
@@ -148,23 +148,23 @@ module _ (w : List ℕ) (a : Bool) (e₁ : a ≡ same w false_word) where
           unfolding value_word
           value-other k h g = rw (sym e₁ ∙ h₁, value_word) (rw (sym e₂ ∙ h₂) (rw (sym e₃ ∙ h₃) (rw (sym e₄ ∙ h₄) (rw (sym e₅ ∙ h) (ap WordRefused g)))))
 
-pub ruleset value-ways = (value-false, value-true, value-null, value-undefined, value-simple, value-other)
+pub ruleset value_ways = (value_false, value_true, value_null, value_undefined, value-simple, value-other)
 
 module _ (w : List ℕ) (a : Bool) (e₁ : a ≡ same w hex_prefix) where
-  pub prefix-hex : a ≡ true → Form 2 ≡ prefix_word w
+  pub prefix_hex : a ≡ true → Form 2 ≡ prefix_word w
   unfolding prefix_word
-  prefix-hex h = rw (sym e₁ ∙ h, prefix_word)
+  prefix_hex h = rw (sym e₁ ∙ h, prefix_word)
 
   module _ (h₁ : a ≡ false) (b : Bool) (e₂ : b ≡ same w base64_prefix) where
-    pub prefix-base64 : b ≡ true → Form 3 ≡ prefix_word w
+    pub prefix_base64 : b ≡ true → Form 3 ≡ prefix_word w
     unfolding prefix_word
-    prefix-base64 h = rw (sym e₁ ∙ h₁, prefix_word) (rw (sym e₂ ∙ h))
+    prefix_base64 h = rw (sym e₁ ∙ h₁, prefix_word) (rw (sym e₂ ∙ h))
 
-    pub prefix-other : (k : ℕ) → b ≡ false → k ≡ other_word w → PrefixRefused k ≡ prefix_word w
+    pub prefix_other : (k : ℕ) → b ≡ false → k ≡ other_word w → PrefixRefused k ≡ prefix_word w
     unfolding prefix_word
-    prefix-other k h g = rw (sym e₁ ∙ h₁, prefix_word) (rw (sym e₂ ∙ h) (ap PrefixRefused g))
+    prefix_other k h g = rw (sym e₁ ∙ h₁, prefix_word) (rw (sym e₂ ∙ h) (ap PrefixRefused g))
 
-pub ruleset prefix-ways = (prefix-hex, prefix-base64, prefix-other)
+pub ruleset prefix_ways = (prefix_hex, prefix_base64, prefix_other)
 
 -- SIMPLE VALUES
 several : (b : ℕ) (l : List ℕ) → 0 < length l → leb 0x31 b ≡ is_plain_decimal (b ∷ l)
@@ -173,32 +173,32 @@ several b [] h = absurd (omega arith)
 several b (c ∷ l) h = refl
 
 module _ {s : List ℕ} {from end : ℕ} (p : WordPart s from end) where
-  pub plain-none : end - from ≡ 0 → false ≡ is_plain_decimal (span from end (marked s))
+  pub plain_none : end - from ≡ 0 → false ≡ is_plain_decimal (span from end (marked s))
   unfolding is_plain_decimal
-  plain-none e = let f : end ≡ from = omega (arith, p.ahead) in rw (f, span_none from (marked s))
+  plain_none e = let f : end ≡ from = omega (arith, p.ahead) in rw (f, span_none from (marked s))
 
-  pub plain-index : (end - from ≡ 0 → ⊥) → from < length s
-  plain-index n = omega (arith, n, p.inside)
+  pub plain_index : (end - from ≡ 0 → ⊥) → from < length s
+  plain_index n = omega (arith, n, p.inside)
 
-  pub part-cons : (end - from ≡ 0 → ⊥) → span from end (marked s) ≡ get_or s from 0 ∷ span (from + 1) end (marked s)
+  pub part_cons : (end - from ≡ 0 → ⊥) → span from end (marked s) ≡ get_or s from 0 ∷ span (from + 1) end (marked s)
   unfolding span
-  part-cons n =
+  part_cons n =
       let e : end - from ≡ suc (end - (from + 1)) = omega (arith, n) in
-      rw (e, at_byte s from (plain-index n))
+      rw (e, at_byte s from (plain_index n))
 
-  pub plain-one : end - from ≡ 1 → true ≡ is_plain_decimal (span from end (marked s))
+  pub plain_one : end - from ≡ 1 → true ≡ is_plain_decimal (span from end (marked s))
   unfolding is_plain_decimal
-  plain-one e =
+  plain_one e =
       let n : end - from ≡ 0 → ⊥ = λ z. omega arith in
       let f : end ≡ from + 1 = omega arith in
-      rw (part-cons n, f, span_none (from + 1) (marked s))
+      rw (part_cons n, f, span_none (from + 1) (marked s))
 
   pub plain_more : (end - from ≡ 0 → ⊥) → (end - from ≡ 1 → ⊥) → leb 0x31 (get_or s from 0) ≡ is_plain_decimal (span from end (marked s))
   plain_more n m =
       let l : length (span (from + 1) end (marked s)) ≡ end - (from + 1) = span-length (from + 1) end (marked s) (omega (arith, n)) (omega (arith, p.inside, length_marked s)) in
-      rw (part-cons n) (several (get_or s from 0) (span (from + 1) end (marked s)) (omega (arith, l, n, m)))
+      rw (part_cons n) (several (get_or s from 0) (span (from + 1) end (marked s)) (omega (arith, l, n, m)))
 
-pub ruleset plain-ways = (plain-none, plain-one, plain_more)
+pub ruleset plain_ways = (plain_none, plain_one, plain_more)
 
 module _ (a : Amount) where
   pub simple-over : a.over ≡ true → Simples a false
@@ -207,23 +207,23 @@ module _ (a : Amount) where
       record { is = λ n c. let i = rw e at c.is in let h : 255 < n = omega arith in simp (lt-leb n 23 (omega arith), lt-leb n 255 h, le-leb 32 n (omega arith)) }
 
   module _ (e : a.over ≡ false) where
-    amount-is : (n : ℕ) → Counts a n → n ≡ a.value
+    amount_is : (n : ℕ) → Counts a n → n ≡ a.value
     unfolding heavy
-    amount-is n c = let i = rw e at c.is in omega (arith, c.small)
+    amount_is n c = let i = rw e at c.is in omega (arith, c.small)
 
     pub simple-low : a.value ≤ 23 → Simples a true
     unfolding is_simple
-    simple-low h = record { is = λ n c. rw (amount-is n c, le-leb a.value 23 h) }
+    simple-low h = record { is = λ n c. rw (amount_is n c, le-leb a.value 23 h) }
 
-    pub simple-gap : 23 < a.value → a.value < 32 → Simples a false
+    pub simple_gap : 23 < a.value → a.value < 32 → Simples a false
     unfolding is_simple
-    simple-gap h g = record { is = λ n c. rw (amount-is n c, lt-leb a.value 23 h, lt-leb 32 a.value g) }
+    simple_gap h g = record { is = λ n c. rw (amount_is n c, lt-leb a.value 23 h, lt-leb 32 a.value g) }
 
     pub simple-high : 23 < a.value → 32 ≤ a.value → Simples a (leb a.value 255)
     unfolding is_simple
-    simple-high h g = record { is = λ n c. rw (amount-is n c, lt-leb a.value 23 h, le-leb 32 a.value g) }
+    simple-high h g = record { is = λ n c. rw (amount_is n c, lt-leb a.value 23 h, le-leb 32 a.value g) }
 
-pub ruleset simple-tests = (simple-over, simple-low, simple-gap, simple-high)
+pub ruleset simple_tests = (simple-over, simple-low, simple_gap, simple-high)
 
 simple-value : (a : Amount) (n : ℕ) → Counts a n → is_simple n ≡ true → a.value ≡ n
 unfolding heavy
@@ -231,20 +231,20 @@ simple-value a n c e = go a.over refl
   where
     go : (t : Bool) → a.over ≡ t → a.value ≡ n
     go true f = absurd (clash (sym e ∙ sym ((simple-over a f).is n c)))
-    go false f = sym (amount-is a f n c)
+    go false f = sym (amount_is a f n c)
 
 pub enclosed-part : {s : List ℕ} {from end : ℕ} → Enclosed s from end → WordPart s from end
 enclosed-part p = record { ahead = p.ahead; inside = omega (arith, p.inside) }
 
 module _ {s : List ℕ} {place from end : ℕ} {a : Amount} {t : Cut} (q : Enclosed s from end) (u : Bool) (f : u ≡ is_plain_decimal (span from end (marked s))) where
-  pub simple-shape : u ≡ false → Refused 4 place t → SimpleIn s place from end a t
+  pub simple_shape : u ≡ false → Refused 4 place t → SimpleIn s place from end a t
   unfolding simple_by
-  simple-shape h r = record { is = λ c. says-as (rw (sym f ∙ h, simple_by)) (says-refuse 0 r) }
+  simple_shape h r = record { is = λ c. says_as (rw (sym f ∙ h, simple_by)) (says_refuse 0 r) }
 
   module _ (h : u ≡ true) (v : Bool) (g : Simples a v) where
     pub simple-bad : v ≡ false → Refused 8 place t → SimpleIn s place from end a t
     unfolding simple_by
-    simple-bad k r = record { is = λ c. says-as (rw (sym f ∙ h, simple_by) (rw (sym (g.is _ c) ∙ k))) (says-refuse 0 r) }
+    simple-bad k r = record { is = λ c. says_as (rw (sym f ∙ h, simple_by) (rw (sym (g.is _ c) ∙ k))) (says_refuse 0 r) }
 
     pub simple-good : v ≡ true → TokenMade 3 0 a.value place (end + 1) t → SimpleIn s place from end a t
     unfolding simple_by code_of begin_code item_code mark_of begin_mark item_mark number_of begin_number item_number Written BeginsAs
@@ -254,10 +254,10 @@ module _ {s : List ℕ} {place from end : ℕ} {a : Amount} {t : Cut} (q : Enclo
               λ c.
               let n = number_from 10 0 (span from end (marked s)) in
               let e : is_simple n ≡ true = sym (g.is n c) ∙ k in
-              says-as (rw (sym f ∙ h, simple_by) (rw e)) (says-made m (begins (leaf (simple n))) refl refl (simple-value a n c e) tt q.inside);
+              says_as (rw (sym f ∙ h, simple_by) (rw e)) (says_made m (begins (leaf (simple n))) refl refl (simple-value a n c e) tt q.inside);
         }
 
-pub ruleset simple-ins = (simple-shape, simple-bad, simple-good)
+pub ruleset simple_ins = (simple_shape, simple-bad, simple-good)
 
 pub simple-scans : {s : List ℕ} {at : ℕ} {t : Bool} → Peeked s at 0x28 t → t ≡ true → ScansDigits s (at + 1) 10 0
 simple-scans p e = record { inside = p.inside e; least = omega arith; most = omega arith; start = omega arith }
@@ -266,20 +266,20 @@ pub simple-enclosed : {s : List ℕ} {from : ℕ} {d : Digits} {t : Bool} → Co
 simple-enclosed c p e = record { ahead = c.ran.ahead; inside = p.inside e }
 
 module _ {s : List ℕ} {at place : ℕ} {t : Cut} {u : Bool} (p : Peeked s at 0x28 u) where
-  pub simple-bare : u ≡ false → Refused 4 place t → Says s place t (simple_token (drop at (marked s)))
+  pub simple_bare : u ≡ false → Refused 4 place t → Says s place t (simple_token (drop at (marked s)))
   unfolding simple_token bind
-  simple-bare e r = says-as (rw (whether-no p e)) (says-refuse 0 r)
+  simple_bare e r = says_as (rw (whether-no p e)) (says_refuse 0 r)
 
   module _ (e : u ≡ true) {d : Digits} (c : Counted s (at + 1) 10 0 d) {v : Bool} (q : Peeked s d.next 0x29 v) where
-    pub simple-open : v ≡ false → Refused 4 place t → Says s place t (simple_token (drop at (marked s)))
+    pub simple_open : v ≡ false → Refused 4 place t → Says s place t (simple_token (drop at (marked s)))
     unfolding simple_token bind
-    simple-open f r = says-as (rw (whether-yes p e) (rw c.ran.is (rw (expect-no q unknown_word f)))) (says-refuse 0 r)
+    simple_open f r = says_as (rw (whether-yes p e) (rw c.ran.is (rw (expect-no q unknown_word f)))) (says_refuse 0 r)
 
     pub simple-whole : v ≡ true → SimpleIn s place (at + 1) d.next d.amount t → Says s place t (simple_token (drop at (marked s)))
     unfolding simple_token bind
-    simple-whole f h = says-as (rw (whether-yes p e) (rw c.ran.is (rw (expect-yes q unknown_word f)))) (h.is c.counts)
+    simple-whole f h = says_as (rw (whether-yes p e) (rw c.ran.is (rw (expect-yes q unknown_word f)))) (h.is c.counts)
 
-pub ruleset simple-tokens = (simple-bare, simple-open, simple-whole)
+pub ruleset simple_tokens = (simple_bare, simple_open, simple-whole)
 
 -- A WORD WITH NO QUOTE
 abbrev worded_by : WordMeaning → List ℕ → Result Token
@@ -312,65 +312,65 @@ worded-is w r = go (same w false_word) (same w true_word) (same w null_word) (sa
     go false false false false false true = refl
     go false false false false false false = refl
 
-by-meaning : (w r : List ℕ) {m n : WordMeaning} → m ≡ value_word w → m ≡ n → worded w r ≡ worded_by n r
-by-meaning w r e f = worded-is w r ∙ ap (λ (k : WordMeaning). worded_by k r) (sym e ∙ f)
+by_meaning : (w r : List ℕ) {m n : WordMeaning} → m ≡ value_word w → m ≡ n → worded w r ≡ worded_by n r
+by_meaning w r e f = worded-is w r ∙ ap (λ (k : WordMeaning). worded_by k r) (sym e ∙ f)
 
 module _ {s : List ℕ} {place end : ℕ} {t : Cut} (p : WordPart s place end) {m : WordMeaning} (e : m ≡ value_word (span place end (marked s))) where
   pub worded-value : (v : ℕ) → m ≡ Value v → TokenMade 3 0 v place end t → Says s place t (worded (span place end (marked s)) (drop end (marked s)))
   unfolding value code_of begin_code item_code mark_of begin_mark item_mark number_of begin_number item_number Written BeginsAs
-  worded-value v f h = says-as (by-meaning (span place end (marked s)) (drop end (marked s)) e f) (says-made h (begins (leaf (simple v))) refl refl refl tt p.inside)
+  worded-value v f h = says_as (by_meaning (span place end (marked s)) (drop end (marked s)) e f) (says_made h (begins (leaf (simple v))) refl refl refl tt p.inside)
 
   pub worded-simple : m ≡ SimpleOf → Says s place t (simple_token (drop end (marked s))) → Says s place t (worded (span place end (marked s)) (drop end (marked s)))
-  worded-simple f h = says-as (by-meaning (span place end (marked s)) (drop end (marked s)) e f) h
+  worded-simple f h = says_as (by_meaning (span place end (marked s)) (drop end (marked s)) e f) h
 
   pub worded-refused : (k : ℕ) → m ≡ WordRefused k → Refused k place t → Says s place t (worded (span place end (marked s)) (drop end (marked s)))
-  worded-refused k f r = says-as (by-meaning (span place end (marked s)) (drop end (marked s)) e f) (says-refuse 0 r)
+  worded-refused k f r = says_as (by_meaning (span place end (marked s)) (drop end (marked s)) e f) (says_refuse 0 r)
 
-pub ruleset worded-ways = (worded-value, worded-simple, worded-refused)
+pub ruleset worded_ways = (worded-value, worded-simple, worded-refused)
 
 -- BEHIND `-`
-pub stood-byte : {s : List ℕ} {at k : ℕ} → at < length s → Classed (get_or s at 0) k → Stood s at k
+pub stood_byte : {s : List ℕ} {at k : ℕ} → at < length s → Classed (get_or s at 0) k → Stood s at k
 unfolding front_class
-stood-byte {s} {at} h c = record { is = rw (at_byte s at h) c.is; inside = λ l. h }
+stood_byte {s} {at} h c = record { is = rw (at_byte s at h) c.is; inside = λ l. h }
 
-pub stood-end : {s : List ℕ} {at : ℕ} → at ≡ length s → Stood s at 21
+pub stood_end : {s : List ℕ} {at : ℕ} → at ≡ length s → Stood s at 21
 unfolding front_class class_number class_of class_in class_rows is_in
-stood-end {s} {at} e = record { is = rw (at-end s at e); inside = λ l. absurd (omega arith) }
+stood_end {s} {at} e = record { is = rw (at-end s at e); inside = λ l. absurd (omega arith) }
 
-pub stood-past : {s : List ℕ} {at : ℕ} → length s ≤ at → (at ≡ length s → ⊥) → Stood s at 22
+pub stood_past : {s : List ℕ} {at : ℕ} → length s ≤ at → (at ≡ length s → ⊥) → Stood s at 22
 unfolding front_class
-stood-past {s} {at} l n = record { is = rw (past_end s at (omega (arith, n))); inside = λ h. absurd (omega arith) }
+stood_past {s} {at} l n = record { is = rw (past_end s at (omega (arith, n))); inside = λ h. absurd (omega arith) }
 
-pub ruleset stood-ways = (stood-byte, stood-end, stood-past)
+pub ruleset stood_ways = (stood_byte, stood_end, stood_past)
 
-digit-two : class_number digit ≡ 2
+digit_two : class_number digit ≡ 2
 unfolding class_number
-digit-two = refl
+digit_two = refl
 
-minus-not : (r : List ℕ) → (front_class r ≡ 2 → ⊥) → after_minus r ≡ elim (starts_with infinity_word r) [ true ↦ fault float | false ↦ fault no_token ]
+minus_not : (r : List ℕ) → (front_class r ≡ 2 → ⊥) → after_minus r ≡ elim (starts_with infinity_word r) [ true ↦ fault float | false ↦ fault no_token ]
 unfolding after_minus front_class is starts_with
-minus-not [] n = refl
-minus-not (b ∷ r) n = rw (ne_eqb (class_number digit) (class_number (class_of b)) (λ e. n (sym e ∙ digit-two)), after_minus)
+minus_not [] n = refl
+minus_not (b ∷ r) n = rw (ne_eqb (class_number digit) (class_number (class_of b)) (λ e. n (sym e ∙ digit_two)), after_minus)
 
 is_digit_lem : {s : List ℕ} {at k : ℕ} → Stood s at k → k ≡ 2 → is digit (get_or s at 0) ≡ true
 unfolding is front_class
 is_digit_lem {s} {at} c e =
     let l = c.inside (omega arith) in
-    let d : class_number digit ≡ class_number (class_of (get_or s at 0)) = digit-two ∙ (sym e ∙ (c.is ∙ rw (at_byte s at l))) in
+    let d : class_number digit ≡ class_number (class_of (get_or s at 0)) = digit_two ∙ (sym e ∙ (c.is ∙ rw (at_byte s at l))) in
     eq-eqb _ _ d
 
-pub stood-digit : {s : List ℕ} {at k : ℕ} → Stood s at k → k ≡ 2 → DigitAt s at
-stood-digit {s} {at} c e = record { inside = c.inside (omega arith); digit = class-digit (get_or s at 0) (is_digit_lem c e) }
+pub stood_digit : {s : List ℕ} {at k : ℕ} → Stood s at k → k ≡ 2 → DigitAt s at
+stood_digit {s} {at} c e = record { inside = c.inside (omega arith); digit = class-digit (get_or s at 0) (is_digit_lem c e) }
 
 module _ {s : List ℕ} {at place k : ℕ} {t : Cut} (c : Stood s at k) where
   pub minus_number : k ≡ 2 → Says s place t (number (sign_of true) (get_or s at 0) (drop (at + 1) (marked s))) → Says s place t (after_minus (drop at (marked s)))
   unfolding after_minus sign_of
-  minus_number e h = says-as (rw (at_byte s at (c.inside (omega arith))) (rw (is_digit_lem c e, after_minus))) h
+  minus_number e h = says_as (rw (at_byte s at (c.inside (omega arith))) (rw (is_digit_lem c e, after_minus))) h
 
-  pub minus-infinity : (u : Bool) → (k ≡ 2 → ⊥) → u ≡ starts_with infinity_word (drop at (marked s)) → u ≡ true → Refused 6 place t → Says s place t (after_minus (drop at (marked s)))
-  minus-infinity u n f g r = says-as (minus-not (drop at (marked s)) (λ z. n (c.is ∙ z)) ∙ rw (sym f ∙ g)) (says-refuse 0 r)
+  pub minus_infinity : (u : Bool) → (k ≡ 2 → ⊥) → u ≡ starts_with infinity_word (drop at (marked s)) → u ≡ true → Refused 6 place t → Says s place t (after_minus (drop at (marked s)))
+  minus_infinity u n f g r = says_as (minus_not (drop at (marked s)) (λ z. n (c.is ∙ z)) ∙ rw (sym f ∙ g)) (says_refuse 0 r)
 
-  pub minus-none : (u : Bool) → (k ≡ 2 → ⊥) → u ≡ starts_with infinity_word (drop at (marked s)) → u ≡ false → Refused 3 place t → Says s place t (after_minus (drop at (marked s)))
-  minus-none u n f g r = says-as (minus-not (drop at (marked s)) (λ z. n (c.is ∙ z)) ∙ rw (sym f ∙ g)) (says-refuse 0 r)
+  pub minus_none : (u : Bool) → (k ≡ 2 → ⊥) → u ≡ starts_with infinity_word (drop at (marked s)) → u ≡ false → Refused 3 place t → Says s place t (after_minus (drop at (marked s)))
+  minus_none u n f g r = says_as (minus_not (drop at (marked s)) (λ z. n (c.is ∙ z)) ∙ rw (sym f ∙ g)) (says_refuse 0 r)
 
-pub ruleset minus-ways = (minus_number, minus-infinity, minus-none)
+pub ruleset minus_ways = (minus_number, minus_infinity, minus_none)

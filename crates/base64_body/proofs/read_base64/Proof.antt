@@ -6,7 +6,7 @@ use Prim.Native.Nat.{◌-◌}
 use Rattle.notation.specs.Literals.{base64_content}
 use Rattle.literal_body.specs.LiteralReading.{Progressed}
 use Rattle.literal_body.proofs.ReadingCode.{progress_start}
-use Rattle.base64_body.proofs.LoopCode.{read-end, read-size, read-wrong, read-last-size, read-last, read-sum, read-less, read-on}
+use Rattle.base64_body.proofs.LoopCode.{read-end, read-size, read-wrong, read-last-size, read-last, read-sum, read_less, read-on}
 use borrow.Author.Rules.{rules}
 
 abbrev invariant-loop : tie.invariant-loop
@@ -33,7 +33,7 @@ read-base64-spec =
     (λ c. search read-last)  -- returns-2
     (λ c κs. search rules)  -- put-bytes-requires-2
     (λ c. search read-sum)  -- add-size-3
-    (λ c. search read-less)  -- loop-less
+    (λ c. search read_less)  -- loop-less
     (λ c. search read-on)  -- loop-again
     (λ c. search rules)  -- same-length-3
     (λ c. search read-end)  -- returns-3

@@ -1,19 +1,19 @@
 -- `base64_word::word` meets its contract.
 -- Assumes nothing.
-use Rattle.base64_word.proofs.WordCode.{weighed-start, weighed-high, weighed-sum, weighed-on, weighed-end}
+use Rattle.base64_word.proofs.WordCode.{weighed_start, weighed_high, weighed_sum, weighed_on, weighed_end}
 use Rattle.base64_word.proofs.word.Goals as goal
 
 pub loop-k-init : goal.loop-k-init
-loop-k-init c = search weighed-start
+loop-k-init c = search weighed_start
 
 pub overflow_mul-w : goal.overflow_mul-w
-overflow_mul-w c = search weighed-high
+overflow_mul-w c = search weighed_high
 
 pub overflow_add-w : goal.overflow_add-w
-overflow_add-w c = search weighed-sum
+overflow_add-w c = search weighed_sum
 
 pub loop-k-preserved : goal.loop-k-preserved
-loop-k-preserved c = search weighed-on
+loop-k-preserved c = search weighed_on
 
 pub returns : goal.returns
-returns c = search weighed-end
+returns c = search weighed_end

@@ -3,7 +3,7 @@
 use borrow.Author.Rules.{rules}
 use Rattle.checking.proofs.scan.Statement.{statement}
 use Rattle.checking.proofs.scan.Tie as tie
-use Rattle.checking.proofs.Scans.{scan-room, scan-ways}
+use Rattle.checking.proofs.Scans.{scan_room, scan_ways}
 
 pub scan-spec : {M : Type 1} → statement M
 scan-spec =
@@ -11,12 +11,12 @@ scan-spec =
     (λ c κs. search rules)  -- read-head-requires
     (λ c. search rules)  -- enum-known-read
     (λ c. search rules)  -- enum-known-read-2
-    (λ c. search scan-room)  -- sub-item
-    (λ c. search scan-room)  -- part-item-start
+    (λ c. search scan_room)  -- sub-item
+    (λ c. search scan_room)  -- part-item-start
     (λ c. search rules)  -- part-item-end
     (λ c κs. search rules)  -- item-requires
     (λ c κs. search rules)  -- item-after-requires
     (λ c κs. search rules)  -- scan-by-requires
-    (λ c. search scan-ways)  -- returns
-    (λ c. search scan-ways)  -- returns-2
+    (λ c. search scan_ways)  -- returns
+    (λ c. search scan_ways)  -- returns-2
     )

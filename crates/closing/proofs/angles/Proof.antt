@@ -1,7 +1,7 @@
 -- `closing::angles` meets its contract.
 -- Assumes nothing.
 use borrow.Author.Rules.{rules}
-use Rattle.closing.proofs.Closers.{angles-behind, angles-ways}
+use Rattle.closing.proofs.Closers.{angles_behind, angles_ways}
 use Rattle.closing.proofs.angles.Statement.{statement}
 use Rattle.closing.proofs.angles.Tie as tie
 
@@ -12,10 +12,10 @@ angles-spec =
     (λ c. search rules)  -- add-next-is
     (λ c κs. search rules)  -- next-is-requires-2
     (λ c. search rules)  -- add-indicator-at
-    (λ c κs. search angles-behind)  -- indicator-at-requires
-    (λ c. search angles-ways)  -- returns
+    (λ c κs. search angles_behind)  -- indicator-at-requires
+    (λ c. search angles_ways)  -- returns
     (λ c κs. search rules)  -- none-requires
-    (λ c. search angles-ways)  -- returns-2
+    (λ c. search angles_ways)  -- returns-2
     (λ c κs. search rules)  -- none-requires-2
-    (λ c. search angles-ways)  -- returns-3
+    (λ c. search angles_ways)  -- returns-3
     )

@@ -1,7 +1,7 @@
 -- `closing::by_closer` meets its contract.
 -- Assumes nothing.
 use borrow.Author.Rules.{rules}
-use Rattle.closing.proofs.Closers.{closes-ways}
+use Rattle.closing.proofs.Closers.{closes_ways}
 use Rattle.closing.proofs.by_closer.Statement.{statement}
 use Rattle.closing.proofs.by_closer.Tie as tie
 
@@ -20,10 +20,10 @@ by-closer-spec =
     (λ c κs. search rules)  -- end-requires
     (λ c. search rules)  -- enum-told-6
     (λ c κs. search rules)  -- end-requires-2
-    (λ c. search closes-ways)  -- returns(-\d)?
-    (λ c. search closes-ways)  -- returns(-\d)?
-    (λ c. search closes-ways)  -- returns(-\d)?
-    (λ c. search closes-ways)  -- returns(-\d)?
-    (λ c. search closes-ways)  -- returns(-\d)?
-    (λ c. search closes-ways)  -- returns(-\d)?
+    (λ c. search closes_ways)  -- returns(-\d)?
+    (λ c. search closes_ways)  -- returns(-\d)?
+    (λ c. search closes_ways)  -- returns(-\d)?
+    (λ c. search closes_ways)  -- returns(-\d)?
+    (λ c. search closes_ways)  -- returns(-\d)?
+    (λ c. search closes_ways)  -- returns(-\d)?
     )

@@ -1,7 +1,7 @@
 -- `closing::sign` meets its contract.
 -- Assumes nothing.
 use borrow.Author.Rules.{rules}
-use Rattle.closing.proofs.Closers.{sign-is}
+use Rattle.closing.proofs.Closers.{sign_is}
 use Rattle.closing.proofs.sign.Statement.{statement}
 use Rattle.closing.proofs.sign.Tie as tie
 
@@ -10,5 +10,5 @@ sign-spec =
     tie.close (tie.spec
     (λ c κs. search rules)  -- next-is-requires
     (λ c. search rules)  -- add-t5
-    (λ c. search sign-is)  -- returns
+    (λ c. search sign_is)  -- returns
     )

@@ -12,24 +12,24 @@ use Rattle.correcting.proofs.+with_large.{statement}
 use Rattle.correcting.proofs.+with_large.Tie.{close}
 use borrow.Author.Rules.{rules}
 
-abbrev μ-with-large : Measures 3 with-large-kinds.ps ℕ
-μ-with-large κs a = a.1.1.1.1.0
+abbrev μ_with_large : Measures 3 with-large-kinds.ps ℕ
+μ_with_large κs a = a.1.1.1.1.0
 
-abbrev with-large-at : ℕ → In 3 with-large-kinds.ps
-with-large-at t =
-    and 3 with-large-kinds.ps (is 3 with-large-kinds.ps μ-with-large t) with-large.Pre
+abbrev with_large_at : ℕ → In 3 with-large-kinds.ps
+with_large_at t =
+    and 3 with-large-kinds.ps (is 3 with-large-kinds.ps μ_with_large t) with-large.Pre
 
-abbrev with-large-below : ℕ → In 3 with-large-kinds.ps
-with-large-below t =
-    and 3 with-large-kinds.ps (falls 3 with-large-kinds.ps ◌<◌ μ-with-large t) with-large.Pre
+abbrev with_large_below : ℕ → In 3 with-large-kinds.ps
+with_large_below t =
+    and 3 with-large-kinds.ps (falls 3 with-large-kinds.ps ◌<◌ μ_with_large t) with-large.Pre
 
-abbrev with-large-calls : ℕ → with-large-lts.Claims
-with-large-calls t = (with-large-below t, with-large.Post, carry-out-reads.Asked, carry-out-reads.Learnt)
+abbrev with_large_calls : ℕ → with-large-lts.Claims
+with_large_calls t = (with_large_below t, with-large.Post, carry-out-reads.Asked, carry-out-reads.Learnt)
 
 pub +with-large-spec : {M : Type 1} → statement M
 +with-large-spec =
-    close μ-with-large
-    (λ t. with-large-lts.spec (with-large-calls t) (with-large-at t) with-large.Post
+    close μ_with_large
+    (λ t. with-large-lts.spec (with_large_calls t) (with_large_at t) with-large.Post
     (λ c. search rules)  -- sub-with-large
     (λ c κs. (omega arith, search rules))  -- with-large-requires
     (λ c. search rules)  -- same-length

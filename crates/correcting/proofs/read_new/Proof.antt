@@ -3,7 +3,7 @@
 use borrow.Author.Rules.{rules}
 use Rattle.correcting.proofs.read_new.Statement.{statement}
 use Rattle.correcting.proofs.read_new.Tie as tie
-use Rattle.correcting.proofs.Deciding.{new-short, new-ways}
+use Rattle.correcting.proofs.Deciding.{new_short, new_ways}
 
 pub read-new-spec : {M : Type 1} → statement M
 read-new-spec =
@@ -11,8 +11,8 @@ read-new-spec =
     (λ c κs. search rules)  -- check-text-requires
     (λ c. search rules)  -- enum-known-t
     (λ c. search rules)  -- enum-told
-    (λ c κs. search (rules, new-short))  -- read-one-requires
-    (λ c. search new-ways)  -- returns
+    (λ c κs. search (rules, new_short))  -- read-one-requires
+    (λ c. search new_ways)  -- returns
     (λ c. search rules)  -- same-length
-    (λ c. search new-ways)  -- returns-2
+    (λ c. search new_ways)  -- returns-2
     )

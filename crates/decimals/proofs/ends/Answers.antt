@@ -1,10 +1,10 @@
 -- `decimals::ends` meets its contract.
 -- Assumes nothing.
-use Rattle.decimals.proofs.DigitCode.{ends-ways}
+use Rattle.decimals.proofs.DigitCode.{ends_ways}
 use Rattle.decimals.proofs.ends.Goals as goal
 
 pub returns-then-text-at : goal.returns-then-text-at
-returns-then-text-at c = search ends-ways
+returns-then-text-at c = search ends_ways
 
 pub returns : goal.returns
-returns c = search ends-ways
+returns c = search ends_ways

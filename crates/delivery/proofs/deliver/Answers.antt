@@ -1,10 +1,10 @@
 -- `delivery::deliver` meets its contract.
 -- Assumes nothing.
-use Rattle.delivery.proofs.Delivering.{deliver-ways}
+use Rattle.delivery.proofs.Delivering.{deliver_ways}
 use Rattle.delivery.proofs.deliver.Goals as goal
 
 pub returns-then-fits : goal.returns-then-fits
-returns-then-fits c = search deliver-ways
+returns-then-fits c = search deliver_ways
 
 pub returns : goal.returns
-returns c = search deliver-ways
+returns c = search deliver_ways

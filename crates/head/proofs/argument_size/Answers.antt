@@ -1,19 +1,19 @@
 -- `head::argument_size` meets its contract.
 -- Assumes nothing.
-use Rattle.head.proofs.HeadCode.{size-ways}
+use Rattle.head.proofs.HeadCode.{size_ways}
 use Rattle.head.proofs.argument_size.Goals as goal
 
 pub returns-in-24 : goal.returns-in-24
-returns-in-24 c = search size-ways
+returns-in-24 c = search size_ways
 
 pub returns-in-25 : goal.returns-in-25
-returns-in-25 c = search size-ways
+returns-in-25 c = search size_ways
 
 pub returns-in-26 : goal.returns-in-26
-returns-in-26 c = search size-ways
+returns-in-26 c = search size_ways
 
 pub returns-in-27 : goal.returns-in-27
-returns-in-27 c = search size-ways
+returns-in-27 c = search size_ways
 
 pub returns-in_default : goal.returns-in_default
-returns-in_default c = search size-ways
+returns-in_default c = search size_ways

@@ -1,7 +1,7 @@
 -- `leaf_head::put_eight` meets its contract.
 -- Assumes nothing.
 use borrow.Author.Rules.{rules}
-use Rattle.head.proofs.HeadCode.{Filling, fill_start, fill_step, fill-ways}
+use Rattle.head.proofs.HeadCode.{Filling, fill_start, fill_step, fill_ways}
 use Rattle.leaf_head.proofs.put_eight.Statement.{statement}
 use Rattle.leaf_head.proofs.put_eight.Tie as tie
 
@@ -14,9 +14,9 @@ decreases-loop buf₀ from n m₀ k₀ buf m k = k
 pub put-eight-spec : {M : Type 1} → statement M
 put-eight-spec =
     tie.close (tie.spec invariant-loop decreases-loop
-    (λ c. search fill-ways)  -- returns
+    (λ c. search fill_ways)  -- returns
     (λ c. search rules)  -- sub-if2
-    (λ c. search fill-ways)  -- returns-2
+    (λ c. search fill_ways)  -- returns-2
     (λ c. search fill_start)  -- loop-holds
     (λ c. search rules)  -- sub-k
     (λ c. search rules)  -- cast-buf
@@ -25,5 +25,5 @@ put-eight-spec =
     (λ c. search rules)  -- loop-less
     (λ c. search fill_step)  -- loop-again
     (λ c. search rules)  -- same-length
-    (λ c. search fill-ways)  -- returns-3
+    (λ c. search fill_ways)  -- returns-3
     )

@@ -1,7 +1,7 @@
 -- `leaf_head::put_head` meets its contract.
 -- Assumes nothing.
 use borrow.Author.Rules.{rules}
-use Rattle.leaf_head.proofs.HeadsCode.{head_first, head-scaled, head-wide}
+use Rattle.leaf_head.proofs.HeadsCode.{head_first, head_scaled, head-wide}
 use Rattle.leaf_head.proofs.put_head.Statement.{statement}
 use Rattle.leaf_head.proofs.put_head.Tie as tie
 
@@ -22,7 +22,7 @@ put-head-spec =
     (λ c κs. search rules)  -- put-requires
     (λ c. search rules)  -- add-put-eight
     (λ c κs. search rules)  -- scale-of-requires
-    (λ c. search head-scaled)  -- mul-put-eight
+    (λ c. search head_scaled)  -- mul-put-eight
     (λ c κs. search rules)  -- put-eight-requires
     (λ c κs. search rules)  -- bytes-of-requires
     (λ c. search rules)  -- add-result

@@ -1,7 +1,7 @@
 -- `leaf_printer::is_shortest` meets its contract.
 -- Assumes nothing.
-use Rattle.leaf_printer.proofs.PrintHeads.{shortest-test}
+use Rattle.leaf_printer.proofs.PrintHeads.{shortest_test}
 use Rattle.leaf_printer.proofs.is_shortest.Goals as goal
 
 pub returns : goal.returns
-returns c = search shortest-test
+returns c = search shortest_test

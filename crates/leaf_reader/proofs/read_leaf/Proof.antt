@@ -1,7 +1,7 @@
 -- `leaf_reader::read_leaf` meets its contract.
 -- Assumes nothing.
 use borrow.Author.Rules.{rules}
-use Rattle.leaf_answer.proofs.LeafCode.{leaf-none, leaf-odd}
+use Rattle.leaf_answer.proofs.LeafCode.{leaf-none, leaf_odd}
 use Rattle.leaf_reader.proofs.read_leaf.Statement.{statement}
 use Rattle.leaf_reader.proofs.read_leaf.Tie as tie
 use Rattle.leaf_reader.proofs.StartCode.{quoted-at, hex-at}
@@ -36,7 +36,7 @@ read-leaf-spec =
     (λ c. search rules)  -- returns-4
     (λ c. search rules)  -- same-length-4
     (λ c. search rules)  -- returns-5
-    (λ c. search (leaf-none, leaf-odd))  -- returns-6
-    (λ c. search (leaf-none, leaf-odd))  -- returns-7
-    (λ c. search (leaf-none, leaf-odd))  -- returns-8
+    (λ c. search (leaf-none, leaf_odd))  -- returns-6
+    (λ c. search (leaf-none, leaf_odd))  -- returns-7
+    (λ c. search (leaf-none, leaf_odd))  -- returns-8
     )

@@ -1,11 +1,11 @@
-use Rattle.leaf_string.proofs.StringCode.{stop-ways, stop-fits}
+use Rattle.leaf_string.proofs.StringCode.{stop_ways, stop_fits}
 use Rattle.leaf_string.proofs.stop_at.Goals as goal
 
 pub overflow_add-more : goal.overflow_add-more
-overflow_add-more c = search stop-fits
+overflow_add-more c = search stop_fits
 
 pub returns-then-more-high-eq0 : goal.returns-then-more-high-eq0
-returns-then-more-high-eq0 c = search stop-ways
+returns-then-more-high-eq0 c = search stop_ways
 
 pub returns : goal.returns
-returns c = search stop-ways
+returns c = search stop_ways

@@ -1,10 +1,10 @@
 -- `literal_body::hex_value` meets its contract.
 -- Assumes nothing.
-use Rattle.literal_body.proofs.LiteralCode.{digit-ways}
+use Rattle.literal_body.proofs.LiteralCode.{digit_ways}
 use Rattle.literal_body.proofs.hex_value.Goals as goal
 
 pub returns-then-is_hex : goal.returns-then-is_hex
-returns-then-is_hex c = search digit-ways
+returns-then-is_hex c = search digit_ways
 
 pub returns : goal.returns
-returns c = search digit-ways
+returns c = search digit_ways

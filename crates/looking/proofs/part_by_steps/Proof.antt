@@ -2,7 +2,7 @@
 -- Assumes nothing.
 use Rattle.looking.proofs.part_by_steps.Statement.{statement}
 use Rattle.looking.proofs.part_by_steps.Tie as tie
-use Rattle.looking.proofs.Parts.{check-refused, check-accepted}
+use Rattle.looking.proofs.Parts.{check_refused_lem, check_accepted}
 use borrow.Author.Rules.{rules}
 
 pub part-by-steps-spec : {M : Type 1} → statement M
@@ -11,7 +11,7 @@ part-by-steps-spec =
     (λ c κs. search rules)  -- checked-all-requires
     (λ c. search rules)  -- enum-known-all
     (λ c. search rules)  -- enum-known-all-2
-    (λ c κs. search check-accepted)  -- part-in-requires
-    (λ c. search check-refused)  -- returns
+    (λ c κs. search check_accepted)  -- part-in-requires
+    (λ c. search check_refused_lem)  -- returns
     (λ c. search rules)  -- returns-2
     )

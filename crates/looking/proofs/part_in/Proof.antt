@@ -2,7 +2,7 @@
 -- Assumes nothing.
 use Rattle.looking.proofs.part_in.Statement.{statement}
 use Rattle.looking.proofs.part_in.Tie as tie
-use Rattle.looking.proofs.Parts.{part_room, part-ways}
+use Rattle.looking.proofs.Parts.{part_room, part_ways}
 use borrow.Author.Rules.{rules}
 
 pub part-in-spec : {M : Type 1} → statement M
@@ -20,7 +20,7 @@ part-in-spec =
     (λ c. search rules)  -- enum-known-whole
     (λ c. search rules)  -- enum-known-whole-2
     (λ c κs. search rules)  -- between-requires
-    (λ c. search part-ways)  -- returns
-    (λ c. search part-ways)  -- returns-2
-    (λ c. search part-ways)  -- returns-3
+    (λ c. search part_ways)  -- returns
+    (λ c. search part_ways)  -- returns-2
+    (λ c. search part_ways)  -- returns-3
     )

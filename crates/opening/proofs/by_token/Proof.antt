@@ -1,7 +1,7 @@
 -- `opening::by_token` meets its contract.
 -- Assumes nothing.
 use borrow.Author.Rules.{rules}
-use Rattle.opening.proofs.Openers.{token-ways}
+use Rattle.opening.proofs.Openers.{token_ways}
 use Rattle.opening.proofs.by_token.Statement.{statement}
 use Rattle.opening.proofs.by_token.Tie as tie
 
@@ -14,9 +14,9 @@ by-token-spec =
     (λ c κs. search rules)  -- opens-requires-2
     (λ c κs. search rules)  -- opens-requires-3
     (λ c κs. search rules)  -- opens-requires-4
-    (λ c. search token-ways)  -- returns
-    (λ c. search token-ways)  -- returns-2
-    (λ c. search token-ways)  -- returns-3
-    (λ c. search token-ways)  -- returns-4
-    (λ c. search token-ways)  -- returns-5
+    (λ c. search token_ways)  -- returns
+    (λ c. search token_ways)  -- returns-2
+    (λ c. search token_ways)  -- returns-3
+    (λ c. search token_ways)  -- returns-4
+    (λ c. search token_ways)  -- returns-5
     )

@@ -1,6 +1,6 @@
 use borrow.Author.Rules.{rules}
 use native.Mathlib.Omega.{arith}
-use Rattle.opening.proofs.Openers.{bare-ways}
+use Rattle.opening.proofs.Openers.{bare_ways}
 use Rattle.opening.proofs.opens_bare.Statement.{statement}
 use Rattle.opening.proofs.opens_bare.Tie as tie
 
@@ -11,6 +11,6 @@ opens-bare-spec =
     (λ c κs. search rules)  -- next-is-requires
     (λ c. record { fits = omega (arith, c.before.next_is.ensures.inside c.if1.true) })  -- add-next-is
     (λ c κs. search rules)  -- next-is-requires-2
-    (λ c. search bare-ways)  -- returns
-    (λ c. search bare-ways)  -- returns-2
+    (λ c. search bare_ways)  -- returns
+    (λ c. search bare_ways)  -- returns-2
     )

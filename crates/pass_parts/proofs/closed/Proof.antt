@@ -1,5 +1,5 @@
 use borrow.Author.Rules.{rules}
-use Rattle.pass_parts.proofs.PartCode.{closed-ways}
+use Rattle.pass_parts.proofs.PartCode.{closed_ways}
 use Rattle.pass_parts.proofs.closed.Statement.{statement}
 use Rattle.pass_parts.proofs.closed.Tie as tie
 
@@ -7,11 +7,11 @@ pub closed-spec : {M : Type 1} → statement M
 closed-spec =
     tie.close (tie.spec
     (λ c κs. search rules)  -- none-requires
-    (λ c. search closed-ways)  -- returns
+    (λ c. search closed_ways)  -- returns
     (λ c κs. search rules)  -- none-requires-2
-    (λ c. search closed-ways)  -- returns-2
+    (λ c. search closed_ways)  -- returns-2
     (λ c κs. search rules)  -- put-requires
     (λ c κs. search rules)  -- up-to-requires
     (λ c. search rules)  -- same-length
-    (λ c. search closed-ways)  -- returns-3
+    (λ c. search closed_ways)  -- returns-3
     )

@@ -1,6 +1,6 @@
 use borrow.Author.Rules.{rules}
 use Rattle.printer.proofs.PrintBounds.{size-length}
-use Rattle.pass_parts.proofs.PartCode.{mark-none, mark-open, mark-wide}
+use Rattle.pass_parts.proofs.PartCode.{mark-none, mark_open, mark-wide}
 use Rattle.pass_parts.proofs.mark.Statement.{statement}
 use Rattle.pass_parts.proofs.mark.Tie as tie
 
@@ -12,7 +12,7 @@ mark_spec =
     (λ c κs. search rules)  -- put-requires
     (λ c κs. search rules)  -- put-requires-2
     (λ c. search rules)  -- same-length
-    (λ c. search mark-open)  -- returns-2
+    (λ c. search mark_open)  -- returns-2
     (λ c κs. search rules)  -- size-mark-requires
     (λ c. search rules)  -- same-length-2
     (λ c. search (mark-wide, size-length))  -- returns-3

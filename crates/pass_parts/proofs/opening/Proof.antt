@@ -1,5 +1,5 @@
 use borrow.Author.Rules.{rules}
-use Rattle.pass_parts.proofs.PartCode.{opening-laid}
+use Rattle.pass_parts.proofs.PartCode.{opening_laid}
 use Rattle.pass_parts.proofs.opening.Statement.{statement}
 use Rattle.pass_parts.proofs.opening.Tie as tie
 
@@ -9,5 +9,5 @@ opening-spec =
     (λ c κs. search rules)  -- put-requires
     (λ c κs. search rules)  -- mark-requires
     (λ c. search rules)  -- same-length
-    (λ c. search opening-laid)  -- returns
+    (λ c. search opening_laid)  -- returns
     )

@@ -1,10 +1,10 @@
 -- `printer::closing` meets its contract.
 -- Assumes nothing.
-use Rattle.printer.proofs.PrintSeveral.{closing-ways}
+use Rattle.printer.proofs.PrintSeveral.{closing_ways}
 use Rattle.printer.proofs.closing.Goals as goal
 
 pub returns-then-major-eq-ARRAY : goal.returns-then-major-eq-ARRAY
-returns-then-major-eq-ARRAY c = search closing-ways
+returns-then-major-eq-ARRAY c = search closing_ways
 
 pub returns-else-major-eq-ARRAY : goal.returns-else-major-eq-ARRAY
-returns-else-major-eq-ARRAY c = search closing-ways
+returns-else-major-eq-ARRAY c = search closing_ways

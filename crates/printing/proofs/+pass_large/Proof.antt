@@ -9,24 +9,24 @@ use Rattle.printing.proofs.+pass_large.{statement}
 use Rattle.printing.proofs.+pass_large.Tie.{close}
 use borrow.Author.Rules.{rules}
 
-abbrev μ-pass-large : Measures 2 pass-large-kinds.ps ℕ
-μ-pass-large κs a = a.1.1.0
+abbrev μ_pass_large : Measures 2 pass-large-kinds.ps ℕ
+μ_pass_large κs a = a.1.1.0
 
-abbrev pass-large-at : ℕ → In 2 pass-large-kinds.ps
-pass-large-at t =
-    and 2 pass-large-kinds.ps (is 2 pass-large-kinds.ps μ-pass-large t) pass-large.Pre
+abbrev pass_large_at : ℕ → In 2 pass-large-kinds.ps
+pass_large_at t =
+    and 2 pass-large-kinds.ps (is 2 pass-large-kinds.ps μ_pass_large t) pass-large.Pre
 
-abbrev pass-large-below : ℕ → In 2 pass-large-kinds.ps
-pass-large-below t =
-    and 2 pass-large-kinds.ps (falls 2 pass-large-kinds.ps ◌<◌ μ-pass-large t) pass-large.Pre
+abbrev pass_large_below : ℕ → In 2 pass-large-kinds.ps
+pass_large_below t =
+    and 2 pass-large-kinds.ps (falls 2 pass-large-kinds.ps ◌<◌ μ_pass_large t) pass-large.Pre
 
-abbrev pass-large-calls : ℕ → pass-large-lts.Claims
-pass-large-calls t = (pass-large-below t, pass-large.Post, pass-reads.Asked, pass-reads.Learnt)
+abbrev pass_large_calls : ℕ → pass-large-lts.Claims
+pass_large_calls t = (pass_large_below t, pass-large.Post, pass-reads.Asked, pass-reads.Learnt)
 
 pub +pass-large-spec : {M : Type 1} → statement M
 +pass-large-spec =
-    close μ-pass-large
-    (λ t. pass-large-lts.spec (pass-large-calls t) (pass-large-at t) pass-large.Post
+    close μ_pass_large
+    (λ t. pass-large-lts.spec (pass_large_calls t) (pass_large_at t) pass-large.Post
     (λ c. search rules)  -- sub-pass-large
     (λ c κs. search rules)  -- pass-large-requires
     (λ c. search rules)  -- same-length

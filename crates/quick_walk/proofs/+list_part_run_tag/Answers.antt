@@ -5,13 +5,13 @@ use mathlib.Core.Bool.{not}
 use borrow.Author.Rules.{rules}
 use Rattle.walk_parts.proofs.WalkItems.{one-room, one_inside}
 use Rattle.walk_answer.proofs.WalkCycle.{run-start}
-use Rattle.quick_walk.proofs.LeafRun.{leaf-inside, leaf-less, leaf-on}
-use Rattle.quick_walk.proofs.QuickWays.{quick-not, quick-end, open-inside, level-some, deeper-small, small-part, small-deeper, shifts-deeper, shifts-open, deeper, list-ways, part-ways, tag-ways, step-add, step-size, step_less, step-on, over-halves, step-ways}
+use Rattle.quick_walk.proofs.LeafRun.{leaf-inside, leaf_less, leaf-on}
+use Rattle.quick_walk.proofs.QuickWays.{quick_not, quick_end, open_inside, level-some, deeper_small, small-part, small_deeper, shifts_deeper, shifts_open, deeper, list_ways, part_ways, tag_ways, step_add, step-size, step_less, step-on, over_halves, step_ways}
 use native.Mathlib.Omega.{arith}
 use Rattle.quick_walk.proofs.+list_part_run_tag.Goals as goal
 
 pub list-returns-then-end-eq0 : goal.list-returns-then-end-eq0
-list-returns-then-end-eq0 t c = search quick-not
+list-returns-then-end-eq0 t c = search quick_not
 
 pub list-bounds-bytes-0 : goal.list-bounds-bytes-0
 list-bounds-bytes-0 t c = search one_inside
@@ -23,67 +23,67 @@ pub list-head_argument-n-requires : goal.list-head_argument-n-requires
 list-head_argument-n-requires t c = search one-room
 
 pub list-slice_bounds-run-count : goal.list-slice_bounds-run-count
-list-slice_bounds-run-count t c = search quick-end
+list-slice_bounds-run-count t c = search quick_end
 
 pub list-slice_bounds-run-start : goal.list-slice_bounds-run-start
-list-slice_bounds-run-start t c = search quick-end
+list-slice_bounds-run-start t c = search quick_end
 
 pub list-overflow_sub-levels : goal.list-overflow_sub-levels
 list-overflow_sub-levels t c = search (level-some, rules)
 
 pub list-run-requires : goal.list-run-requires
-list-run-requires t c = (omega arith, search small-deeper)
+list-run-requires t c = (omega arith, search small_deeper)
 
 pub list-shift-requires : goal.list-shift-requires
-list-shift-requires t c = search (shifts-deeper, c.run.ensures)
+list-shift-requires t c = search (shifts_deeper, c.run.ensures)
 
 pub list-returns-then-major-eq-ARRAY : goal.list-returns-then-major-eq-ARRAY
-list-returns-then-major-eq-ARRAY t c = search list-ways
+list-returns-then-major-eq-ARRAY t c = search list_ways
 
 pub list-returns-then-major-ne-MAP : goal.list-returns-then-major-ne-MAP
-list-returns-then-major-ne-MAP t c = search quick-not
+list-returns-then-major-ne-MAP t c = search quick_not
 
 pub list-whole-requires : goal.list-whole-requires
-list-whole-requires t c = search deeper-small
+list-whole-requires t c = search deeper_small
 
 pub list-returns-then-n-gt-MOST_ENTRIES : goal.list-returns-then-n-gt-MOST_ENTRIES
-list-returns-then-n-gt-MOST_ENTRIES t c = search quick-not
+list-returns-then-n-gt-MOST_ENTRIES t c = search quick_not
 
 pub list-slice_bounds-run-count-2 : goal.list-slice_bounds-run-count-2
-list-slice_bounds-run-count-2 t c = search quick-end
+list-slice_bounds-run-count-2 t c = search quick_end
 
 pub list-slice_bounds-run-start-2 : goal.list-slice_bounds-run-start-2
-list-slice_bounds-run-start-2 t c = search quick-end
+list-slice_bounds-run-start-2 t c = search quick_end
 
 pub list-overflow_sub-levels-2 : goal.list-overflow_sub-levels-2
 list-overflow_sub-levels-2 t c = search (level-some, rules)
 
 pub list-run-requires-2 : goal.list-run-requires-2
-list-run-requires-2 t c = (omega arith, search small-deeper)
+list-run-requires-2 t c = (omega arith, search small_deeper)
 
 pub list-shift-requires-2 : goal.list-shift-requires-2
-list-shift-requires-2 t c = search (shifts-deeper, c.run-2.ensures)
+list-shift-requires-2 t c = search (shifts_deeper, c.run-2.ensures)
 
 pub list-returns : goal.list-returns
-list-returns t c = search list-ways
+list-returns t c = search list_ways
 
 pub part-returns-then-levels-eq0 : goal.part-returns-then-levels-eq0
-part-returns-then-levels-eq0 t c = search quick-not
+part-returns-then-levels-eq0 t c = search quick_not
 
 pub part-slice_bounds-run-count : goal.part-slice_bounds-run-count
-part-slice_bounds-run-count t c = search open-inside
+part-slice_bounds-run-count t c = search open_inside
 
 pub part-slice_bounds-run-start : goal.part-slice_bounds-run-start
-part-slice_bounds-run-start t c = search open-inside
+part-slice_bounds-run-start t c = search open_inside
 
 pub part-run-requires : goal.part-run-requires
 part-run-requires t c = (omega arith, search small-part)
 
 pub part-shift-requires : goal.part-shift-requires
-part-shift-requires t c = search (shifts-open, c.run.ensures)
+part-shift-requires t c = search (shifts_open, c.run.ensures)
 
 pub part-returns-then-n-lt-NO_HEAD : goal.part-returns-then-n-lt-NO_HEAD
-part-returns-then-n-lt-NO_HEAD t c = search part-ways
+part-returns-then-n-lt-NO_HEAD t c = search part_ways
 
 pub part-list-requires : goal.part-list-requires
 part-list-requires t c = (omega arith, search deeper)
@@ -98,7 +98,7 @@ pub run-bounds-bytes-at : goal.run-bounds-bytes-at
 run-bounds-bytes-at t c = leaf-inside c.leaf_at-n.ensures c.is_right.ensures c.if-is_right.true
 
 pub run-loop-n-smaller-then-is_right : goal.run-loop-n-smaller-then-is_right
-run-loop-n-smaller-then-is_right t c = leaf-less c.leaf_at-n.ensures c.is_right.ensures c.if-is_right.true
+run-loop-n-smaller-then-is_right t c = leaf_less c.leaf_at-n.ensures c.is_right.ensures c.if-is_right.true
 
 pub run-loop-n-preserved-then-is_right : goal.run-loop-n-preserved-then-is_right
 run-loop-n-preserved-then-is_right t c = leaf-on c.leaf_at-n.ensures c.is_right.ensures c.if-is_right.true c.loop-n.invariant (search rules) c.is_over.ensures (ap not c.loop-n-test.true) c.leaf_content.ensures c.less-left.ensures
@@ -107,10 +107,10 @@ pub run-part-r-requires : goal.run-part-r-requires
 run-part-r-requires t c = (omega arith, search small-part)
 
 pub run-returns-then-r : goal.run-returns-then-r
-run-returns-then-r t c = search quick-not
+run-returns-then-r t c = search quick_not
 
 pub run-overflow_add-at-in-loop-n : goal.run-overflow_add-at-in-loop-n
-run-overflow_add-at-in-loop-n t c = search step-add
+run-overflow_add-at-in-loop-n t c = search step_add
 
 pub run-overflow_add-size-in-loop-n : goal.run-overflow_add-size-in-loop-n
 run-overflow_add-size-in-loop-n t c = search step-size
@@ -122,43 +122,43 @@ pub run-loop-n-preserved : goal.run-loop-n-preserved
 run-loop-n-preserved t c = search step-on
 
 pub run-pack-requires : goal.run-pack-requires
-run-pack-requires t c = search over-halves
+run-pack-requires t c = search over_halves
 
 pub run-returns : goal.run-returns
-run-returns t c = search step-ways
+run-returns t c = search step_ways
 
 pub tag-returns-then-end-eq0 : goal.tag-returns-then-end-eq0
-tag-returns-then-end-eq0 t c = search quick-not
+tag-returns-then-end-eq0 t c = search quick_not
 
 pub tag-bounds-bytes-0 : goal.tag-bounds-bytes-0
 tag-bounds-bytes-0 t c = search one_inside
 
 pub tag-whole-requires : goal.tag-whole-requires
-tag-whole-requires t c = search deeper-small
+tag-whole-requires t c = search deeper_small
 
 pub tag-head_argument-n-requires : goal.tag-head_argument-n-requires
 tag-head_argument-n-requires t c = search one-room
 
 pub tag-slice_bounds-run-count : goal.tag-slice_bounds-run-count
-tag-slice_bounds-run-count t c = search quick-end
+tag-slice_bounds-run-count t c = search quick_end
 
 pub tag-slice_bounds-run-start : goal.tag-slice_bounds-run-start
-tag-slice_bounds-run-start t c = search quick-end
+tag-slice_bounds-run-start t c = search quick_end
 
 pub tag-overflow_sub-levels : goal.tag-overflow_sub-levels
 tag-overflow_sub-levels t c = search (level-some, rules)
 
 pub tag-run-requires : goal.tag-run-requires
-tag-run-requires t c = (omega arith, search small-deeper)
+tag-run-requires t c = (omega arith, search small_deeper)
 
 pub tag-shift-r-requires : goal.tag-shift-r-requires
-tag-shift-r-requires t c = search (shifts-deeper, c.run.ensures)
+tag-shift-r-requires t c = search (shifts_deeper, c.run.ensures)
 
 pub tag-returns-then-r : goal.tag-returns-then-r
-tag-returns-then-r t c = search quick-not
+tag-returns-then-r t c = search quick_not
 
 pub tag-returns-then-may_tag : goal.tag-returns-then-may_tag
-tag-returns-then-may_tag t c = search tag-ways
+tag-returns-then-may_tag t c = search tag_ways
 
 pub tag-returns : goal.tag-returns
-tag-returns t c = search quick-not
+tag-returns t c = search quick_not

@@ -1,24 +1,24 @@
 -- `quick_walk::plain` meets its contract.
 -- Assumes nothing.
-use Rattle.quick_walk.proofs.QuickWays.{quick-not, number-halves, plain-ways}
-use Rattle.quick_head.proofs.QuickHeadCode.{two-lengthy, lengthy}
+use Rattle.quick_walk.proofs.QuickWays.{quick_not, number_halves, plain_ways}
+use Rattle.quick_head.proofs.QuickHeadCode.{two_lengthy, lengthy}
 use Rattle.walk_parts.proofs.WalkItems.{one-room, one_inside}
 use Rattle.quick_walk.proofs.plain.Goals as goal
 
 pub string-requires : goal.string-requires
-string-requires c = search two-lengthy
+string-requires c = search two_lengthy
 
 pub returns-then-end-eq0 : goal.returns-then-end-eq0
-returns-then-end-eq0 c = search quick-not
+returns-then-end-eq0 c = search quick_not
 
 pub bounds-bytes-0 : goal.bounds-bytes-0
 bounds-bytes-0 c = search one_inside
 
 pub pack-requires : goal.pack-requires
-pack-requires c = search number-halves
+pack-requires c = search number_halves
 
 pub returns-then-major-lt-BYTE_STRING : goal.returns-then-major-lt-BYTE_STRING
-returns-then-major-lt-BYTE_STRING c = search plain-ways
+returns-then-major-lt-BYTE_STRING c = search plain_ways
 
 pub head_argument-requires : goal.head_argument-requires
 head_argument-requires c = search one-room

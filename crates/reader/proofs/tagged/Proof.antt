@@ -2,7 +2,7 @@
 -- Assumes nothing.
 use borrow.Author.Rules.{rules}
 use Rattle.refusal.specs.RefusalKinds.{kind_number}
-use Rattle.reader.proofs.ReadItems.{tagged-ways}
+use Rattle.reader.proofs.ReadItems.{tagged_ways}
 use Rattle.reader.proofs.tagged.Statement.{statement}
 use Rattle.reader.proofs.tagged.Tie as tie
 
@@ -13,7 +13,7 @@ tagged-spec =
     (λ c κs. search rules)  -- may-tag-requires
     (λ c κs. search rules)  -- sum-requires
     (λ c κs. search rules)  -- done-requires
-    (λ c. search tagged-ways)  -- returns
+    (λ c. search tagged_ways)  -- returns
     (λ c κs. search rules)  -- refuse-requires
-    (λ c. search tagged-ways)  -- returns-2
+    (λ c. search tagged_ways)  -- returns-2
     )

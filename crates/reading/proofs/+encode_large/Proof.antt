@@ -12,28 +12,28 @@ use Rattle.reading.proofs.+encode_large.{statement}
 use Rattle.reading.proofs.+encode_large.Tie.{close}
 use borrow.Author.Rules.{rules}
 
-abbrev μ-encode-large : Measures 2 encode-large-kinds.ps ℕ
-μ-encode-large κs a = a.1.1.0
+abbrev μ_encode_large : Measures 2 encode-large-kinds.ps ℕ
+μ_encode_large κs a = a.1.1.0
 
-abbrev encode-large-at : ℕ → In 2 encode-large-kinds.ps
-encode-large-at t =
-    and 2 encode-large-kinds.ps (is 2 encode-large-kinds.ps μ-encode-large t) encode-large.Pre
+abbrev encode_large_at : ℕ → In 2 encode-large-kinds.ps
+encode_large_at t =
+    and 2 encode-large-kinds.ps (is 2 encode-large-kinds.ps μ_encode_large t) encode-large.Pre
 
-abbrev encode-large-below : ℕ → In 2 encode-large-kinds.ps
-encode-large-below t =
+abbrev encode_large_below : ℕ → In 2 encode-large-kinds.ps
+encode_large_below t =
     and
     2
     encode-large-kinds.ps
-    (falls 2 encode-large-kinds.ps ◌<◌ μ-encode-large t)
+    (falls 2 encode-large-kinds.ps ◌<◌ μ_encode_large t)
     encode-large.Pre
 
-abbrev encode-large-calls : ℕ → encode-large-lts.Claims
-encode-large-calls t = (encode-large-below t, encode-large.Post, encode-reads.Asked, encode-reads.Learnt)
+abbrev encode_large_calls : ℕ → encode-large-lts.Claims
+encode_large_calls t = (encode_large_below t, encode-large.Post, encode-reads.Asked, encode-reads.Learnt)
 
 pub +encode-large-spec : {M : Type 1} → statement M
 +encode-large-spec =
-    close μ-encode-large
-    (λ t. encode-large-lts.spec (encode-large-calls t) (encode-large-at t) encode-large.Post
+    close μ_encode_large
+    (λ t. encode-large-lts.spec (encode_large_calls t) (encode_large_at t) encode-large.Post
     (λ c. search rules)  -- sub-encode-large
     (λ c κs. (omega arith, search rules))  -- encode-large-requires
     (λ c. search rules)  -- same-length

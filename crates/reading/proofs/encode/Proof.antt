@@ -3,7 +3,7 @@
 use borrow.Author.Rules.{rules}
 use Rattle.reading.proofs.encode.Statement.{statement}
 use Rattle.reading.proofs.encode.Tie as tie
-use Rattle.reading.proofs.Encoding.{encode-ways}
+use Rattle.reading.proofs.Encoding.{encode_ways}
 
 pub encode-spec : {M : Type 1} → statement M
 encode-spec =
@@ -13,8 +13,8 @@ encode-spec =
     (λ c. search rules)  -- enum-known-a-2
     (λ c κs. search rules)  -- deliver-requires
     (λ c. search rules)  -- same-length
-    (λ c. search encode-ways)  -- returns
+    (λ c. search encode_ways)  -- returns
     (λ c. search rules)  -- same-length-2
     (λ c. search rules)  -- same-length-3
-    (λ c. search encode-ways)  -- returns-2
+    (λ c. search encode_ways)  -- returns-2
     )

@@ -3,7 +3,7 @@
 use borrow.Author.Rules.{rules}
 use Rattle.reading.proofs.read.Statement.{statement}
 use Rattle.reading.proofs.read.Tie as tie
-use Rattle.reading.proofs.Encoding.{read-ways}
+use Rattle.reading.proofs.Encoding.{read_ways}
 
 pub read_spec : {M : Type 1} → statement M
 read_spec =
@@ -13,13 +13,13 @@ read_spec =
     (λ c. search rules)  -- enum-told
     (λ c κs. search rules)  -- encode-tiny-requires
     (λ c. search rules)  -- same-length
-    (λ c. search read-ways)  -- returns
+    (λ c. search read_ways)  -- returns
     (λ c κs. search rules)  -- encode-small-requires
     (λ c. search rules)  -- same-length-2
-    (λ c. search read-ways)  -- returns-2
+    (λ c. search read_ways)  -- returns-2
     (λ c κs. search rules)  -- turns-for-requires
-    (λ c κs. search read-ways)  -- encode-large-requires
-    (λ c. search read-ways)  -- returns-3
+    (λ c κs. search read_ways)  -- encode-large-requires
+    (λ c. search read_ways)  -- returns-3
     (λ c. search rules)  -- same-length-3
-    (λ c. search read-ways)  -- returns-4
+    (λ c. search read_ways)  -- returns-4
     )

@@ -1,10 +1,10 @@
 -- `string_output::content_byte` meets its contract.
 -- Assumes nothing.
-use Rattle.string_output.proofs.ContentCode.{content-ways}
+use Rattle.string_output.proofs.ContentCode.{content_ways}
 use Rattle.string_output.proofs.content_byte.Goals as goal
 
 pub returns-then-text : goal.returns-then-text
-returns-then-text c = search content-ways
+returns-then-text c = search content_ways
 
 pub returns : goal.returns
-returns c = search content-ways
+returns c = search content_ways

@@ -6,7 +6,7 @@ use Rattle.notation.specs.Reading.{marked}
 use lib.ListN.{length}
 use Prim.Native.Nat.{◌-◌}
 use Rattle.encoding.proofs.Telling.{made_inside}
-use Rattle.string_reader.proofs.ReadStrings.{Chunks-run, chunks_start, chunks-place, chunks-strings, chunks-ways, chunks-same, chunks-sum, chunks-fits, chunks-less, chunks-comma}
+use Rattle.string_reader.proofs.ReadStrings.{Chunks-run, chunks_start, chunks-place, chunks-strings, chunks_ways, chunks-same, chunks-sum, chunks-fits, chunks_less, chunks_comma}
 use borrow.Author.Rules.{rules}
 
 abbrev invariant-loop : tie.invariant-loop
@@ -23,17 +23,17 @@ chunks-spec =
     (λ c κs. search chunks-strings)  -- chunk-requires
     (λ c. search rules)  -- enum-known-a
     (λ c. search rules)  -- same-length
-    (λ c. search chunks-ways)  -- returns
+    (λ c. search chunks_ways)  -- returns
     (λ c. search rules)  -- enum-known-a-2
     (λ c. search chunks-sum)  -- add-n
     (λ c. search chunks-fits)  -- add-size
     (λ c κs. search made_inside)  -- next-token-requires
     (λ c κs. search rules)  -- is-binary-requires
     (λ c. search chunks-same)  -- same-length-2
-    (λ c. search chunks-ways)  -- returns-2
+    (λ c. search chunks_ways)  -- returns-2
     (λ c κs. search rules)  -- strayed-requires
     (λ c. search chunks-same)  -- same-length-3
-    (λ c. search chunks-ways)  -- returns-3
-    (λ c. search chunks-less)  -- loop-less
-    (λ c. search chunks-comma)  -- loop-again
+    (λ c. search chunks_ways)  -- returns-3
+    (λ c. search chunks_less)  -- loop-less
+    (λ c. search chunks_comma)  -- loop-again
     )

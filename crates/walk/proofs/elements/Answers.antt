@@ -1,7 +1,7 @@
 -- `walk::elements` meets its contract.
 -- Assumes nothing.
-use Rattle.quick_walk.proofs.QuickWays.{quick-told}
+use Rattle.quick_walk.proofs.QuickWays.{quick_told}
 use Rattle.walk.proofs.elements.Goals as goal
 
 pub returns : goal.returns
-returns c = search quick-told
+returns c = search quick_told

@@ -2,8 +2,8 @@
 -- Assumes nothing.
 use borrow.Author.Rules.{rules}
 use Rattle.walk_parts.proofs.StringCode.{head-room, head-inside}
-use Rattle.walk_answer.proofs.WalkCycle.{other-ways, run-start, run-ways, run-less, run_on}
-use Rattle.walk_parts.proofs.WalkItems.{tag-turns, behind-ways, map-ways, no-head, one-room, one_inside, one-headed, one-ways}
+use Rattle.walk_answer.proofs.WalkCycle.{other_ways, run-start, run_ways, run_less, run_on}
+use Rattle.walk_parts.proofs.WalkItems.{tag_turns, behind_ways, map_ways, no-head, one-room, one_inside, one_headed, one_ways}
 use native.Mathlib.Omega.{arith}
 use Rattle.whole_walk.proofs.+behind_map_one_other_several_slowly_tag.Goals as goal
 
@@ -17,22 +17,22 @@ pub behind-several-requires : goal.behind-several-requires
 behind-several-requires t c = (omega arith, search rules)
 
 pub behind-returns-then-info-eq-INDEFINITE_LENGTH : goal.behind-returns-then-info-eq-INDEFINITE_LENGTH
-behind-returns-then-info-eq-INDEFINITE_LENGTH t c = search behind-ways
+behind-returns-then-info-eq-INDEFINITE_LENGTH t c = search behind_ways
 
 pub behind-content-requires : goal.behind-content-requires
 behind-content-requires t c = search head-room
 
 pub behind-returns-then-major-le-TEXT_STRING : goal.behind-returns-then-major-le-TEXT_STRING
-behind-returns-then-major-le-TEXT_STRING t c = search behind-ways
+behind-returns-then-major-le-TEXT_STRING t c = search behind_ways
 
 pub behind-returns-then-levels-eq0 : goal.behind-returns-then-levels-eq0
-behind-returns-then-levels-eq0 t c = search behind-ways
+behind-returns-then-levels-eq0 t c = search behind_ways
 
 pub behind-tag-requires : goal.behind-tag-requires
 behind-tag-requires t c = (omega arith, search head-room)
 
 pub behind-returns-then-major-eq-TAG : goal.behind-returns-then-major-eq-TAG
-behind-returns-then-major-eq-TAG t c = search behind-ways
+behind-returns-then-major-eq-TAG t c = search behind_ways
 
 pub behind-slice_bounds-slowly-count : goal.behind-slice_bounds-slowly-count
 behind-slice_bounds-slowly-count t c = search head-inside
@@ -44,61 +44,61 @@ pub behind-slowly-requires : goal.behind-slowly-requires
 behind-slowly-requires t c = (omega arith, search rules)
 
 pub behind-returns-then-major-eq-ARRAY : goal.behind-returns-then-major-eq-ARRAY
-behind-returns-then-major-eq-ARRAY t c = search behind-ways
+behind-returns-then-major-eq-ARRAY t c = search behind_ways
 
 pub behind-map-requires : goal.behind-map-requires
 behind-map-requires t c = (omega arith, search head-room)
 
 pub behind-returns : goal.behind-returns
-behind-returns t c = search behind-ways
+behind-returns t c = search behind_ways
 
 pub map-slowly-requires : goal.map-slowly-requires
 map-slowly-requires t c = (omega arith, search rules)
 
 pub map-returns-then-count-le4294967295 : goal.map-returns-then-count-le4294967295
-map-returns-then-count-le4294967295 t c = search map-ways
+map-returns-then-count-le4294967295 t c = search map_ways
 
 pub map-several-requires : goal.map-several-requires
 map-several-requires t c = (omega arith, search rules)
 
 pub map-returns : goal.map-returns
-map-returns t c = search map-ways
+map-returns t c = search map_ways
 
 pub one-headless-requires : goal.one-headless-requires
 one-headless-requires t c = search no-head
 
 pub one-returns-then-end-eq0 : goal.one-returns-then-end-eq0
-one-returns-then-end-eq0 t c = search one-ways
+one-returns-then-end-eq0 t c = search one_ways
 
 pub one-bounds-bytes-0 : goal.one-bounds-bytes-0
 one-bounds-bytes-0 t c = search one_inside
 
 pub one-returns-then-major-le-NEGATIVE_INTEGER : goal.one-returns-then-major-le-NEGATIVE_INTEGER
-one-returns-then-major-le-NEGATIVE_INTEGER t c = search one-ways
+one-returns-then-major-le-NEGATIVE_INTEGER t c = search one_ways
 
 pub one-returns-then-initial : goal.one-returns-then-initial
-one-returns-then-initial t c = search one-ways
+one-returns-then-initial t c = search one_ways
 
 pub one-returns-then-major-eq-SIMPLE_VALUE : goal.one-returns-then-major-eq-SIMPLE_VALUE
-one-returns-then-major-eq-SIMPLE_VALUE t c = search one-ways
+one-returns-then-major-eq-SIMPLE_VALUE t c = search one_ways
 
 pub one-head_argument-requires : goal.one-head_argument-requires
 one-head_argument-requires t c = search one-room
 
 pub one-behind-requires : goal.one-behind-requires
-one-behind-requires t c = (omega arith, search one-headed)
+one-behind-requires t c = (omega arith, search one_headed)
 
 pub one-returns : goal.one-returns
-one-returns t c = search one-ways
+one-returns t c = search one_ways
 
 pub other-slowly-requires : goal.other-slowly-requires
 other-slowly-requires t c = (omega arith, search rules)
 
 pub other-returns-then-major-eq-MAP : goal.other-returns-then-major-eq-MAP
-other-returns-then-major-eq-MAP t c = search other-ways
+other-returns-then-major-eq-MAP t c = search other_ways
 
 pub other-returns : goal.other-returns
-other-returns t c = search other-ways
+other-returns t c = search other_ways
 
 pub several-loop-part-init : goal.several-loop-part-init
 several-loop-part-init t c = search run-start
@@ -107,16 +107,16 @@ pub several-other-requires : goal.several-other-requires
 several-other-requires t c = (omega arith, search rules)
 
 pub several-returns-in-Refused : goal.several-returns-in-Refused
-several-returns-in-Refused t c = search run-ways
+several-returns-in-Refused t c = search run_ways
 
 pub several-loop-part-smaller : goal.several-loop-part-smaller
-several-loop-part-smaller t c = search run-less
+several-loop-part-smaller t c = search run_less
 
 pub several-loop-part-preserved : goal.several-loop-part-preserved
 several-loop-part-preserved t c = search run_on
 
 pub several-returns : goal.several-returns
-several-returns t c = search run-ways
+several-returns t c = search run_ways
 
 pub slowly-loop-part-init : goal.slowly-loop-part-init
 slowly-loop-part-init t c = search run-start
@@ -125,25 +125,25 @@ pub slowly-one-requires : goal.slowly-one-requires
 slowly-one-requires t c = (omega arith, search rules)
 
 pub slowly-returns-in-Refused : goal.slowly-returns-in-Refused
-slowly-returns-in-Refused t c = search run-ways
+slowly-returns-in-Refused t c = search run_ways
 
 pub slowly-loop-part-smaller : goal.slowly-loop-part-smaller
-slowly-loop-part-smaller t c = search run-less
+slowly-loop-part-smaller t c = search run_less
 
 pub slowly-loop-part-preserved : goal.slowly-loop-part-preserved
 slowly-loop-part-preserved t c = search run_on
 
 pub slowly-returns : goal.slowly-returns
-slowly-returns t c = search run-ways
+slowly-returns t c = search run_ways
 
 pub tag-slowly-requires : goal.tag-slowly-requires
 tag-slowly-requires t c = (omega arith, search rules)
 
 pub tag-returns-then-may_tag : goal.tag-returns-then-may_tag
-tag-returns-then-may_tag t c = search tag-turns
+tag-returns-then-may_tag t c = search tag_turns
 
 pub tag-returns-in-Refused : goal.tag-returns-in-Refused
-tag-returns-in-Refused t c = search tag-turns
+tag-returns-in-Refused t c = search tag_turns
 
 pub tag-returns-else-may_tag : goal.tag-returns-else-may_tag
-tag-returns-else-may_tag t c = search tag-turns
+tag-returns-else-may_tag t c = search tag_turns

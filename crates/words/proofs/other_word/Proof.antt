@@ -3,16 +3,16 @@
 use borrow.Author.Rules.{rules}
 use Rattle.words.proofs.other_word.Statement.{statement}
 use Rattle.words.proofs.other_word.Tie as tie
-use Rattle.words.proofs.WordCode.{other-ways}
+use Rattle.words.proofs.WordCode.{other_ways}
 
 pub other-word-spec : {M : Type 1} → statement M
 other-word-spec =
     tie.close (tie.spec
     (λ c. search rules)  -- slice-aggregate-is-same
     (λ c κs. search rules)  -- is-same-requires
-    (λ c. search other-ways)  -- returns
+    (λ c. search other_ways)  -- returns
     (λ c. search rules)  -- slice-aggregate-is-same-2
     (λ c κs. search rules)  -- is-same-requires-2
-    (λ c. search other-ways)  -- returns-2
-    (λ c. search other-ways)  -- returns-3
+    (λ c. search other_ways)  -- returns-2
+    (λ c. search other_ways)  -- returns-3
     )

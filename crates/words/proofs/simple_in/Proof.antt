@@ -3,7 +3,7 @@
 use borrow.Author.Rules.{rules}
 use Rattle.words.proofs.simple_in.Statement.{statement}
 use Rattle.words.proofs.simple_in.Tie as tie
-use Rattle.words.proofs.WordCode.{simple-ins, enclosed-part}
+use Rattle.words.proofs.WordCode.{simple_ins, enclosed-part}
 
 pub simple-in-spec : {M : Type 1} → statement M
 simple-in-spec =
@@ -12,9 +12,9 @@ simple-in-spec =
     (λ c κs. search rules)  -- is-simple-requires
     (λ c. search rules)  -- add-made
     (λ c κs. search rules)  -- made-requires
-    (λ c. search simple-ins)  -- returns
+    (λ c. search simple_ins)  -- returns
     (λ c κs. search rules)  -- refuse-requires
-    (λ c. search simple-ins)  -- returns-2
+    (λ c. search simple_ins)  -- returns-2
     (λ c κs. search rules)  -- refuse-requires-2
-    (λ c. search simple-ins)  -- returns-3
+    (λ c. search simple_ins)  -- returns-3
     )

@@ -3,7 +3,7 @@
 use Rattle.words.proofs.starts_with.Statement.{statement}
 use Rattle.words.proofs.starts_with.Tie as tie
 use borrow.Author.Rules.{rules}
-use Rattle.words.proofs.WordCode.{Matching, match-start, match-step, match-stop, match-end}
+use Rattle.words.proofs.WordCode.{Matching, match_start, match_step, match_stop, match_end}
 use Prim.Native.Nat.{◌-◌}
 use lib.ListN.{length}
 
@@ -16,13 +16,13 @@ decreases-loop text at word i₀ i = length word - i
 pub starts-with-spec : {M : Type 1} → statement M
 starts-with-spec =
     tie.close (tie.spec invariant-loop decreases-loop
-    (λ c. search match-start)  -- loop-holds
+    (λ c. search match_start)  -- loop-holds
     (λ c. search rules)  -- add-next-is
     (λ c. search rules)  -- shared-slice-read-next-is
     (λ c κs. search rules)  -- next-is-requires
-    (λ c. search match-stop)  -- returns
+    (λ c. search match_stop)  -- returns
     (λ c. search rules)  -- add-i
     (λ c. search rules)  -- loop-less
-    (λ c. search match-step)  -- loop-again
-    (λ c. search match-end)  -- returns-2
+    (λ c. search match_step)  -- loop-again
+    (λ c. search match_end)  -- returns-2
     )

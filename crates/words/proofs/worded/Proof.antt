@@ -3,7 +3,7 @@
 use borrow.Author.Rules.{rules}
 use Rattle.words.proofs.worded.Statement.{statement}
 use Rattle.words.proofs.worded.Tie as tie
-use Rattle.words.proofs.WordCode.{worded-ways}
+use Rattle.words.proofs.WordCode.{worded_ways}
 
 pub worded-spec : {M : Type 1} → statement M
 worded-spec =
@@ -16,7 +16,7 @@ worded-spec =
     (λ c κs. search rules)  -- simple-token-requires
     (λ c. search rules)  -- enum-known-meaning-2
     (λ c κs. search rules)  -- refuse-requires
-    (λ c. search worded-ways)  -- returns
-    (λ c. search worded-ways)  -- returns-2
-    (λ c. search worded-ways)  -- returns-3
+    (λ c. search worded_ways)  -- returns
+    (λ c. search worded_ways)  -- returns-2
+    (λ c. search worded_ways)  -- returns-3
     )

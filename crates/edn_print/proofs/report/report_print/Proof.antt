@@ -3,7 +3,7 @@
 use borrow.Author.Rules.{rules}
 use Rattle.edn_print.proofs.report.report_print.Statement.{statement}
 use Rattle.edn_print.proofs.report.report_print.Tie as tie
-use Rattle.edn_print.proofs.Printing.{report-size, report-is}
+use Rattle.edn_print.proofs.Printing.{report_size, report_is}
 
 pub report-print-spec : {M : Type 1} → statement M
 report-print-spec =
@@ -13,5 +13,5 @@ report-print-spec =
     (λ c. search rules)  -- slice-aggregate-said-of-text
     (λ c κs. search rules)  -- said-of-text-requires
     (λ c. search rules)  -- same-length
-    (λ c. (search (report-size, rules), search (report-is, rules)))  -- returns
+    (λ c. (search (report_size, rules), search (report_is, rules)))  -- returns
     )

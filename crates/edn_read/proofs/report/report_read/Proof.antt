@@ -3,7 +3,7 @@
 use borrow.Author.Rules.{rules}
 use Rattle.edn_read.proofs.report.report_read.Statement.{statement}
 use Rattle.edn_read.proofs.report.report_read.Tie as tie
-use Rattle.edn_read.proofs.Reading.{report-size, report-is}
+use Rattle.edn_read.proofs.Reading.{report_size, report_is}
 
 pub report-read-spec : {M : Type 1} → statement M
 report-read-spec =
@@ -13,5 +13,5 @@ report-read-spec =
     (λ c. search rules)  -- slice-aggregate-said-of-bytes
     (λ c κs. search rules)  -- said-of-bytes-requires
     (λ c. search rules)  -- same-length
-    (λ c. (search (report-size, rules), search (report-is, rules)))  -- returns
+    (λ c. (search (report_size, rules), search (report_is, rules)))  -- returns
     )

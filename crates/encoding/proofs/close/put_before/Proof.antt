@@ -3,7 +3,7 @@
 use borrow.Author.Rules.{rules}
 use Rattle.encoding.proofs.close.put_before.Statement.{statement}
 use Rattle.encoding.proofs.close.put_before.Tie as tie
-use Rattle.encoding.proofs.ReadSmall.{before-ways}
+use Rattle.encoding.proofs.ReadSmall.{before_ways}
 
 pub put-before-spec : {M : Type 1} → statement M
 put-before-spec =
@@ -11,8 +11,8 @@ put-before-spec =
     (λ c κs. search rules)  -- head-size-requires
     (λ c κs. search rules)  -- put-requires
     (λ c. search rules)  -- same-length
-    (λ c. search before-ways)  -- returns
+    (λ c. search before_ways)  -- returns
     (λ c κs. search rules)  -- close-requires
     (λ c. search rules)  -- same-length-2
-    (λ c. search before-ways)  -- returns-2
+    (λ c. search before_ways)  -- returns-2
     )

@@ -1,7 +1,7 @@
 -- `encoding::heads::leaf` meets its contract.
 -- Assumes nothing.
 use borrow.Author.Rules.{rules}
-use Rattle.encoding.proofs.ReadWriting.{leafed-is}
+use Rattle.encoding.proofs.ReadWriting.{leafed_is}
 use Rattle.encoding.proofs.heads.leaf.Statement.{statement}
 use Rattle.encoding.proofs.heads.leaf.Tie as tie
 
@@ -12,5 +12,5 @@ leaf-spec =
     (λ c κs. search rules)  -- put-head-requires
     (λ c κs. search rules)  -- done-requires
     (λ c. search rules)  -- same-length
-    (λ c. search leafed-is)  -- returns
+    (λ c. search leafed_is)  -- returns
     )

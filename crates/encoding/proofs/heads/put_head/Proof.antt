@@ -1,7 +1,7 @@
 -- `encoding::heads::put_head` meets its contract.
 -- Assumes nothing.
 use borrow.Author.Rules.{rules}
-use Rattle.encoding.proofs.ReadWriting.{written-ways}
+use Rattle.encoding.proofs.ReadWriting.{written_ways}
 use Rattle.encoding.proofs.heads.put_head.Statement.{statement}
 use Rattle.encoding.proofs.heads.put_head.Tie as tie
 
@@ -11,8 +11,8 @@ put-head-spec =
     (λ c κs. search rules)  -- head-size-requires
     (λ c κs. search rules)  -- put-requires
     (λ c. search rules)  -- same-length
-    (λ c. search written-ways)  -- returns
+    (λ c. search written_ways)  -- returns
     (λ c κs. search rules)  -- write-head-requires
     (λ c. search rules)  -- same-length-2
-    (λ c. search written-ways)  -- returns-2
+    (λ c. search written_ways)  -- returns-2
     )

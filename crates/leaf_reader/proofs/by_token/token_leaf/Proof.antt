@@ -1,7 +1,7 @@
 -- `leaf_reader::by_token::token_leaf` meets its contract.
 -- Assumes nothing.
 use borrow.Author.Rules.{rules}
-use Rattle.leaf_reader.proofs.TokenCode.{token-ways}
+use Rattle.leaf_reader.proofs.TokenCode.{token_ways}
 use Rattle.leaf_reader.proofs.by_token.token_leaf.Statement.{statement}
 use Rattle.leaf_reader.proofs.by_token.token_leaf.Tie as tie
 
@@ -9,13 +9,13 @@ pub token-leaf-spec : {M : Type 1} → statement M
 token-leaf-spec =
     tie.close (tie.spec
     (λ c κs. search rules)  -- nothing-requires
-    (λ c. search token-ways)  -- returns
+    (λ c. search token_ways)  -- returns
     (λ c κs. search rules)  -- nothing-requires-2
-    (λ c. search token-ways)  -- returns-2
+    (λ c. search token_ways)  -- returns-2
     (λ c κs. search rules)  -- initial-requires
     (λ c κs. search rules)  -- write-head-requires
     (λ c κs. search rules)  -- head-size-requires
     (λ c κs. search rules)  -- leaf-requires
     (λ c. search rules)  -- same-length
-    (λ c. search token-ways)  -- returns-3
+    (λ c. search token_ways)  -- returns-3
     )

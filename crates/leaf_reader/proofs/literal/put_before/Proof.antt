@@ -1,7 +1,7 @@
 -- `leaf_reader::literal::put_before` meets its contract.
 -- Assumes nothing.
 use borrow.Author.Rules.{rules}
-use Rattle.leaf_reader.proofs.LiteralCode.{before-ways}
+use Rattle.leaf_reader.proofs.LiteralCode.{before_ways}
 use Rattle.leaf_reader.proofs.literal.put_before.Statement.{statement}
 use Rattle.leaf_reader.proofs.literal.put_before.Tie as tie
 
@@ -11,8 +11,8 @@ put-before-spec =
     (λ c κs. search rules)  -- head-size-requires
     (λ c κs. search rules)  -- put-requires
     (λ c. search rules)  -- same-length
-    (λ c. search before-ways)  -- returns
+    (λ c. search before_ways)  -- returns
     (λ c κs. search rules)  -- close-requires
     (λ c. search rules)  -- same-length-2
-    (λ c. search before-ways)  -- returns-2
+    (λ c. search before_ways)  -- returns-2
     )

@@ -21,54 +21,54 @@ use Rattle.walk_answer.proofs.mode_of.Reads as mode-of-reads
 use Rattle.looking.proofs.guided.+among_inside.{statement}
 use Rattle.looking.proofs.guided.+among_inside.Tie.{close}
 use borrow.Author.Rules.{rules}
-use Rattle.looking.proofs.Guiding.{among-at as at-below, among-behind, among-ways, inside-room, inside-ways}
+use Rattle.looking.proofs.Guiding.{among_at as at-below, among_behind, among_ways, inside-room, inside_ways}
 
-abbrev μ-among : Measures 2 among-kinds.ps ℕ
-μ-among κs a = 2 * a.1.1.1.1.1.1.0 + 1
+abbrev μ_among : Measures 2 among-kinds.ps ℕ
+μ_among κs a = 2 * a.1.1.1.1.1.1.0 + 1
 
-abbrev μ-inside : Measures 2 inside-kinds.ps ℕ
-μ-inside κs a = 2 * a.1.1.1.0
+abbrev μ_inside : Measures 2 inside-kinds.ps ℕ
+μ_inside κs a = 2 * a.1.1.1.0
 
-abbrev among-at : ℕ → In 2 among-kinds.ps
-among-at t = and 2 among-kinds.ps (is 2 among-kinds.ps μ-among t) among.Pre
+abbrev among_at : ℕ → In 2 among-kinds.ps
+among_at t = and 2 among-kinds.ps (is 2 among-kinds.ps μ_among t) among.Pre
 
 abbrev among_below : ℕ → In 2 among-kinds.ps
-among_below t = and 2 among-kinds.ps (falls 2 among-kinds.ps ◌<◌ μ-among t) among.Pre
+among_below t = and 2 among-kinds.ps (falls 2 among-kinds.ps ◌<◌ μ_among t) among.Pre
 
 abbrev inside-at : ℕ → In 2 inside-kinds.ps
-inside-at t = and 2 inside-kinds.ps (is 2 inside-kinds.ps μ-inside t) inside.Pre
+inside-at t = and 2 inside-kinds.ps (is 2 inside-kinds.ps μ_inside t) inside.Pre
 
 abbrev inside-below : ℕ → In 2 inside-kinds.ps
-inside-below t = and 2 inside-kinds.ps (falls 2 inside-kinds.ps ◌<◌ μ-inside t) inside.Pre
+inside-below t = and 2 inside-kinds.ps (falls 2 inside-kinds.ps ◌<◌ μ_inside t) inside.Pre
 
-abbrev among-calls : ℕ → among-lts.Claims
-among-calls t = (past-items-reads.Asked, past-items-reads.Learnt, behind-reads.Asked, behind-reads.Learnt, is-over-reads.Asked, is-over-reads.Learnt, inside-below t, inside.Post, less-reads.Asked, less-reads.Learnt)
+abbrev among_calls : ℕ → among-lts.Claims
+among_calls t = (past-items-reads.Asked, past-items-reads.Learnt, behind-reads.Asked, behind-reads.Learnt, is-over-reads.Asked, is-over-reads.Learnt, inside-below t, inside.Post, less-reads.Asked, less-reads.Learnt)
 
-abbrev inside-calls : ℕ → inside-lts.Claims
-inside-calls t = (whole-reads.Asked, whole-reads.Learnt, read-head-reads.Asked, read-head-reads.Learnt, wide-reads.Asked, wide-reads.Learnt, mode-of-reads.Asked, mode-of-reads.Learnt, among_below t, among.Post)
+abbrev inside_calls : ℕ → inside-lts.Claims
+inside_calls t = (whole-reads.Asked, whole-reads.Learnt, read-head-reads.Asked, read-head-reads.Learnt, wide-reads.Asked, wide-reads.Learnt, mode-of-reads.Asked, mode-of-reads.Learnt, among_below t, among.Post)
 
 pub +among-inside-spec : {M : Type 1} → statement M
 +among-inside-spec =
-    close μ-among μ-inside
-    (λ t. among-lts.spec (among-calls t) (among-at t) among.Post
+    close μ_among μ_inside
+    (λ t. among-lts.spec (among_calls t) (among_at t) among.Post
     (λ c κs. search rules)  -- past-items-requires
-    (λ c. search among-ways)  -- returns
+    (λ c. search among_ways)  -- returns
     (λ c κs. search rules)  -- behind-requires
     (λ c κs. search rules)  -- is-over-requires
-    (λ c. search among-ways)  -- returns-2
+    (λ c. search among_ways)  -- returns-2
     (λ c κs. (omega arith, search at-below))  -- inside-requires
     (λ c. search rules)  -- enum-told
     (λ c. search rules)  -- enum-known-inner
     (λ c κs. search rules)  -- less-requires
-    (λ c κs. search among-behind)  -- past-items-requires-2
-    (λ c. search among-ways)  -- returns-3
-    (λ c. search among-ways)  -- returns-4
-    (λ c. search among-ways)  -- returns-5
+    (λ c κs. search among_behind)  -- past-items-requires-2
+    (λ c. search among_ways)  -- returns-3
+    (λ c. search among_ways)  -- returns-4
+    (λ c. search among_ways)  -- returns-5
     )
-    (λ t. inside-lts.spec (inside-calls t) (inside-at t) inside.Post
+    (λ t. inside-lts.spec (inside_calls t) (inside-at t) inside.Post
     (λ c κs. search rules)  -- whole-requires
-    (λ c. search inside-ways)  -- returns
-    (λ c. search inside-ways)  -- returns-2
+    (λ c. search inside_ways)  -- returns
+    (λ c. search inside_ways)  -- returns-2
     (λ c κs. search rules)  -- read-head-requires
     (λ c. search rules)  -- enum-known-read
     (λ c. search rules)  -- enum-known-read-2
@@ -80,10 +80,10 @@ pub +among-inside-spec : {M : Type 1} → statement M
     (λ c. search rules)  -- part-among-end
     (λ c. search rules)  -- sub-among-2
     (λ c κs. (omega arith, search inside-room))  -- among-requires
-    (λ c. search inside-ways)  -- returns-3
-    (λ c. search inside-ways)  -- returns-4
-    (λ c. search inside-ways)  -- returns-5
-    (λ c. search inside-ways)  -- returns-6
+    (λ c. search inside_ways)  -- returns-3
+    (λ c. search inside_ways)  -- returns-4
+    (λ c. search inside_ways)  -- returns-5
+    (λ c. search inside_ways)  -- returns-6
     (λ c. search rules)  -- mul-among
     (λ c. search rules)  -- mul-among-2
     (λ c. search rules)  -- add-among
@@ -92,6 +92,6 @@ pub +among-inside-spec : {M : Type 1} → statement M
     (λ c. search rules)  -- part-among-end-2
     (λ c. search rules)  -- sub-among-4
     (λ c κs. (omega arith, search inside-room))  -- among-requires-2
-    (λ c. search inside-ways)  -- returns-7
-    (λ c. search inside-ways)  -- returns-8
+    (λ c. search inside_ways)  -- returns-7
+    (λ c. search inside_ways)  -- returns-8
     )

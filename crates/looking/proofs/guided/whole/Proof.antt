@@ -1,7 +1,7 @@
 -- `looking::guided::whole` meets its contract.
 -- Assumes nothing.
 use borrow.Author.Rules.{rules}
-use Rattle.looking.proofs.Guiding.{whole-ways}
+use Rattle.looking.proofs.Guiding.{whole_ways}
 use Rattle.looking.proofs.guided.whole.Statement.{statement}
 use Rattle.looking.proofs.guided.whole.Tie as tie
 
@@ -9,6 +9,6 @@ pub whole-spec : {M : Type 1} → statement M
 whole-spec =
     tie.close (tie.spec
     (λ c κs. search rules)  -- past-items-requires
-    (λ c. search whole-ways)  -- returns
-    (λ c. search whole-ways)  -- returns-2
+    (λ c. search whole_ways)  -- returns
+    (λ c. search whole_ways)  -- returns-2
     )

@@ -2,7 +2,7 @@
 -- Assumes nothing.
 use Rattle.path.proofs.Cursor.into.Statement.{statement}
 use Rattle.path.proofs.Cursor.into.Tie as tie
-use Rattle.path.proofs.Stepping.{into-room, value_room, into-ways}
+use Rattle.path.proofs.Stepping.{into-room, value_room, into_ways}
 use borrow.Author.Rules.{rules}
 
 pub into-spec : {M : Type 1} → statement M
@@ -13,13 +13,13 @@ into-spec =
     (λ c. search rules)  -- enum-known-read-2
     (λ c κs. search rules)  -- mode-of-requires
     (λ c κs. search into-room)  -- nth-requires
-    (λ c. search into-ways)  -- returns
-    (λ c. search into-ways)  -- returns-2
+    (λ c. search into_ways)  -- returns
+    (λ c. search into_ways)  -- returns-2
     (λ c κs. search into-room)  -- nth-requires-2
     (λ c. search rules)  -- enum-told
     (λ c. search rules)  -- enum-known-step
     (λ c κs. search value_room)  -- past-requires
-    (λ c. search into-ways)  -- returns-3
-    (λ c. search into-ways)  -- returns-4
-    (λ c. search into-ways)  -- returns-5
+    (λ c. search into_ways)  -- returns-3
+    (λ c. search into_ways)  -- returns-4
+    (λ c. search into_ways)  -- returns-5
     )

@@ -2,7 +2,7 @@
 -- Assumes nothing.
 use Rattle.path.proofs.Cursor.nth.Statement.{statement}
 use Rattle.path.proofs.Cursor.nth.Tie as tie
-use Rattle.path.proofs.Stepping.{nth-ways}
+use Rattle.path.proofs.Stepping.{nth_ways}
 use borrow.Author.Rules.{rules}
 
 pub nth-spec : {M : Type 1} → statement M
@@ -15,7 +15,7 @@ nth-spec =
     (λ c κs. search rules)  -- wide-requires
     (λ c κs. search rules)  -- behind-requires
     (λ c κs. search rules)  -- is-over-requires
-    (λ c. search nth-ways)  -- returns
-    (λ c. search nth-ways)  -- returns-2
-    (λ c. search nth-ways)  -- returns-3
+    (λ c. search nth_ways)  -- returns
+    (λ c. search nth_ways)  -- returns-2
+    (λ c. search nth_ways)  -- returns-3
     )

@@ -2,7 +2,7 @@
 -- Assumes nothing.
 use Rattle.path.proofs.Cursor.past.Statement.{statement}
 use Rattle.path.proofs.Cursor.past.Tie as tie
-use Rattle.path.proofs.Stepping.{past-ways}
+use Rattle.path.proofs.Stepping.{past_ways}
 use borrow.Author.Rules.{rules}
 
 pub past-spec : {M : Type 1} → statement M
@@ -15,6 +15,6 @@ past-spec =
     (λ c κs. search rules)  -- after-requires
     (λ c. search rules)  -- enum-known-part
     (λ c. search rules)  -- enum-known-part-2
-    (λ c. search past-ways)  -- returns
-    (λ c. search past-ways)  -- returns-2
+    (λ c. search past_ways)  -- returns
+    (λ c. search past_ways)  -- returns-2
     )

@@ -1,7 +1,7 @@
 -- `plain_leaf::integer::signed` meets its contract.
 -- Assumes nothing.
 use borrow.Author.Rules.{rules}
-use Rattle.plain_leaf.proofs.IntegerCode.{signed-ways}
+use Rattle.plain_leaf.proofs.IntegerCode.{signed_ways}
 use Rattle.plain_leaf.proofs.integer.signed.Statement.{statement}
 use Rattle.plain_leaf.proofs.integer.signed.Tie as tie
 
@@ -11,8 +11,8 @@ signed-spec =
     (λ c κs. search rules)  -- behind-sign-requires
     (λ c κs. search rules)  -- digit-at-requires
     (λ c κs. search rules)  -- nothing-requires
-    (λ c. search signed-ways)  -- returns
-    (λ c κs. search signed-ways)  -- integer-requires
+    (λ c. search signed_ways)  -- returns
+    (λ c κs. search signed_ways)  -- integer-requires
     (λ c. search rules)  -- same-length
     (λ c. search rules)  -- returns-2
     )

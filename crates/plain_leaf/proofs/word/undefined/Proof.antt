@@ -1,7 +1,7 @@
 -- `plain_leaf::word::undefined` meets its contract.
 -- Assumes nothing.
 use borrow.Author.Rules.{rules}
-use Rattle.plain_leaf.proofs.WordCode.{undefined-ways}
+use Rattle.plain_leaf.proofs.WordCode.{undefined_ways}
 use Rattle.plain_leaf.proofs.word.undefined.Statement.{statement}
 use Rattle.plain_leaf.proofs.word.undefined.Tie as tie
 
@@ -10,18 +10,18 @@ undefined-spec =
     tie.close (tie.spec
     (λ c. search rules)  -- sub-if1
     (λ c κs. search rules)  -- no-word-requires
-    (λ c. search undefined-ways)  -- returns
+    (λ c. search undefined_ways)  -- returns
     (λ c κs. search rules)  -- four-requires
     (λ c κs. search rules)  -- no-word-requires-2
-    (λ c. search undefined-ways)  -- returns-2
+    (λ c. search undefined_ways)  -- returns-2
     (λ c. search rules)  -- add-four
     (λ c κs. search rules)  -- four-requires-2
     (λ c κs. search rules)  -- no-word-requires-3
-    (λ c. search undefined-ways)  -- returns-3
+    (λ c. search undefined_ways)  -- returns-3
     (λ c. search rules)  -- add-next-is
     (λ c κs. search rules)  -- next-is-requires
     (λ c. search rules)  -- add-t8
-    (λ c. search undefined-ways)  -- returns-4
+    (λ c. search undefined_ways)  -- returns-4
     (λ c κs. search rules)  -- no-word-requires-4
-    (λ c. search undefined-ways)  -- returns-5
+    (λ c. search undefined_ways)  -- returns-5
     )

@@ -1,7 +1,7 @@
 -- `plain_string::string::hexadecimal` meets its contract.
 -- Assumes nothing.
 use borrow.Author.Rules.{rules}
-use Rattle.plain_string.proofs.StringCode.{hex-ways, hex-part}
+use Rattle.plain_string.proofs.StringCode.{hex_ways, hex-part}
 use Rattle.plain_string.proofs.string.hexadecimal.Statement.{statement}
 use Rattle.plain_string.proofs.string.hexadecimal.Tie as tie
 
@@ -12,20 +12,20 @@ hexadecimal-spec =
     (λ c κs. search rules)  -- hex-run-requires
     (λ c κs. search rules)  -- next-is-requires
     (λ c κs. search rules)  -- nothing-requires
-    (λ c. search hex-ways)  -- returns
+    (λ c. search hex_ways)  -- returns
     (λ c. search rules)  -- add-next-is
     (λ c κs. search rules)  -- next-is-requires-2
     (λ c κs. search rules)  -- nothing-requires-2
-    (λ c. search hex-ways)  -- returns-2
+    (λ c. search hex_ways)  -- returns-2
     (λ c. search rules)  -- sub-if3
     (λ c κs. search rules)  -- nothing-requires-3
-    (λ c. search hex-ways)  -- returns-3
+    (λ c. search hex_ways)  -- returns-3
     (λ c. search rules)  -- sub-n
     (λ c κs. search rules)  -- nothing-requires-4
-    (λ c. search hex-ways)  -- returns-4
+    (λ c. search hex_ways)  -- returns-4
     (λ c κs. search hex-part)  -- put-hex-requires
     (λ c. search rules)  -- add-leaf
     (λ c κs. search rules)  -- leaf-requires
     (λ c. search rules)  -- same-length
-    (λ c. search hex-ways)  -- returns-5
+    (λ c. search hex_ways)  -- returns-5
     )

@@ -1,12 +1,12 @@
 -- `plain_string::string::major_of` meets its contract.
 -- Assumes nothing.
-use Rattle.plain_string.proofs.StringCode.{major-ways}
+use Rattle.plain_string.proofs.StringCode.{major_ways}
 use Rattle.plain_string.proofs.string.major_of.Statement.{statement}
 use Rattle.plain_string.proofs.string.major_of.Tie as tie
 
 pub major-of-spec : {M : Type 1} → statement M
 major-of-spec =
     tie.close (tie.spec
-    (λ c. search major-ways)  -- returns
-    (λ c. search major-ways)  -- returns-2
+    (λ c. search major_ways)  -- returns
+    (λ c. search major_ways)  -- returns-2
     )

@@ -1,7 +1,7 @@
 -- `plain_string::string::pairs_behind` meets its contract.
 -- Assumes nothing.
 use borrow.Author.Rules.{rules}
-use Rattle.plain_string.proofs.StringCode.{pairs-lent}
+use Rattle.plain_string.proofs.StringCode.{pairs_lent}
 use Rattle.plain_string.proofs.string.pairs_behind.Statement.{statement}
 use Rattle.plain_string.proofs.string.pairs_behind.Tie as tie
 
@@ -14,5 +14,5 @@ pairs-behind-spec =
     (λ c. search rules)  -- part-put-pairs-end
     (λ c κs. search rules)  -- put-pairs-requires
     (λ c. search rules)  -- same-length
-    (λ c. search pairs-lent)  -- returns
+    (λ c. search pairs_lent)  -- returns
     )

@@ -1,13 +1,13 @@
 -- `scanning::run::text_block` meets its contract.
 -- Assumes nothing.
-use Rattle.scanning.proofs.RunCode.{firsts-start, firsts-on, firsts-end}
+use Rattle.scanning.proofs.RunCode.{firsts_start, firsts_on, firsts_end}
 use Rattle.scanning.proofs.run.text_block.Goals as goal
 
 pub loop-i-init : goal.loop-i-init
-loop-i-init c = search firsts-start
+loop-i-init c = search firsts_start
 
 pub loop-i-preserved : goal.loop-i-preserved
-loop-i-preserved c = search firsts-on
+loop-i-preserved c = search firsts_on
 
 pub returns : goal.returns
-returns c = search firsts-end
+returns c = search firsts_end

@@ -1,22 +1,22 @@
 -- `scanning::scan::comment` meets its contract.
 -- Assumes nothing.
-use Rattle.scanning.proofs.ScanCode.{comment-start, comment-on, comment-ways}
+use Rattle.scanning.proofs.ScanCode.{comment_start, comment_on, comment_ways}
 use Rattle.scanning.proofs.scan.comment.Goals as goal
 
 pub loop-at-init : goal.loop-at-init
-loop-at-init c = search comment-start
+loop-at-init c = search comment_start
 
 pub returns-then-text-stop : goal.returns-then-text-stop
-returns-then-text-stop c = search comment-ways
+returns-then-text-stop c = search comment_ways
 
 pub returns-then-b-end : goal.returns-then-b-end
-returns-then-b-end c = search comment-ways
+returns-then-b-end c = search comment_ways
 
 pub returns-then-not-in_comment : goal.returns-then-not-in_comment
-returns-then-not-in_comment c = search comment-ways
+returns-then-not-in_comment c = search comment_ways
 
 pub loop-at-preserved : goal.loop-at-preserved
-loop-at-preserved c = search comment-on
+loop-at-preserved c = search comment_on
 
 pub returns : goal.returns
-returns c = search comment-ways
+returns c = search comment_ways

@@ -3,7 +3,7 @@
 use borrow.Author.Rules.{rules}
 use Rattle.tokens.proofs.cut.cut.Statement.{statement}
 use Rattle.tokens.proofs.cut.cut.Tie as tie
-use Rattle.tokens.proofs.CutCode.{insides, cut-ways, cut-none}
+use Rattle.tokens.proofs.CutCode.{insides, cut_ways, cut-none}
 
 pub cut_spec : {M : Type 1} → statement M
 cut_spec =
@@ -35,23 +35,23 @@ cut_spec =
     (λ c κs. search rules)  -- made-requires-6
     (λ c κs. search rules)  -- refuse-requires
     (λ c κs. search rules)  -- refuse-requires-2
-    (λ c. search cut-ways)  -- returns
-    (λ c. search cut-ways)  -- returns-2
-    (λ c. search cut-ways)  -- returns-3
-    (λ c. search cut-ways)  -- returns-4
-    (λ c. search cut-ways)  -- returns-5
-    (λ c. search cut-ways)  -- returns-6
-    (λ c. search cut-ways)  -- returns-7
-    (λ c. search cut-ways)  -- returns-8
-    (λ c. search cut-ways)  -- returns-9
-    (λ c. search cut-ways)  -- returns-10
-    (λ c. search cut-ways)  -- returns-11
-    (λ c. search cut-ways)  -- returns-12
-    (λ c. search cut-ways)  -- returns-13
-    (λ c. search cut-ways)  -- returns-14
-    (λ c. search cut-ways)  -- returns-15
-    (λ c. search cut-ways)  -- returns-16
-    (λ c. search cut-ways)  -- returns-17
-    (λ c. search cut-ways)  -- returns-18
+    (λ c. search cut_ways)  -- returns
+    (λ c. search cut_ways)  -- returns-2
+    (λ c. search cut_ways)  -- returns-3
+    (λ c. search cut_ways)  -- returns-4
+    (λ c. search cut_ways)  -- returns-5
+    (λ c. search cut_ways)  -- returns-6
+    (λ c. search cut_ways)  -- returns-7
+    (λ c. search cut_ways)  -- returns-8
+    (λ c. search cut_ways)  -- returns-9
+    (λ c. search cut_ways)  -- returns-10
+    (λ c. search cut_ways)  -- returns-11
+    (λ c. search cut_ways)  -- returns-12
+    (λ c. search cut_ways)  -- returns-13
+    (λ c. search cut_ways)  -- returns-14
+    (λ c. search cut_ways)  -- returns-15
+    (λ c. search cut_ways)  -- returns-16
+    (λ c. search cut_ways)  -- returns-17
+    (λ c. search cut_ways)  -- returns-18
     (λ c. search cut-none)  -- returns-19
     )

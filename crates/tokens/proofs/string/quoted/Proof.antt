@@ -3,7 +3,7 @@
 use borrow.Author.Rules.{rules}
 use Rattle.tokens.proofs.string.quoted.Statement.{statement}
 use Rattle.tokens.proofs.string.quoted.Tie as tie
-use Rattle.tokens.proofs.StringCode.{scan-inside, quoted-good, quoted-wrong}
+use Rattle.tokens.proofs.StringCode.{scan_inside, quoted-good, quoted-wrong}
 
 pub quoted-spec : {M : Type 1} → statement M
 quoted-spec =
@@ -11,7 +11,7 @@ quoted-spec =
     (λ c. search rules)  -- add-at
     (λ c κs. search rules)  -- quote-of-requires
     (λ c κs. search rules)  -- scan-quoted-requires
-    (λ c κs. search scan-inside)  -- indicator-at-requires
+    (λ c κs. search scan_inside)  -- indicator-at-requires
     (λ c κs. search rules)  -- quoted-token-requires
     (λ c. search quoted-good)  -- returns
     (λ c κs. search rules)  -- refuse-requires

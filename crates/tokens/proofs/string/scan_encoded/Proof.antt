@@ -3,7 +3,7 @@
 use borrow.Author.Rules.{rules}
 use Rattle.tokens.proofs.string.scan_encoded.Statement.{statement}
 use Rattle.tokens.proofs.string.scan_encoded.Tie as tie
-use Rattle.tokens.proofs.StringCode.{content-hex, content-base64}
+use Rattle.tokens.proofs.StringCode.{content-hex, content_base64}
 
 pub scan-encoded-spec : {M : Type 1} → statement M
 scan-encoded-spec =
@@ -11,5 +11,5 @@ scan-encoded-spec =
     (λ c κs. search rules)  -- scan-hex-requires
     (λ c. search content-hex)  -- returns
     (λ c κs. search rules)  -- scan-base64-requires
-    (λ c. search content-base64)  -- returns-2
+    (λ c. search content_base64)  -- returns-2
     )
