@@ -4,24 +4,26 @@
 
 mod report;
 
-use libc::{STDIN_FILENO, STDOUT_FILENO};
-
-fn answer(bytes: &[u8]) {
+fn answer(rt: &HostRuntime, bytes: &[u8]) {
     let mut out = [0u8; 65535];
     let size = report::report_print(bytes, &mut out);
-    let is_written = streams::write_all(STDOUT_FILENO, report_lines::front(&out, size));
-    if !is_written {
-        os::fail(b"edn_print: standard output cannot be written");
+    let output = streams::write_all(&mut rt.stdout(), report_lines::front(&out, size));
+    if !output.is_whole {
+        streams::fail(
+            rt,
+            "edn_print: standard output cannot be written",
+            output.error,
+        );
     }
 }
 
-fn main() {
+fn main(rt: HostRuntime) {
     let mut bytes = io::large_buffer();
-    let input = streams::read_all(STDIN_FILENO, &mut bytes);
+    let input = streams::read_all(&mut rt.stdin(), &mut bytes);
     let n = input.size;
     if input.is_whole {
-        answer(&bytes[..n]);
+        answer(&rt, &bytes[..n]);
     } else {
-        os::fail(b"edn_print: standard input cannot be read");
+        streams::fail(&rt, "edn_print: standard input cannot be read", input.error);
     }
 }

@@ -4,24 +4,26 @@
 
 mod report;
 
-use libc::{STDIN_FILENO, STDOUT_FILENO};
-
-fn answer(text: &[u8]) {
+fn answer(rt: &HostRuntime, text: &[u8]) {
     let mut out = [0u8; 131090];
     let size = report::report_read(text, &mut out);
-    let is_written = streams::write_all(STDOUT_FILENO, report_lines::front(&out, size));
-    if !is_written {
-        os::fail(b"edn_read: standard output cannot be written");
+    let output = streams::write_all(&mut rt.stdout(), report_lines::front(&out, size));
+    if !output.is_whole {
+        streams::fail(
+            rt,
+            "edn_read: standard output cannot be written",
+            output.error,
+        );
     }
 }
 
-fn main() {
+fn main(rt: HostRuntime) {
     let mut text = io::large_buffer();
-    let input = streams::read_all(STDIN_FILENO, &mut text);
+    let input = streams::read_all(&mut rt.stdin(), &mut text);
     let n = input.size;
     if input.is_whole {
-        answer(&text[..n]);
+        answer(&rt, &text[..n]);
     } else {
-        os::fail(b"edn_read: standard input cannot be read");
+        streams::fail(&rt, "edn_read: standard input cannot be read", input.error);
     }
 }

@@ -19,6 +19,9 @@ pub struct Transfer {
     pub next: Next,
 }
 
+// Linux's number of the error that a signal came before a byte was moved, EINTR.
+const INTERRUPTED: i32 = 4;
+
 // What a call answered means, with errno.
 pub fn meaning(got: isize, error: i32) -> Transfer
     ensures { result ≡ transfer_of got error }
@@ -35,7 +38,7 @@ pub fn meaning(got: isize, error: i32) -> Transfer
             next: Next::Stop,
         };
     }
-    if error == libc::EINTR {
+    if error == INTERRUPTED {
         return Transfer {
             moved: 0,
             next: Next::CallAgain,

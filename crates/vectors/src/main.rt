@@ -7,7 +7,8 @@ mod run;
 
 ghost use Rattle.std.specs.Prelude.{◌≡◌, length};
 
-use libc::{STDIN_FILENO, STDOUT_FILENO};
+// The descriptor of standard output.
+const STDOUT: i32 = 1;
 
 // Room for the rows, and a byte more, which tells that there are too many.
 fn space() -> [u8; 131072]
@@ -17,16 +18,16 @@ fn space() -> [u8; 131072]
 }
 
 // Reads the rows, and runs them.
-fn main() {
+fn main(rt: HostRuntime) {
     let mut text = space();
-    let input = streams::read_all(STDIN_FILENO, &mut text);
+    let input = streams::read_all(&mut rt.stdin(), &mut text);
     let n = input.size;
     if !input.is_whole {
-        os::fail(b"vectors: standard input cannot be read");
+        streams::fail(&rt, "vectors: standard input cannot be read", input.error);
         return;
     }
     if 131071 < n {
-        io::write_all(STDOUT_FILENO, b"there are more rows than are read\n");
+        io::write_all(STDOUT, b"there are more rows than are read\n");
     }
     run::run_all(&text[..n]);
 }

@@ -1,17 +1,14 @@
 -- `streams::read_all` meets its contract.
 -- Assumes nothing.
-use borrow.Author.Rules.{rules}
-use Rattle.streams.proofs.Counting.{counted}
+use Rattle.std.proofs.Common.{rules}
+use Rattle.streams.proofs.Bytes.{read_on}
 use Rattle.streams.proofs.read_all.Goals as goal
 
-pub returns-then-done-buf : goal.returns-then-done-buf
-returns-then-done-buf c = counted _ (search rules)
+pub loop-calls-preserved : goal.loop-calls-preserved
+loop-calls-preserved g c = search (rules, read_on)
 
-pub returns-in-Stop : goal.returns-in-Stop
-returns-in-Stop c = counted _ (search rules)
+pub returns-in-Stop-clause-bytes : goal.returns-in-Stop-clause-bytes
+returns-in-Stop-clause-bytes g c = search (rules, read_on)
 
-pub returns-in-GiveUp : goal.returns-in-GiveUp
-returns-in-GiveUp c = counted _ (search rules)
-
-pub returns : goal.returns
-returns c = counted _ (search rules)
+pub returns-in-GiveUp-clause-bytes : goal.returns-in-GiveUp-clause-bytes
+returns-in-GiveUp-clause-bytes g c = search (rules, read_on)

@@ -12,8 +12,8 @@ returns-then-got-gt0 c = search meanings
 pub returns-then-got-eq0 : goal.returns-then-got-eq0
 returns-then-got-eq0 c = search meanings
 
-pub returns-then-error-eq-EINTR : goal.returns-then-error-eq-EINTR
-returns-then-error-eq-EINTR c = search meanings
+pub returns-then-error-eq-INTERRUPTED : goal.returns-then-error-eq-INTERRUPTED
+returns-then-error-eq-INTERRUPTED c = search meanings
 
 pub returns : goal.returns
 returns c = search meanings

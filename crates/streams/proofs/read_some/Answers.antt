@@ -1,7 +1,0 @@
--- `streams::read_some` meets its contract.
--- Assumes nothing.
-use Rattle.streams.proofs.Counting.{within}
-use Rattle.streams.proofs.read_some.Goals as goal
-
-pub returns : goal.returns
-returns c = search within
