@@ -1,5 +1,5 @@
 #!/usr/bin/env python3
-"""Spells the repository's own lemmas as today's Rattle does: run at the top, after respell.py; a second run changes nothing.
+"""Spells the repository's own lemmas as today's Rattle does: run once at the top, after respell.py.
 
 A dash joins two names of definitions, as in length-head_bytes; a plain word is added with an underscore, as in tally_start. What the check
 names (goals, steps, generated modules) and what a library names stays. A name that would fall together with another gets the ending _lem.

@@ -1,0 +1,10 @@
+-- `encoding::close::put_before` meets its contract.
+-- Assumes nothing.
+use Rattle.encoding.proofs.ReadSmall.{before_ways}
+use Rattle.encoding.proofs.close.put_before.Goals as goal
+
+pub returns-then-head-eq1 : goal.returns-then-head-eq1
+returns-then-head-eq1 c = search before_ways
+
+pub returns : goal.returns
+returns c = search before_ways
