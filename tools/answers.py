@@ -327,30 +327,30 @@ def turn_cycle(crate, path, names):
     if not m:
         return "no form that is known"
     unfolding = " ".join(m.group(2).split()[1:]) if m.group(2) else ""
-    aliases = dict((a, f) for f, a in re.findall(r"\.Lts-(\S+) as (\S+)-lts", text))
+    aliases = dict((a.replace("-", "_"), f) for f, a in re.findall(r"\.Lts-(\S+) as (\S+)-lts", text))
     head, body = text[: m.start()], text[m.end() :] + ")"
     uses = [l for l in re.sub(r"\{([^}]*)\}", lambda x: "{" + " ".join(x.group(1).split()) + "}", head).split("\n") if l.startswith("use ") and not DROPPED.match(l)]
     comment = [l for l in head.split("\n") if l.startswith("--")]
     hand, inv, out, kept, loops = [], [], [], [], {}
     for chunk in re.split(r"\n\n+", head):
-        d = re.match(r"abbrev μ-(\S+) : Measures.*?\nμ-\1 κs a =\s*(.*)$", chunk, re.S)
+        d = re.match(r"abbrev (μ[-_](\S+)) : Measures.*?\n\1 κs a =\s*(.*)$", chunk, re.S)
         if d:
-            function = aliases[d.group(1)]
+            function = aliases[d.group(2).replace("-", "_")]
             ps = parameters(crate, function)
-            rhs = re.sub(r"\ba((?:\.1)*)\.0\b", lambda x: f"l.{ps[x.group(1).count('.1')]}", d.group(2).strip())
+            rhs = re.sub(r"\ba((?:\.1)*)\.0\b", lambda x: f"l.{ps[x.group(1).count('.1')]}", d.group(3).strip())
             inv.append(f"abbrev pub decreases-{function} : goal.decreases-{function}\ndecreases-{function} l = {rhs}")
             continue
-        d = re.match(r"abbrev (\S+)-(Inv|μ)-(\S+) : \S+\n(?:unfolding [^\n]*\n)?\1-\2-\3 ([^=]*?) =\s*(.*)$", chunk, re.S)
+        d = re.match(r"abbrev ((\S+)[-_](Inv|μ)[-_](\S+)) : \S+\n(?:unfolding [^\n]*\n)?\1 ([^=]*?) =\s*(.*)$", chunk, re.S)
         if d:
-            loops.setdefault(aliases[d.group(1)], []).append((d.group(2), d.group(3), d.group(4).split(), d.group(5).strip()))
+            loops.setdefault(aliases[d.group(2).replace("-", "_")], []).append((d.group(3), d.group(4), d.group(5).split(), d.group(6).strip()))
             continue
-        if not re.match(r"use |--|abbrev \S+-(at|below|calls) |abbrev \S+_(at|below) |\s*$", chunk):
+        if not re.match(r"use |--|abbrev \S+[-_](at|below|calls|measure) |\s*$", chunk):
             kept.append(chunk.strip("\n"))
     for block, _ in blocks(body, 0)[0]:
         d = re.match(r"λ t\. (\S+)-lts\.spec", block)
         if not d:
             continue
-        function = aliases[d.group(1)]
+        function = aliases[d.group(1).replace("-", "_")]
         info = names[f"Rattle-{crate}-proofs.{rel}.Lts-{function}"]
         stem = info["stem"]
         for kind, loop, params, rhs in loops.get(function, []):

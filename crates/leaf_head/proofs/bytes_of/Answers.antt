@@ -1,0 +1,19 @@
+-- `leaf_head::bytes_of` meets its contract.
+-- Assumes nothing.
+use Rattle.leaf_head.proofs.HeadsCode.{bytes_ways}
+use Rattle.leaf_head.proofs.bytes_of.Goals as goal
+
+pub returns-in-0 : goal.returns-in-0
+returns-in-0 c = search bytes_ways
+
+pub returns-in-1 : goal.returns-in-1
+returns-in-1 c = search bytes_ways
+
+pub returns-in-2 : goal.returns-in-2
+returns-in-2 c = search bytes_ways
+
+pub returns-in-3 : goal.returns-in-3
+returns-in-3 c = search bytes_ways
+
+pub returns-in_default : goal.returns-in_default
+returns-in_default c = search bytes_ways

@@ -1,0 +1,19 @@
+-- `leaf_head::scale_of` meets its contract.
+-- Assumes nothing.
+use Rattle.leaf_head.proofs.HeadsCode.{scale_ways}
+use Rattle.leaf_head.proofs.scale_of.Goals as goal
+
+pub returns-in-0 : goal.returns-in-0
+returns-in-0 c = search scale_ways
+
+pub returns-in-1 : goal.returns-in-1
+returns-in-1 c = search scale_ways
+
+pub returns-in-2 : goal.returns-in-2
+returns-in-2 c = search scale_ways
+
+pub returns-in-3 : goal.returns-in-3
+returns-in-3 c = search scale_ways
+
+pub returns-in_default : goal.returns-in_default
+returns-in_default c = search scale_ways

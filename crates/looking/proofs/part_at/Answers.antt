@@ -1,0 +1,7 @@
+-- `looking::part_at` meets its contract.
+-- Assumes nothing.
+use Rattle.looking.proofs.Parts.{at_once}
+use Rattle.looking.proofs.part_at.Goals as goal
+
+pub returns-in-Found : goal.returns-in-Found
+returns-in-Found c = search at_once

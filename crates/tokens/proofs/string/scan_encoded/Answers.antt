@@ -1,0 +1,10 @@
+-- `tokens::string::scan_encoded` meets its contract.
+-- Assumes nothing.
+use Rattle.tokens.proofs.StringCode.{content-hex, content_base64}
+use Rattle.tokens.proofs.string.scan_encoded.Goals as goal
+
+pub returns-then-form-eq-HEX : goal.returns-then-form-eq-HEX
+returns-then-form-eq-HEX c = search content-hex
+
+pub returns : goal.returns
+returns c = search content_base64
