@@ -372,7 +372,8 @@ def turn_cycle(crate, path, names):
             term = turn_paths(term, info, hand)
             parts, clauses = split(term), asked_fields(crate, function, info, old, new)
             uf = f"unfolding {unfolding}\n" if unfolding else ""
-            if parts and len(parts) == len(clauses) and new.startswith("returns"):
+            callee = re.sub(r"-requires(-\d+)?$", "", old)
+            if parts and len(parts) == len(clauses) and callee not in aliases.values():
                 term = "record { " + "; ".join(f"{c} = {p}" for c, p in zip(clauses, parts)) + " }"
             out.append(f"pub {stem}{new} : goal.{stem}{new}\n{uf}{stem}{new} t c = {term}")
     module = f"Rattle.{crate}.proofs.{rel}"

@@ -1,0 +1,1 @@
+use Rattle.printing.proofs.+pass_large.Goals as goal
