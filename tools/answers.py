@@ -344,7 +344,7 @@ def turn_cycle(crate, path, names):
         if d:
             loops.setdefault(aliases[d.group(2).replace("-", "_")], []).append((d.group(3), d.group(4), d.group(5).split(), d.group(6).strip()))
             continue
-        if not re.match(r"use |--|abbrev \S+[-_](at|below|calls|measure) |\s*$", chunk):
+        if not re.match(r"use |--|abbrev \S+[-_](at|below|calls|measure)(_lem)? |\s*$", chunk):
             kept.append(chunk.strip("\n"))
     for block, _ in blocks(body, 0)[0]:
         d = re.match(r"λ t\. (\S+)-lts\.spec", block)

@@ -1,6 +1,5 @@
 -- The cycle of readers meets its contracts.
 -- Assumes nothing.
-use Prim.Native.Nat.{ℕ}
 use borrow.Author.Rules.{rules}
 use native.Mathlib.Omega.{arith}
 use Rattle.encoding.proofs.Telling.{made_inside}
@@ -9,9 +8,6 @@ use Rattle.reader.proofs.ReadContainers.{array_ways, map_ways, embed_ways, tag_w
 use Rattle.reader.proofs.ReadSeveral.{several_ways, several-start, several-place, several-room, several-count, several-fits, several-same, several_less, several-on}
 use Rattle.reader.proofs.+array_embed_enter_item_level_map_seldom_several_tag.Goals as goal
 
-abbrev enter_at_lem : ℕ → In 2 enter-kinds.ps
-enter_at_lem t = and 2 enter-kinds.ps (is 2 enter-kinds.ps μ_enter t) enter.Pre
-
 pub array-overflow_add-pos : goal.array-overflow_add-pos
 array-overflow_add-pos t c = search bracket-fits
 
@@ -19,7 +15,7 @@ pub array-several-a-requires : goal.array-several-a-requires
 array-several-a-requires t c = (omega arith, search bracket-room)
 
 pub array-finish_short-requires : goal.array-finish_short-requires
-array-finish_short-requires t c = (search heavy_4, search short-few)
+array-finish_short-requires t c = record { heavy = search heavy_4; few = search short-few }
 
 pub array-returns-then-is_short : goal.array-returns-then-is_short
 array-returns-then-is_short t c = search array_ways
@@ -46,7 +42,7 @@ pub embed-several-a-requires : goal.embed-several-a-requires
 embed-several-a-requires t c = (omega arith, search embed_room)
 
 pub embed-enclose-requires : goal.embed-enclose-requires
-embed-enclose-requires t c = (search embed_heavy, search embed_light)
+embed-enclose-requires t c = record { heavy = search embed_heavy; light = search embed_light }
 
 pub embed-returns-in-Refused : goal.embed-returns-in-Refused
 embed-returns-in-Refused t c = search embed_ways
@@ -55,7 +51,7 @@ pub embed-returns-in-Made : goal.embed-returns-in-Made
 embed-returns-in-Made t c = search embed_ways
 
 pub enter-opens_bare-requires : goal.enter-opens_bare-requires
-enter-opens_bare-requires t c = (search level-skips, search room-inside)
+enter-opens_bare-requires t c = record { skips = search level-skips; from_in_bounds = search room-inside }
 
 pub enter-overflow_add-at : goal.enter-overflow_add-at
 enter-overflow_add-at t c = record { fits = omega (arith, c.opens_bare.ensures.inside c.if-opens_bare.true) }
@@ -70,7 +66,7 @@ pub enter-returns-then-opens_bare : goal.enter-returns-then-opens_bare
 enter-returns-then-opens_bare t c = search bare_ways
 
 pub enter-opens_bare-requires-2 : goal.enter-opens_bare-requires-2
-enter-opens_bare-requires-2 t c = (search level-skips, search room-inside)
+enter-opens_bare-requires-2 t c = record { skips = search level-skips; from_in_bounds = search room-inside }
 
 pub enter-overflow_add-at-then-opens_bare-2 : goal.enter-overflow_add-at-then-opens_bare-2
 enter-overflow_add-at-then-opens_bare-2 t c = record { fits = omega (arith, c.opens_bare-2.ensures.inside c.if-opens_bare-2.true) }
@@ -94,7 +90,7 @@ pub item-returns-then-is_leaf : goal.item-returns-then-is_leaf
 item-returns-then-is_leaf t c = search item-leaf
 
 pub item-flat-requires : goal.item-flat-requires
-item-flat-requires t c = (search flat_deep, search rules)
+item-flat-requires t c = record { flat = search flat_deep; room = search rules }
 
 pub item-returns-then-levels-eq0 : goal.item-returns-then-levels-eq0
 item-returns-then-levels-eq0 t c = search item_deep
@@ -106,7 +102,7 @@ pub item-returns : goal.item-returns
 item-returns t c = search item-whole
 
 pub level-opening_at-o-requires : goal.level-opening_at-o-requires
-level-opening_at-o-requires t c = (search level_open, search room-inside)
+level-opening_at-o-requires t c = record { opened = search level_open; from_in_bounds = search room-inside }
 
 pub level-overflow_sub-levels : goal.level-overflow_sub-levels
 level-overflow_sub-levels t c = search level-some
@@ -133,7 +129,7 @@ pub level-embed-requires : goal.level-embed-requires
 level-embed-requires t c = (omega arith, search open_rooms)
 
 pub level-flat-requires : goal.level-flat-requires
-level-flat-requires t c = (flat_opening c.opening_at-o.ensures (search rules), search rules)
+level-flat-requires t c = record { flat = flat_opening c.opening_at-o.ensures (search rules); room = search rules }
 
 pub level-returns-in-Array : goal.level-returns-in-Array
 level-returns-in-Array t c = search level_ways
@@ -157,7 +153,7 @@ pub map-several-a-requires : goal.map-several-a-requires
 map-several-a-requires t c = (omega arith, search bracket-room)
 
 pub map-finish_short-requires : goal.map-finish_short-requires
-map-finish_short-requires t c = (search heavy_5, search short-few)
+map-finish_short-requires t c = record { heavy = search heavy_5; few = search short-few }
 
 pub map-returns-then-is_short : goal.map-returns-then-is_short
 map-returns-then-is_short t c = search map_ways
