@@ -1,6 +1,6 @@
 # The library for programs in C: builds and installs it, runs the example, measures the stack.
 #
-#   make                  proves the library and builds libedn_c.a (`rt staticlib edn_c`: some minutes, once);
+#   make                  proves the library and builds libedn_c.a (`rt lib`, in crates/edn_c: some minutes, once);
 #                         EDN_LIB_DIR=FOLDER takes the libedn_c.a of that folder, and needs no toolchain but C's
 #   make install          edn.h, libedn_c.a and edn.pc to PREFIX (/usr/local), under DESTDIR
 #   make uninstall        removes these three files
@@ -24,7 +24,8 @@ endif
 
 made = target/c
 header = include/edn.h
-archive = $(if $(EDN_LIB_DIR),$(EDN_LIB_DIR),target/staticlib)/libedn_c.a
+library = crates/edn_c
+archive = $(if $(EDN_LIB_DIR),$(EDN_LIB_DIR),$(library)/out)/libedn_c.a
 
 include_dir = $(DESTDIR)$(PREFIX)/include
 lib_dir = $(DESTDIR)$(PREFIX)/lib
@@ -32,14 +33,13 @@ pc_dir = $(lib_dir)/pkgconfig
 
 all: $(archive)
 
-# What is hidden is no source: editors have their locks and swap files beside one.
-sources = crates.txt $(shell find crates -name '.*' -prune -o -type f -print)
+# What `rt` makes, in the folder out of each crate, is no source. Nor is what is hidden: editors have their locks and swap files beside one.
+sources = crates.txt $(shell find $(filter-out %/out,$(wildcard crates/*/*)) -name '.*' -prune -o -type f -print)
 
-# `rt` does not prove again what is proved, and leaves an archive as it is that would not change: hence the touch.
+# `rt` does not prove again what is proved. Without --cpu the code would be for newer processors only.
 ifeq ($(EDN_LIB_DIR),)
 $(archive): $(sources)
-	rt staticlib edn_c
-	@touch $@
+	cd $(library) && rt lib --cpu=x86-64
 endif
 
 # The version is said once, in the header.

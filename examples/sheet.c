@@ -1,7 +1,7 @@
 /* Reads a sheet, corrects one item of it, and prints it. Build and run, in the repository (`make example` does it too):
  *
- *   rt staticlib edn_c
- *   cc -std=c99 -Wall -Wextra -Werror -pedantic -I include examples/sheet.c target/staticlib/libedn_c.a -o target/sheet
+ *   (cd crates/edn_c && rt lib --cpu=x86-64)
+ *   cc -std=c99 -Wall -Wextra -Werror -pedantic -I include examples/sheet.c crates/edn_c/out/libedn_c.a -o target/sheet
  *   target/sheet
  *
  * or, where the library is installed:

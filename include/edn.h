@@ -1,7 +1,7 @@
 /* Data sheets in CBOR diagnostic notation: read, print, look up, correct, check.
  *
- * Link with libedn_c.a: `make install`, then `pkg-config --cflags --libs edn`; or name the archive itself, which `rt staticlib edn_c` writes to
- * target/staticlib/libedn_c.a. The functions in it are proved (crates/edn_c): for every input, good or bad, what they return and every element
+ * Link with libedn_c.a: `make install`, then `pkg-config --cflags --libs edn`; or name the archive itself, which `make` leaves in
+ * crates/edn_c/out/libedn_c.a. The functions in it are proved (crates/edn_c): for every input, good or bad, what they return and every element
  * of what they may write are those of a definition; none needs the heap, keeps anything between calls, or fails otherwise than by the codes
  * below. They call nothing but memcpy and memset, which a C compiler asks of every program. How much stack they use stands at EDN_STACK_READ.
  *

@@ -1,5 +1,5 @@
-//! Links the proved library, libedn_c.a: one that EDN_LIB_DIR names a folder of, or one that `rt staticlib edn_c` proves and builds in the
-//! repository. What is proved once is kept, and not proved again.
+//! Links the proved library, libedn_c.a: one that EDN_LIB_DIR names a folder of, or one that `rt lib` proves and builds in the repository, in
+//! the folder of the crate edn_c. What is proved once is kept, and not proved again.
 #[path = "build/kept.rs"]
 mod kept;
 #[path = "build/object.rs"]
@@ -75,8 +75,8 @@ fn proved() -> Result<Archive, String> {
     if let Some(archive) = again() {
         return Ok(archive);
     }
-    toolchain::prove(repository.root(), repository.needed().len())?;
-    let from = repository.root().join("target/staticlib").join(ARCHIVE);
+    toolchain::prove(&repository)?;
+    let from = repository.library().join(repository::MADE).join(ARCHIVE);
     let bytes = fs::read(&from).map_err(|e| format!("{} cannot be read: {e}", from.display()))?;
     // what was changed meanwhile may or may not be in the archive
     if repository.sources(&toolchain)? == sources {

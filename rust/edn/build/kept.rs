@@ -14,7 +14,7 @@ pub struct Kept {
 
 impl Kept {
     /// In cargo's target folder, which all profiles share: `target/edn_c` beside `target/debug/build/edn-.../out`, where a folder named by the
-    /// target may stand between. `rt ci`, which removes the repository's own target folder, leaves it alone.
+    /// target may stand between. `rt ci`, which removes what `rt lib` made, leaves it alone.
     pub fn beside(out_dir: &Path, target: &str) -> Kept {
         let profile = out_dir.ancestors().find(|folder| folder.ends_with("build")).and_then(Path::parent);
         let shared = profile.and_then(Path::parent).unwrap_or(out_dir);

@@ -1,5 +1,7 @@
 //! How far the proof is, said where somebody can see it: cargo shows what a build script writes only where it fails or with -vv, so the terminal
 //! that cargo itself writes to is told directly.
+use crate::repository::Repository;
+use std::collections::BTreeSet;
 use std::fs::File;
 use std::io::Write;
 use std::sync::LazyLock;
@@ -38,28 +40,32 @@ fn terminal_of_cargo() -> Option<File> {
     None
 }
 
-pub struct Progress {
+pub struct Progress<'a> {
     started: Instant,
-    crates: usize,
-    proved: usize,
+    repository: &'a Repository,
+    /// The crate that `rt` has looked at last, whose verdict comes next.
+    looked_at: Option<String>,
+    proved: BTreeSet<String>,
 }
 
-impl Progress {
-    pub fn begin(crates: usize) -> Progress {
-        say(&format!("edn: proving the library, {crates} crates, before it is built: 4 to 9 minutes on two quiet cores, and once"));
-        Progress { started: Instant::now(), crates, proved: 0 }
+impl Progress<'_> {
+    pub fn begin(repository: &Repository) -> Progress<'_> {
+        let crates = repository.needed().len();
+        say(&format!("edn: proving the library, {crates} crates, before it is built: some minutes, and once"));
+        Progress { started: Instant::now(), repository, looked_at: None, proved: BTreeSet::new() }
     }
 
-    /// Looks at a line of `rt`: it writes one as each crate is proved.
+    /// Looks at a line of `rt`: of each crate that it has to prove it writes some. Of those that are proved already it writes nothing; but
+    /// what a proved crate stands on is proved.
     pub fn see(&mut self, line: &str) {
-        if let Some(name) = proved(line) {
-            self.proved += 1;
-            say(&format!(
-                "edn: proving the library, {} of {} crates ({name}), {}",
-                self.proved,
-                self.crates,
-                clock(self.started.elapsed())
-            ));
+        if let Some(name) = looked_at(line) {
+            self.looked_at = Some(name.to_string());
+        } else if line.starts_with(PROVED) {
+            if let Some(name) = self.looked_at.take() {
+                self.proved.extend(self.repository.with_those_below(&name));
+                let (proved, crates) = (self.proved.len(), self.repository.needed().len());
+                say(&format!("edn: proving the library, {proved} of {crates} crates ({name}), {}", clock(self.started.elapsed())));
+            }
         }
     }
 
@@ -68,9 +74,12 @@ impl Progress {
     }
 }
 
-/// The crate that a line says is proved: `rt: tokens proved (18 s)`.
-fn proved(line: &str) -> Option<&str> {
-    line.strip_prefix("rt: ")?.split_once(" proved (").map(|(name, _)| name)
+/// How the verdict on a crate that is proved begins.
+const PROVED: &str = "logic=proved ";
+
+/// The crate that a line before a verdict names: `crate tokens: modules loaded=0 checked=71`.
+fn looked_at(line: &str) -> Option<&str> {
+    line.strip_prefix("crate ")?.split_once(": modules ").map(|(name, _)| name)
 }
 
 fn clock(passed: Duration) -> String {

@@ -9,9 +9,12 @@ use std::path::{Path, PathBuf};
 const LIBRARY: &str = "edn_c";
 /// A line for each crate: its name, and all that it stands on.
 const LIST: &str = "crates.txt";
+/// The folder that `rt` makes in a crate's.
+pub const MADE: &str = "out";
 
 pub struct Repository {
     root: PathBuf,
+    listed: String,
     needed: Vec<String>,
 }
 
@@ -25,12 +28,18 @@ impl Repository {
             )
         })?;
         let root = root.canonicalize().map_err(|e| format!("{}: {e}", root.display()))?;
-        let needed = needed(&root, &listed);
-        Ok(Repository { root, needed })
+        let needed = with_those_below(LIBRARY, &root, &listed);
+        Ok(Repository { root, listed, needed })
     }
 
-    pub fn root(&self) -> &Path {
-        &self.root
+    /// The folder of a crate.
+    fn folder(&self, name: &str) -> PathBuf {
+        self.root.join("crates").join(name)
+    }
+
+    /// The folder of the library's crate.
+    pub fn library(&self) -> PathBuf {
+        self.folder(LIBRARY)
     }
 
     /// The library's crate and those that it stands on.
@@ -38,11 +47,20 @@ impl Repository {
         &self.needed
     }
 
-    /// Has cargo run this again where something has changed.
+    /// A crate and those that it stands on.
+    pub fn with_those_below(&self, name: &str) -> Vec<String> {
+        with_those_below(name, &self.root, &self.listed)
+    }
+
+    /// Has cargo run this again where something has changed. Cargo looks through all of a folder, so those are named that stand in a crate's,
+    /// and not the crate's own, in which `rt` makes another.
     pub fn watch(&self) {
         println!("cargo:rerun-if-changed={}", self.root.join(LIST).display());
         for name in &self.needed {
-            println!("cargo:rerun-if-changed={}", self.root.join("crates").join(name).display());
+            let folder = self.folder(name);
+            for part in parts(&folder).unwrap_or_else(|_| vec![folder]) {
+                println!("cargo:rerun-if-changed={}", part.display());
+            }
         }
     }
 
@@ -51,7 +69,9 @@ impl Repository {
     pub fn sources(&self, toolchain: &str) -> Result<Vec<u8>, String> {
         let mut files = vec![self.root.join(LIST)];
         for name in &self.needed {
-            add_files(&self.root.join("crates").join(name), &mut files).map_err(|e| format!("the crate {name} cannot be read: {e}"))?;
+            let parts = parts(&self.folder(name));
+            let added = parts.and_then(|parts| parts.into_iter().try_for_each(|part| add_files(part, &mut files)));
+            added.map_err(|e| format!("the crate {name} cannot be read: {e}"))?;
         }
         files.sort();
         let mut record = (files.len() as u64).to_le_bytes().to_vec();
@@ -82,35 +102,47 @@ fn put(record: &mut Vec<u8>, bytes: &[u8]) {
     record.extend_from_slice(bytes);
 }
 
-/// All but what is hidden: the locks and swap files that editors have beside a source are none.
-fn add_files(folder: &Path, files: &mut Vec<PathBuf>) -> io::Result<()> {
+/// What stands in the folder of a crate, but what `rt` makes there.
+fn parts(folder: &Path) -> io::Result<Vec<PathBuf>> {
+    let mut parts = shown(folder)?;
+    parts.retain(|part| part.file_name() != Some(OsStr::new(MADE)));
+    Ok(parts)
+}
+
+/// A file, or all in a folder that are not hidden.
+fn add_files(part: PathBuf, files: &mut Vec<PathBuf>) -> io::Result<()> {
+    if !part.is_dir() {
+        files.push(part);
+        return Ok(());
+    }
+    shown(&part)?.into_iter().try_for_each(|part| add_files(part, files))
+}
+
+/// What stands in a folder and is not hidden: the locks and swap files that editors have beside a source are none.
+fn shown(folder: &Path) -> io::Result<Vec<PathBuf>> {
+    let mut shown = Vec::new();
     for entry in fs::read_dir(folder)? {
         let entry = entry?;
-        if is_hidden(&entry.file_name()) {
-            continue;
-        }
-        let path = entry.path();
-        if path.is_dir() {
-            add_files(&path, files)?;
-        } else {
-            files.push(path);
+        if !is_hidden(&entry.file_name()) {
+            shown.push(entry.path());
         }
     }
-    Ok(())
+    Ok(shown)
 }
 
 fn is_hidden(name: &OsStr) -> bool {
     name.as_encoded_bytes().starts_with(b".")
 }
 
-/// `edn_c` and all that it stands on, by the list; what has no folder here comes with the toolchain.
-fn needed(root: &Path, listed: &str) -> Vec<String> {
-    let mut names = vec![LIBRARY.to_string()];
+/// A crate and all that it stands on, by the list, in which words about a crate may stand behind its name, as `edn_c staticlib: ..`; what has
+/// no folder here comes with the toolchain.
+fn with_those_below(name: &str, root: &Path, listed: &str) -> Vec<String> {
+    let mut names = vec![name.to_string()];
     let mut i = 0;
     while i < names.len() {
         for line in listed.lines() {
-            let Some((name, others)) = line.split('#').next().and_then(|line| line.split_once(':')) else { continue };
-            if name.trim() != names[i] {
+            let Some((about, others)) = line.split('#').next().and_then(|line| line.split_once(':')) else { continue };
+            if about.split_whitespace().next() != Some(&names[i]) {
                 continue;
             }
             for other in others.split_whitespace() {

@@ -1,13 +1,15 @@
 //! `rt`, the Rattle toolchain: what it is, and the run that proves and builds the library.
 use crate::progress::Progress;
+use crate::repository::Repository;
 use std::env;
 use std::io::{self, BufRead, BufReader, Read};
-use std::path::Path;
 use std::process::{Command, Stdio};
 use std::sync::mpsc::{channel, Sender};
 use std::thread;
 
 const TOOLCHAIN: &str = "rt";
+/// In the folder of a static library: proves and builds it, for every x86-64 processor. Without the flag it would be for newer ones only.
+const BUILD: [&str; 2] = ["lib", "--cpu=x86-64"];
 
 /// What the toolchain says of itself. Cargo is told to ask again where the file is another.
 pub fn version() -> Result<String, String> {
@@ -26,17 +28,18 @@ fn cannot_run(e: &io::Error) -> String {
     format!("`rt`, the Rattle toolchain, cannot be run ({e}); put it on the path, or set EDN_LIB_DIR to a folder with libedn_c.a")
 }
 
-/// Proves and builds the library, and says how far it is. Where that fails, the answer has all that `rt` wrote.
-pub fn prove(root: &Path, crates: usize) -> Result<(), String> {
+/// Proves and builds the library, and what it stands on before it, and says how far it is. Where that fails, the answer has all that `rt` wrote.
+pub fn prove(repository: &Repository) -> Result<(), String> {
+    let folder = repository.library();
     let mut child = Command::new(TOOLCHAIN)
-        .args(["staticlib", "edn_c"])
-        .current_dir(root)
+        .args(BUILD)
+        .current_dir(&folder)
         .stdin(Stdio::null())
         .stdout(Stdio::piped())
         .stderr(Stdio::piped())
         .spawn()
         .map_err(|e| cannot_run(&e))?;
-    let mut progress = Progress::begin(crates);
+    let mut progress = Progress::begin(repository);
     let (sender, lines) = channel();
     // both are read as they come: neither may fill up while the other is waited for
     let readers = [forward(child.stdout.take(), sender.clone()), forward(child.stderr.take(), sender)];
@@ -50,7 +53,7 @@ pub fn prove(root: &Path, crates: usize) -> Result<(), String> {
     }
     let status = child.wait().map_err(|e| cannot_run(&e))?;
     if !status.success() {
-        return Err(format!("`rt staticlib edn_c` failed in {} ({status}):\n{written}", root.display()));
+        return Err(format!("`{TOOLCHAIN} {}` failed in {} ({status}):\n{written}", BUILD.join(" "), folder.display()));
     }
     progress.end();
     Ok(())

@@ -4,7 +4,7 @@ mod support;
 use edn::Kind;
 use std::path::{Path, PathBuf};
 use std::process::Command;
-use support::{archive_folder, is_there, package, root, run, run_to_fail, Folder, ARCHIVE};
+use support::{archive_folder, copy_crates, is_there, package, root, run, run_to_fail, Folder, ARCHIVE};
 
 const WARNINGS: [&str; 6] = ["-Wall", "-Wextra", "-Wpedantic", "-Wconversion", "-Wshadow", "-Werror"];
 /// The compilers, and the languages that each is asked for.
@@ -177,11 +177,14 @@ fn make_refuses_a_folder_with_a_blank() {
 /// The repository may stand in a folder with a blank, and be installed to one.
 #[test]
 fn make_works_in_a_folder_with_a_blank() {
-    let folder = Folder::new("blank-above");
+    let folder = Folder::of_a_repository("blank-above");
     let there = folder.path("a folder");
     std::fs::create_dir(&there).unwrap();
-    let parts = ["Makefile", "edn.pc.in", "include", "examples", "crates.txt", "crates"];
+    let parts = ["Makefile", "edn.pc.in", "include", "examples", "crates.txt"];
     run(Command::new("cp").arg("-r").args(parts.map(|f| root().join(f))).arg(&there));
+    let crates: Vec<String> =
+        std::fs::read_dir(root().join("crates")).unwrap().map(|e| e.unwrap().file_name().into_string().unwrap()).collect();
+    copy_crates(crates.iter().map(String::as_str), &there);
     let mut make = Command::new("make");
     make.arg("-C").arg(&there).args(["example", "install", "DESTDIR=to here"]);
     run(make.env("EDN_LIB_DIR", archive_folder()).env_remove("MAKEFLAGS"));

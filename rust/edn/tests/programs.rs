@@ -8,13 +8,16 @@ use std::process::{Command, Output, Stdio};
 use std::sync::OnceLock;
 use support::{package, root};
 
-/// A program, proved and linked where that is not done yet.
+/// A program, proved and linked where that is not done yet. `rt run` does so, and runs it too: here on an empty input.
 fn program(name: &str) -> PathBuf {
     static BUILT: OnceLock<()> = OnceLock::new();
+    let folder = |name: &str| root().join("crates").join(name);
     BUILT.get_or_init(|| {
-        support::run(Command::new("rt").args(["check", "edn_read", "edn_print"]).current_dir(root()));
+        for name in ["edn_read", "edn_print"] {
+            support::run(Command::new("rt").arg("run").current_dir(folder(name)).stdin(Stdio::null()));
+        }
     });
-    root().join("target/bin").join(name)
+    folder(name).join("out").join(name)
 }
 
 /// What makes read and write fail: tests/faults/faults.c.

@@ -8,7 +8,7 @@ use std::path::PathBuf;
 use std::process::{Command, Stdio};
 use std::thread::sleep;
 use std::time::Duration;
-use support::{cargo, package, root, run, run_to_fail, written, Folder, ARCHIVE};
+use support::{cargo, package, root, run, run_for_messages, run_to_fail, written, Folder, ARCHIVE};
 
 /// A small repository with this package in it, and a toolchain that counts its runs and hands out the archive that these tests have.
 struct Pretended {
@@ -18,31 +18,48 @@ struct Pretended {
 /// Files that stand beside it say how it runs.
 const PRETENDED_RT: &str = r#"#!/bin/sh
 here='HERE'
-case "$1" in
-version) cat "$here/version" ;;
-staticlib)
+case "$* in $(basename "$PWD")" in
+version\ *) cat "$here/version" ;;
+lib\ --cpu=x86-64\ in\ edn_c)
     echo run >> "$here/runs"
-    echo 'note: nothing was lowered'
-    echo 'rt: tiny proved (1 s)'
+    mkdir -p ../tiny/out/rlib out/incremental
+    date > ../tiny/out/rlib/stamp
+    date > out/incremental/made.antt
+    echo 'only=0 proved=0'
+    echo 'rt: chose --jobs 2 for tiny'
+    echo 'fn tiny::first: proved'
+    echo 'statements std: modules loaded=21 checked=0'
+    echo 'crate tiny: modules loaded=0 checked=20'
+    echo 'logic=proved functions=1 sum=0123456789abcdef native=nat,char,string'
     if [ -f "$here/slow" ]; then sleep 2; fi
     if [ -f "$here/fails" ]; then
-        echo 'fn edn_c::edn_read: NOT proved'
+        echo 'note: src/lib.rt:6:1: it is not proved that what the function ensures holds when it returns (`returns`)'
+        echo 'fn edn_c::edn_read: not proved'
+        echo 'crate edn_c: modules loaded=0 checked=34'
+        echo 'logic=not-proved'
         echo 'the reason why' >&2
         exit 1
     fi
-    echo 'rt: small proved (unchanged since it was last proved)'
-    mkdir -p target/staticlib
-    cp 'ARCHIVE' target/staticlib/libedn_c.a
-    echo 'rt: target/staticlib/libedn_c.a has the functions of edn_c that are marked #[no_mangle] pub extern "C"' ;;
+    echo 'library tiny: modules loaded=20 checked=0'
+    echo 'crate small: modules loaded=20 checked=0'
+    echo 'logic=proved functions=3 sum=0123456789abcdef native=nat,char,string'
+    echo 'library tiny: modules loaded=20 checked=0'
+    echo 'library small: modules loaded=20 checked=0'
+    echo 'crate edn_c: modules loaded=0 checked=34'
+    echo 'axioms std: none reached of the 2 declared'
+    echo 'logic=proved functions=5 target=x86_64-unknown-linux-gnu sum=0123456789abcdef native=nat,char,string'
+    cp 'ARCHIVE' out/libedn_c.a ;;
+*) exit 2 ;;
 esac
 "#;
 
 impl Pretended {
     fn new(name: &str) -> Pretended {
-        let folder = Folder::new(name);
-        folder.write("repository/crates.txt", "# a comment\ntiny:\nsmall: tiny # another\nedn_c: tiny small io\nother: tiny\n");
+        let folder = Folder::of_a_repository(name);
+        folder.write("repository/crates.txt", "# a comment\ntiny:\nsmall: tiny # another\nedn_c staticlib: tiny small io\nother: tiny\n");
         for name in ["tiny", "small", "edn_c", "other"] {
             folder.write(&format!("repository/crates/{name}/src/lib.rt"), name);
+            folder.write(&format!("repository/crates/{name}/specs/Lib.antt"), "");
         }
         let there = folder.path("repository/rust/edn");
         fs::create_dir_all(&there).unwrap();
@@ -125,7 +142,9 @@ fn proves_once_what_does_not_change() {
     run(&mut p.cargo(&["build", "--release"]));
     assert_eq!(p.runs(), 1, "the other profile has what the first one proved");
 
-    fs::remove_dir_all(p.folder.path("repository/target")).unwrap();
+    for name in ["tiny", "edn_c"] {
+        fs::remove_dir_all(p.folder.path(&format!("repository/crates/{name}/out"))).unwrap();
+    }
     p.change("crates/tiny/src/lib.rt", "tiny");
     run(&mut p.cargo(&["build"]));
     assert_eq!(p.runs(), 1, "nor is it proved again after what `rt` made is gone, or where a file is written as it was");
@@ -149,6 +168,39 @@ fn proves_again_what_changes() {
     p.folder.write("rt/rt", fs::read_to_string(p.folder.path("rt/rt")).unwrap() + "# newer\n");
     run(&mut p.cargo(&["build"]));
     assert_eq!(p.runs(), 4, "another toolchain");
+}
+
+/// `rt` makes a folder in each crate's; what it leaves there is not even looked at.
+#[test]
+fn what_the_toolchain_makes_is_no_source() {
+    let p = Pretended::new("makes");
+    run(&mut p.cargo(&["build"]));
+    assert_eq!(p.names_kept(), ["proved"], "no source was changed meanwhile");
+    let said = run_for_messages(&mut p.cargo(&["build"]));
+    assert!(!said.contains("Compiling"), "{said}");
+    p.change("crates/tiny/out/incremental/made.antt", "made by another run");
+    p.change("crates/small/out/rlib/stamp", "made by another run");
+    let said = run_for_messages(&mut p.cargo(&["build"]));
+    assert!(!said.contains("Compiling"), "{said}");
+    assert_eq!(p.runs(), 1);
+
+    // what is named as that folder, and stands deeper, is a source
+    p.change("crates/tiny/specs/out/More.antt", "");
+    run(&mut p.cargo(&["build"]));
+    assert_eq!(p.runs(), 2);
+}
+
+#[test]
+fn what_the_toolchain_makes_is_no_source_for_make() {
+    let p = Pretended::new("make-makes");
+    let mut make = p.make();
+    run(&mut make);
+    p.change("crates/tiny/out/incremental/made.antt", "made by another run");
+    run(&mut make);
+    assert_eq!(p.runs(), 1);
+    p.change("crates/tiny/specs/out/More.antt", "");
+    run(&mut make);
+    assert_eq!(p.runs(), 2);
 }
 
 #[test]
@@ -184,7 +236,7 @@ fn make_proves_what_changes() {
     run(&mut make);
     run(&mut make);
     assert_eq!(p.runs(), 1);
-    assert_eq!(fs::read(p.folder.path("repository/target/staticlib/libedn_c.a")).unwrap(), fs::read(ARCHIVE).unwrap());
+    assert_eq!(fs::read(p.folder.path("repository/crates/edn_c/out/libedn_c.a")).unwrap(), fs::read(ARCHIVE).unwrap());
     p.change("crates/tiny/src/lib.rt", "tinY");
     run(&mut make);
     assert_eq!(p.runs(), 2);
@@ -280,7 +332,13 @@ fn a_failing_proof_shows_all_that_was_written() {
     let p = Pretended::new("fails");
     p.folder.write("rt/fails", "");
     let said = run_to_fail(&mut p.cargo(&["build"]));
-    for line in ["`rt staticlib edn_c` failed in ", "note: nothing was lowered", "fn edn_c::edn_read: NOT proved", "the reason why"] {
+    for line in [
+        "`rt lib --cpu=x86-64` failed in ",
+        "crates/edn_c (",
+        "note: src/lib.rt:6:1: it is not",
+        "fn edn_c::edn_read: not proved",
+        "the reason why",
+    ] {
         assert!(said.contains(line), "{said}");
     }
     // and nothing is kept of it
@@ -289,10 +347,11 @@ fn a_failing_proof_shows_all_that_was_written() {
     assert_eq!(p.runs(), 2);
 }
 
-const SHOWN: [&str; 4] = [
-    "edn: proving the library, 3 crates, before it is built: 4 to 9 minutes",
+const SHOWN: [&str; 5] = [
+    "edn: proving the library, 3 crates, before it is built: some minutes",
     "edn: proving the library, 1 of 3 crates (tiny), ",
     "edn: proving the library, 2 of 3 crates (small), ",
+    "edn: proving the library, 3 of 3 crates (edn_c), ",
     "edn: the library is proved and built, ",
 ];
 

@@ -29,7 +29,15 @@ pub struct Folder(PathBuf);
 
 impl Folder {
     pub fn new(name: &str) -> Folder {
-        let path = Path::new(env!("CARGO_TARGET_TMPDIR")).join(format!("{name}-{}", std::process::id()));
+        Folder::at(Path::new(env!("CARGO_TARGET_TMPDIR")).join(format!("{name}-{}", std::process::id())))
+    }
+
+    /// A folder for crates and their list. It stands outside of this repository, where `rt ci` takes no other list than the one at the top.
+    pub fn of_a_repository(name: &str) -> Folder {
+        Folder::at(std::env::temp_dir().join(format!("edn-{name}-{}", std::process::id())))
+    }
+
+    fn at(path: PathBuf) -> Folder {
         let _ = fs::remove_dir_all(&path);
         fs::create_dir_all(&path).unwrap();
         Folder(path)
@@ -67,12 +75,31 @@ pub fn run(command: &mut Command) -> String {
     String::from_utf8(o.stdout).unwrap()
 }
 
+/// Runs a program that must succeed, and answers what it wrote on standard error.
+#[track_caller]
+pub fn run_for_messages(command: &mut Command) -> String {
+    let o = command.output().unwrap_or_else(|e| panic!("{command:?}: {e}"));
+    assert!(o.status.success(), "{command:?}\n{}", written(&o));
+    String::from_utf8(o.stderr).unwrap()
+}
+
 /// Runs a program that must fail, and answers what it wrote.
 #[track_caller]
 pub fn run_to_fail(command: &mut Command) -> String {
     let o = command.output().unwrap_or_else(|e| panic!("{command:?}: {e}"));
     assert!(!o.status.success(), "{command:?} succeeded\n{}", written(&o));
     written(&o)
+}
+
+/// Copies crates of the repository, without what `rt` made of them. It may make more meanwhile, so that is not even looked at.
+pub fn copy_crates<'a>(names: impl IntoIterator<Item = &'a str>, to: &Path) {
+    for name in names {
+        let there = to.join("crates").join(name);
+        fs::create_dir_all(&there).unwrap();
+        let parts = fs::read_dir(root().join("crates").join(name)).unwrap().map(|e| e.unwrap());
+        let parts = parts.filter(|e| e.file_name() != "out").map(|e| e.path());
+        run(Command::new("cp").arg("-r").args(parts).arg(there));
+    }
 }
 
 /// Whether a program is there to be run.
