@@ -1,6 +1,6 @@
 # The library for programs in C: builds and installs it, runs the example, measures the stack.
 #
-#   make                  proves the library and builds libedn_c.a (`rt lib`, in crates/edn_c: some minutes, once);
+#   make                  proves the library and builds libedn_c.a (`rt lib`, in crates/edn_c: many minutes, once);
 #                         EDN_LIB_DIR=FOLDER takes the libedn_c.a of that folder, and needs no toolchain but C's
 #   make install          edn.h, libedn_c.a and edn.pc to PREFIX (/usr/local), under DESTDIR
 #   make uninstall        removes these three files

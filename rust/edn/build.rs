@@ -85,14 +85,14 @@ fn proved() -> Result<Archive, String> {
     Ok(Archive { bytes, from })
 }
 
-/// `rt` builds for one kind of machine only.
+/// It is proved and built for one kind of machine only; an archive for another can be given.
 fn for_this_target() -> Result<(), String> {
     let wanted = [("CARGO_CFG_TARGET_ARCH", "x86_64"), ("CARGO_CFG_TARGET_OS", "linux"), ("CARGO_CFG_TARGET_POINTER_WIDTH", "64")];
     if wanted.iter().all(|(name, value)| setting(name) == *value) {
         return Ok(());
     }
     Err(format!(
-        "`rt`, the Rattle toolchain, builds the library for x86-64 Linux, and this build is for {target}; \
+        "the library is proved and built here for x86-64 Linux, and this build is for {target}; \
          set EDN_LIB_DIR to a folder with a {ARCHIVE} that was built for {target}",
         target = setting("TARGET")
     ))

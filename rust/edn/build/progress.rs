@@ -51,7 +51,7 @@ pub struct Progress<'a> {
 impl Progress<'_> {
     pub fn begin(repository: &Repository) -> Progress<'_> {
         let crates = repository.needed().len();
-        say(&format!("edn: proving the library, {crates} crates, before it is built: some minutes, and once"));
+        say(&format!("edn: proving the library, {crates} crates, before it is built: many minutes, and once"));
         Progress { started: Instant::now(), repository, looked_at: None, proved: BTreeSet::new() }
     }
 

@@ -348,7 +348,7 @@ fn a_failing_proof_shows_all_that_was_written() {
 }
 
 const SHOWN: [&str; 5] = [
-    "edn: proving the library, 3 crates, before it is built: some minutes",
+    "edn: proving the library, 3 crates, before it is built: many minutes",
     "edn: proving the library, 1 of 3 crates (tiny), ",
     "edn: proving the library, 2 of 3 crates (small), ",
     "edn: proving the library, 3 of 3 crates (edn_c), ",
