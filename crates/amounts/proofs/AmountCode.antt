@@ -1,16 +1,17 @@
 -- Digits and amounts: what the code knows at each return and each turn of a loop, and that this is what the definitions say.
 -- Assumes nothing.
-use mathlib.Core.Path.{◌≡◌, refl, sym, ap, ◌∙◌}
+use mathlib.Core.Path.{◌≡◌, refl, sym, subst, ap, ◌∙◌}
 use mathlib.Core.List.{List, [], ◌∷◌, ◌++◌}
+use mathlib.Core.Logic.{◌⊎◌, inl, inr}
 use mathlib.Core.Bool.{Bool, true, false, ◌&&◌, ◌||◌}
-use Prim.Native.Nat.{ℕ, ◌+◌, ◌-◌, ◌*◌, ◌≤◌, ◌<◌, min}
+use Prim.Native.Nat.{ℕ, ◌+◌, ◌-◌, ◌*◌, ◌≤◌, ◌<◌}
 use native.Mathlib.Nat.{le-div_iff_mul-le, div-lt_iff_lt-mul, mul-le-mul_left, add-mul, one-mul}
 use native.Mathlib.Omega.{arith}
-use lib.Dec.{T, leb, eqb}
+use lib.Dec.{leb, ltb, eqb}
 use lib.ListN.{length, drop, get_or}
 use mir.Syntax.{w64 as bits64}
 use mir.Val.{Fits}
-use borrow.Author.Tests.{le-leb, lt-leb, leb-true, leb-false, ne_eqb}
+use borrow.Author.Tests.{le-leb, lt-leb, leb-true, leb-false, le-ltb, ne_eqb}
 use Rattle.cbor.specs.Widths.{w8, limit}
 use Rattle.cbor.specs.Utf8.{is_in}
 use Rattle.notation.specs.Numbers.{digit_value, is_digit, number_from, makes_float, is_floating}
@@ -19,7 +20,6 @@ use Rattle.scanning.specs.Stands.{span}
 use Rattle.literal_body.specs.LiteralAnswers.{digit_number}
 use Rattle.amounts.specs.AmountAnswers.{heavy, Counts, Base, bound64, Grown, float_at, ScansDigits, Counted}
 use Rattle.amounts.specs.declared.Amount.{Amount}
-use Rattle.literal_body.proofs.MatchCode.{arm}
 use Rattle.literal_body.proofs.LiteralCode.{digit-yes, digit-no, digit-number}
 use Rattle.scanning.proofs.Marked.{length_marked, at_byte, byte_at, at-end, past_end, span_none, span_more, Running, run-start, run_step, run_stop, run_end}
 
@@ -35,28 +35,12 @@ same_test a b c d f g = go (leb a b) refl
         less true q l = let m = g (leb-true c d q) in absurd (omega arith)
         less false q l = leb-false c d q
 
--- the table of bounds: each row is tested, and that no radix lacks one
-abbrev pub radixes : List ℕ
-radixes = 2 ∷ 3 ∷ 4 ∷ 5 ∷ 6 ∷ 7 ∷ 8 ∷ 9 ∷ 10 ∷ 11 ∷ 12 ∷ 13 ∷ 14 ∷ 15 ∷ 16 ∷ []
-
--- 0 outside of 2 to 16, and nowhere else
-unfoldable pub served : ℕ → ℕ
-served k = min (k - 1) (17 - k)
-
-module _ {radix r : ℕ} where
-  pub bound_row : {k : ℕ} → radix ≡ k → T (eqb r (bound64 k)) → r ≡ bound64 radix
-  bound_row e t = arm bound64 e t
-
-  pub bound_none : 0 ≡ served radix → 2 ≤ radix → radix ≤ 16 → r ≡ bound64 radix
-  unfolding served
-  bound_none e l m = absurd (omega arith)
-
 module _ {radix d : ℕ} (v : ℕ) (base : Base radix d) {b : ℕ} (e : b ≡ bound64 radix) where
-  pub limit-over : b < v → false ≡ leb (v * radix + d) (limit w8)
+  pub limit-over : b < v → leb v b ≡ leb (v * radix + d) (limit w8)
   unfolding bound64 limit
   limit-over h =
       let l = (div-lt_iff_lt-mul {k = radix} {x = 0xffff_ffff_ffff_ffff} {y = v} (omega (arith, base.least))).0 (rw (sym e) h) in
-      sym (lt-leb (v * radix + d) 0xffff_ffff_ffff_ffff (omega arith))
+      lt-leb v b h ∙ sym (lt-leb (v * radix + d) 0xffff_ffff_ffff_ffff (omega arith))
 
   module _ (h : v ≤ b) where
     pub limit_sub : v * radix ≤ 0xffff_ffff_ffff_ffff
@@ -71,18 +55,9 @@ module _ {radix d : ℕ} (v : ℕ) (base : Base radix d) {b : ℕ} (e : b ≡ bo
     limit_is = same_test d (0xffff_ffff_ffff_ffff - v * radix) (v * radix + d) 0xffff_ffff_ffff_ffff (λ l. omega (arith, limit_sub)) (λ l. omega (arith, limit_sub))
 
 module _ {radix d : ℕ} (v : ℕ) (base : Base radix d) where
-  pub base_less : Base radix (d - 1)
-  base_less = record { least = base.least; most = base.most; digit = omega (arith, base.digit) }
-
-  pub base_last : Base radix (radix - 1)
-  base_last = record { least = base.least; most = base.most; digit = omega (arith, base.least) }
-
   pub nearly_digit : (t : Bool) → 0 < d → t ≡ leb (v * radix + (d - 1)) (limit w8) → t ≡ leb (v * radix + d) 0x1_0000_0000_0000_0000
   unfolding limit
   nearly_digit t h e = e ∙ same_test (v * radix + (d - 1)) 0xffff_ffff_ffff_ffff (v * radix + d) 0x1_0000_0000_0000_0000 (λ l. omega arith) (λ l. omega arith)
-
-  pub nearly_none : d ≤ 0 → v ≡ 0 → true ≡ leb (v * radix + d) 0x1_0000_0000_0000_0000
-  nearly_none h e = sym (le-leb (v * radix + d) 0x1_0000_0000_0000_0000 (rw e (omega arith)))
 
   pub nearly_zero : (t : Bool) → d ≤ 0 → (v ≡ 0 → ⊥) → t ≡ leb ((v - 1) * radix + (radix - 1)) (limit w8) → t ≡ leb (v * radix + d) 0x1_0000_0000_0000_0000
   unfolding limit
@@ -142,12 +117,6 @@ module _ (a : Amount) {radix d : ℕ} (base : Base radix d) where
     sure_within : a.value * radix + d ≤ 0xffff_ffff_ffff_ffff
     sure_within = omega (arith, mul-le-mul_left a.value base.most, base.digit, base.most)
 
-    pub sure_mul : Fits bits64 (a.value * radix)
-    sure_mul = record { fits = omega (arith, sure_within) }
-
-    pub sure_add : Fits bits64 (a.value * radix + d)
-    sure_add = record { fits = omega (arith, sure_within) }
-
     pub sure_grown : a.over ≡ false → Grown a radix d (record { value = a.value * radix + d; over = false })
     unfolding limit
     sure_grown e = grow_fits e true (sym (le-leb (a.value * radix + d) 0xffff_ffff_ffff_ffff sure_within)) refl
@@ -180,9 +149,6 @@ module _ {s : List ℕ} {i radix first : ℕ} where
       }
 
   module _ {at : ℕ} {a : Amount} (m : Tallying s i radix first at a) where
-    pub tally_base : {d : ℕ} → d < radix → Base radix d
-    tally_base h = record { least = m.least; most = m.most; digit = h }
-
     module _ {d : ℕ} (h : at < length s) (e : d ≡ digit_number (get_or s at 0)) where
       pub tally_step : {a' : Amount} → d < radix → Grown a radix d a' → Tallying s i radix first (at + 1) a'
       unfolding is_floating
@@ -209,37 +175,25 @@ module _ {s : List ℕ} {i radix first : ℕ} where
           let t = digit-no radix (get_or s at 0) l' in
           record { ran = run_stop s (is_digit radix) i m.running h t; counts = m.counts; floats = m.floats ∙ (rw (at_byte s at h) (rw (t, is_floating))) }
 
-    pub tally_end : length s ≤ at → Counted s i radix first (record { amount = a; next = at })
+    pub tally_end : length s ≤ at → Counted s i radix first (record { amount = a; next = length s })
     unfolding is_digit is_floating float_at is_in
     tally_end l =
         let e : at ≡ length s = omega (arith, m.running.inside) in
-        record { ran = run_end s (is_digit radix) i m.running l refl; counts = m.counts; floats = m.floats ∙ (rw (at-end s at e)) }
+        subst (λ (k : ℕ). Counted s i radix first (record { amount = a; next = k })) e (record { ran = run_end s (is_digit radix) i m.running l refl; counts = m.counts; floats = m.floats ∙ (rw (at-end s at e)) })
 
 -- FLOATS
 module _ (radix b : ℕ) where
-  pub float_ten_dot : radix ≡ 10 → b ≡ 0x2e → true ≡ makes_float radix b
+  pub float_ten : radix ≡ 10 → (b ≡ 0x2e) ⊎ ((b ≡ 0x45) ⊎ (b ≡ 0x65)) → true ≡ makes_float radix b
   unfolding makes_float
-  float_ten_dot e f = rw (e, f)
+  float_ten e (inl f) = rw (e, f)
+  float_ten e (inr (inl f)) = rw (e, f)
+  float_ten e (inr (inr f)) = rw (e, f)
 
-  pub float_ten_small : radix ≡ 10 → b ≡ 0x65 → true ≡ makes_float radix b
+  pub float_sixteen : radix ≡ 16 → (b ≡ 0x2e) ⊎ ((b ≡ 0x50) ⊎ (b ≡ 0x70)) → true ≡ makes_float radix b
   unfolding makes_float
-  float_ten_small e f = rw (e, f)
-
-  pub float_ten_capital : radix ≡ 10 → b ≡ 0x45 → true ≡ makes_float radix b
-  unfolding makes_float
-  float_ten_capital e f = rw (e, f)
-
-  pub float_sixteen_dot : radix ≡ 16 → b ≡ 0x2e → true ≡ makes_float radix b
-  unfolding makes_float
-  float_sixteen_dot e f = rw (e, f)
-
-  pub float_sixteen_small : radix ≡ 16 → b ≡ 0x70 → true ≡ makes_float radix b
-  unfolding makes_float
-  float_sixteen_small e f = rw (e, f)
-
-  pub float_sixteen_capital : radix ≡ 16 → b ≡ 0x50 → true ≡ makes_float radix b
-  unfolding makes_float
-  float_sixteen_capital e f = rw (e, f)
+  float_sixteen e (inl f) = rw (e, f)
+  float_sixteen e (inr (inl f)) = rw (e, f)
+  float_sixteen e (inr (inr f)) = rw (e, f)
 
   pub float_ten_none : radix ≡ 10 → (b ≡ 0x2e → ⊥) → (b ≡ 0x65 → ⊥) → (b ≡ 0x45 → ⊥) → false ≡ makes_float radix b
   unfolding makes_float
@@ -257,11 +211,9 @@ module _ (radix b : ℕ) where
       go true = refl
       go false = refl
 
-pub ruleset float_ways = (float_ten_dot, float_ten_small, float_ten_capital, float_sixteen_dot, float_sixteen_small, float_sixteen_capital, float_ten_none, float_sixteen_none, float-other)
-
-pub float-end : (s : List ℕ) (at radix : ℕ) → length s ≤ at → false ≡ float_at radix (drop at (marked s))
+pub float-end : (s : List ℕ) (at radix : ℕ) → length s ≤ at → ltb at (length s) ≡ float_at radix (drop at (marked s))
 unfolding float_at makes_float
-float-end s at radix h = go (leb at (length s)) refl
+float-end s at radix h = le-ltb at (length s) h ∙ go (leb at (length s)) refl
   where
     none : (u v : Bool) → false ≡ ((false && (u || v)) || ((u && (false || false)) || (v && (false || false))))
     none true true = refl

@@ -31,6 +31,7 @@ pub fn digit_value(b: u8) -> u64
 }
 
 // The largest number that is in 64 bits when it is multiplied by the radix: stored for each radix, so that the test of the limit divides nothing.
+#[tactic(auto, unfolding(crate::specs::AmountAnswers::bound64, cbor::specs::Widths::limit))]
 fn bound(radix: u64) -> u64
     requires le_radix { 2 ≤ radix }
     requires radix_bound { radix ≤ 16 }
@@ -61,10 +62,7 @@ fn fits(value: u64, radix: u64, d: u64) -> bool
     requires { Base radix d }
     ensures { result ≡ leb (value * radix + d) (limit w8) }
 {
-    if bound(radix) < value {
-        return false;
-    }
-    d <= 0xffff_ffff_ffff_ffff - value * radix
+    value <= bound(radix) && d <= u64::MAX - value * radix
 }
 
 // Whether it is at most 2^64.
@@ -75,40 +73,27 @@ fn nearly(value: u64, radix: u64, d: u64) -> bool
     if 0 < d {
         return fits(value, radix, d - 1);
     }
-    if value == 0 {
-        return true;
-    }
-    fits(value - 1, radix, radix - 1)
+    value == 0 || fits(value - 1, radix, radix - 1)
 }
 
 fn grow(a: Amount, radix: u64, d: u64) -> Amount
     requires { Base radix d }
     ensures { Grown a radix d result }
 {
-    let value = a.value;
-    let over = a.over;
-    if over {
-        return Amount {
-            value: 1,
-            over: true,
-        };
+    let over = true;
+    if a.over {
+        return Amount { value: 1, over };
     }
-    if fits(value, radix, d) {
+    if fits(a.value, radix, d) {
         return Amount {
-            value: value * radix + d,
+            value: a.value * radix + d,
             over: false,
         };
     }
-    if nearly(value, radix, d) {
-        return Amount {
-            value: 0,
-            over: true,
-        };
+    if nearly(a.value, radix, d) {
+        return Amount { value: 0, over };
     }
-    Amount {
-        value: 1,
-        over: true,
-    }
+    Amount { value: 1, over }
 }
 
 // With a number up to this one, a digit more is in 64 bits in every radix.
@@ -119,16 +104,11 @@ fn with_digit(a: Amount, radix: u64, d: u64) -> Amount
     requires { Base radix d }
     ensures { Grown a radix d result }
 {
-    let value = a.value;
-    if SURE < value {
-        return grow(a, radix, d);
-    }
-    let over = a.over;
-    if over {
+    if SURE < a.value || a.over {
         return grow(a, radix, d);
     }
     Amount {
-        value: value * radix + d,
+        value: a.value * radix + d,
         over: false,
     }
 }
@@ -138,50 +118,36 @@ pub fn count_digits(text: &[u8], from: usize, radix: u64, first: u64) -> Digits
     requires { ScansDigits text.now from radix first }
     ensures { Counted text.now from radix first result }
 {
-    let mut at = from;
     let mut amount = Amount {
         value: first,
         over: false,
     };
-    while at < text.len() {
-        let d = digit_value(text[at]);
+    for next in from..text.len() {
+        let d = digit_value(text[next]);
         if radix <= d {
-            return Digits { amount, next: at };
+            return Digits { amount, next };
         }
         amount = with_digit(amount, radix, d);
-        at += 1;
     }
-    Digits { amount, next: at }
+    Digits {
+        amount,
+        next: text.len(),
+    }
 }
 
 fn makes_float(radix: u64, b: u8) -> bool
     ensures { result ≡ makes_float radix b }
 {
-    if radix == 10 {
-        return match b {
-            0x2e => true,
-            0x65 => true,
-            0x45 => true,
-            _ => false,
-        };
+    match radix {
+        10 => matches!(b, b'.' | b'e' | b'E'),
+        16 => matches!(b, b'.' | b'p' | b'P'),
+        _ => false,
     }
-    if radix == 16 {
-        return match b {
-            0x2e => true,
-            0x70 => true,
-            0x50 => true,
-            _ => false,
-        };
-    }
-    false
 }
 
 // Whether what stands at a place makes a float of the digits before it.
 pub fn floats(text: &[u8], at: usize, radix: u64) -> bool
     ensures { result ≡ float_at radix (drop at (marked text.now)) }
 {
-    if text.len() <= at {
-        return false;
-    }
-    makes_float(radix, text[at])
+    at < text.len() && makes_float(radix, text[at])
 }

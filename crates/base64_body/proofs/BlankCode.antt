@@ -3,11 +3,10 @@
 use mathlib.Core.Path.{◌≡◌, refl, sym, ap, ◌∙◌}
 use mathlib.Core.List.{List, [], ◌∷◌, ◌++◌, append-nil}
 use mathlib.Core.Bool.{Bool, true, false}
-use Prim.Native.Nat.{ℕ, ◌+◌, ◌-◌, ◌≤◌, ◌<◌}
+use Prim.Native.Nat.{ℕ, ◌+◌, ◌≤◌, ◌<◌}
 use native.Mathlib.Omega.{arith}
 use lib.Dec.{leb}
 use lib.ListN.{length, get_or}
-use mir.Val as Bits
 use borrow.Author.Tests.{leb-true, leb-false}
 use Rattle.notation.specs.Classes.{blank, is}
 use Rattle.notation.specs.Literals.{stands_for, Sextet, sextet_at, sextets, base64_from}
@@ -21,6 +20,8 @@ use Rattle.notation_theorems.proofs.SoundContent.{sextet-fits}
 use Rattle.literal_body.proofs.ReadingCode.{span-step, span-over}
 use Rattle.base64_quantum.proofs.QuantumCode.{counted, full_is}
 use Rattle.base64_body.proofs.GroupCode.{sextet-back, flow_bad}
+use Rattle.std.specs.Prelude.{None, Some}
+use Rattle.std.proofs.lemmas.Option.{none-some, same_Some}
 
 -- LETTERS, BLANKS BETWEEN
 
@@ -29,22 +30,10 @@ pub record Passed (s : List ℕ) (stop from at : ℕ) : Type 0 where
   pub ahead : from ≤ at
 
 module _ {s : List ℕ} {stop from : ℕ} where
-  pub blanks_start : Passed s stop from from
-  blanks_start = record { same = refl; ahead = omega arith }
-
   module _ {at : ℕ} (inv : Passed s stop from at) (i : Within s from stop) where
-    module _ {t : Bool} (l : at < stop) (x : t ≡ is blank (get_or s at 0)) where
-      pub blanks_on : t ≡ true → Passed s stop from (at + 1)
-      unfolding sextets
-      blanks_on e = record { same = inv.same ∙ ap sextets (span-step s at stop l i.inside) ∙ rw (sym x ∙ e, sextets); ahead = omega (arith, inv.ahead) }
-
-      pub blanks_stop : t ≡ false → Blanks s stop from at
-      blanks_stop e = record { same = inv.same; ahead = inv.ahead; inside = omega arith; letter = λ h. sym x ∙ e }
-
-    pub blanks_end : at ≤ stop → stop ≤ at → Blanks s stop from at
-    blanks_end h l = record { same = inv.same; ahead = inv.ahead; inside = h; letter = λ k. absurd (omega arith) }
-
-pub ruleset blanks_ways = (blanks_stop, blanks_end)
+    pub blanks_on : {t : Bool} → at < stop → t ≡ is blank (get_or s at 0) → t ≡ true → Passed s stop from (at + 1)
+    unfolding sextets
+    blanks_on l x e = record { same = inv.same ∙ ap sextets (span-step s at stop l i.inside) ∙ rw (sym x ∙ e, sextets); ahead = omega (arith, inv.ahead) }
 
 letter_at : {s : List ℕ} {stop from i v : ℕ} → stop ≤ length s → Blanks s stop from i → i < stop → v ≡ sextet_number (sextet_at (get_or s i 0)) → sextets (span from stop s) ≡ sextet_of v ∷ sextets (span (i + 1) stop s)
 unfolding sextets
@@ -100,7 +89,7 @@ pub ruleset letters_ways = (letters_none, letters_one, letters_two, letters_thre
 -- THE LAST LETTERS
 
 module _ {s : List ℕ} {stop : ℕ} (g : Group) {q : ℕ} (w : Within s g.next stop) (x : Blanks s stop g.next q) where
-  pub ending_more : q < stop → Ending s stop g 4
+  pub ending_more : q < stop → Ending s stop g None
   unfolding waits base64_from full_size sextets
   ending_more h =
       record {
@@ -111,9 +100,9 @@ module _ {s : List ℕ} {stop : ℕ} (g : Group) {q : ℕ} (w : Within s g.next 
             (λ j. base64_from (counted g 4 e j ++ y j))
             ∙ full_is g (base64_from (sextet_at (get_or s q 0) ∷ sextets (span (q + 1) stop s)))
             ∙ ap (λ (k : ℕ). flowing k g (base64_from (sextet_at (get_or s q 0) ∷ sextets (span (q + 1) stop s)))) z
-            ∙ flow_bad 4 g (base64_from (sextet_at (get_or s q 0) ∷ sextets (span (q + 1) stop s))) (omega arith)
-            ∙ sym (flow_bad 4 g (stands_for []) (omega arith));
-        short = λ k. absurd (omega arith);
+            ∙ flow_bad 4 g (base64_from (sextet_at (get_or s q 0) ∷ sextets (span (q + 1) stop s))) (omega arith);
+        most = λ k u. absurd (none-some k u);
+        short = λ k u. absurd (none-some k u);
       }
     where
       four_of : g.count ≤ 4 → (g.count < 4 → stop ≤ g.next) → g.count ≡ 4
@@ -123,12 +112,26 @@ module _ {s : List ℕ} {stop : ℕ} (g : Group) {q : ℕ} (w : Within s g.next 
           go true p = let l = leb-true 4 g.count p in omega arith
           go false p = let l = f (leb-false 4 g.count p) in absurd (omega (arith, x.ahead))
 
-  pub ending_last : {r : ℕ} → stop ≤ q → Last g r → Ending s stop g r
-  unfolding sextets
-  ending_last h y =
-      record {
-        is = λ m f n. ap (λ (u : List Sextet). base64_from (waiting_of g ++ u)) (x.same ∙ ap sextets (span-over s q stop h)) ∙ ap base64_from (append-nil (waiting_of g)) ∙ y.is m;
-        short = y.short;
-      }
+  module _ (h : stop ≤ q) {r : ℕ} (y : Last g r) where
+    last_is : g.count ≤ 4 → base64_from (waiting_of g ++ sextets (span g.next stop s)) ≡ flowing r g (stands_for [])
+    unfolding sextets
+    last_is m = ap (λ (u : List Sextet). base64_from (waiting_of g ++ u)) (x.same ∙ ap sextets (span-over s q stop h)) ∙ ap base64_from (append-nil (waiting_of g)) ∙ y.is m
 
-pub ruleset ending_ways = (ending_more, ending_last)
+    pub ending_wrong : 4 ≤ r → Ending s stop g None
+    ending_wrong l =
+        record {
+          is = λ m f n. last_is m ∙ flow_bad r g (stands_for []) (omega arith);
+          most = λ k u. absurd (none-some k u);
+          short = λ k u. absurd (none-some k u);
+        }
+
+    pub ending_last : r < 4 → Ending s stop g (Some r)
+    ending_last l =
+        let l' : r ≤ 3 = omega arith in
+        record {
+          is = λ m f n. last_is m;
+          most = λ k u. rw (← same_Some r k u) l';
+          short = λ k u m. rw (← same_Some r k u) (y.short l' m);
+        }
+
+pub ruleset ending_ways = (ending_more, ending_wrong, ending_last)

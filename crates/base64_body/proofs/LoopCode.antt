@@ -1,30 +1,27 @@
 -- The loop over a base64 text: what its functions find is what the text stands for.
 -- Assumes nothing.
-use mathlib.Core.Path.{◌≡◌, sym, ap, ◌∙◌}
+use mathlib.Core.Path.{◌≡◌, refl, sym, ap, ◌∙◌}
 use mathlib.Core.List.{List, [], ◌∷◌, ◌++◌}
 use mathlib.Core.Bool.{Bool, true, false}
-use Prim.Native.Nat.{ℕ, ◌+◌, ◌-◌, ◌*◌, ◌/◌, ◌%◌, ◌≤◌, ◌<◌, min}
+use Prim.Native.Nat.{ℕ, ◌+◌, ◌-◌, ◌*◌, ◌/◌, ◌%◌, ◌≤◌, min}
 use native.Mathlib.Omega.{arith}
 use lib.Dec.{leb}
 use lib.ListN.{length, take, drop}
-use mir.Syntax.{w64 as bits64}
-use mir.Val as Bits
 use borrow.Author.Tests.{le-leb, leb-true}
 use Rattle.cbor.proofs.Utf8Laws.{both_true}
-use Rattle.notation.specs.Classes.{is}
 use Rattle.notation.specs.Literals.{stands_for, bad, after, Sextet, sextet, sextets, base64_from, base64_content}
 use Rattle.scanning.specs.Stands.{span}
 use Rattle.literal_body.specs.LiteralAnswers.{Put}
 use Rattle.literal_body.specs.LiteralReading.{Yields, Progressed, DecodesInto}
 use Rattle.literal_body.specs.declared.Progress.{Progress}
-use Rattle.base64_quantum.specs.QuantumAnswers.{sextet_of, waits, all_sextets, IsLast, first_byte, second_of, third_of, base64_bytes, flowing}
+use Rattle.base64_quantum.specs.QuantumAnswers.{sextet_of, waits, all_sextets, IsLast, first_byte, second_of, third_of, base64_bytes}
 use Rattle.base64_quantum.specs.declared.Group.{Group}
 use Rattle.base64_body.specs.GroupAnswers.{Letters, Ending}
-use Rattle.notation_theorems.proofs.SoundContent.{Fits}
 use Rattle.literal_body.proofs.ReadingCode.{span-over, progress_more, progress_append, decodes-good, decodes-bad}
 use Rattle.base64_quantum.proofs.QuantumCode.{counted}
-use Rattle.base64_body.proofs.GroupCode.{length_some, flow_bad, flow_on}
+use Rattle.base64_body.proofs.GroupCode.{length_some, flow_on}
 use Rattle.base64_word.proofs.WordCode.{bytes_of, four-front}
+use Rattle.std.specs.Prelude.{None, Some}
 
 nothing_left : (s : List ℕ) (stop i : ℕ) → stop ≤ i → base64_content (span i stop s) ≡ stands_for []
 unfolding base64_content base64_from sextets
@@ -65,53 +62,37 @@ module _ {s : List ℕ} {stop from : ℕ} {g : Group} (x : Letters s stop from g
         short = omega (arith, x.ahead);
       }
 
-  module _ (e : t ≡ true) {n : ℕ} (z : Ending s stop g n) where
-    ending_is : base64_content (span from stop s) ≡ flowing n g (stands_for [])
+  module _ (e : t ≡ true) where
+    ending_bad : Ending s stop g None → base64_content (span from stop s) ≡ bad
     unfolding base64_content
-    ending_is = ap base64_from x.is ∙ z.is x.most x.few (y.last e)
+    ending_bad z = ap base64_from x.is ∙ z.is x.most x.few (y.last e)
 
-    ending_bad : 3 < n → base64_content (span from stop s) ≡ bad
-    ending_bad h = ending_is ∙ flow_bad n g (stands_for []) h
-
-    ending_yields : n ≤ 3 → Yields base64_content s stop from stop (take n (base64_bytes g))
-    ending_yields h =
+    ending_yields : {n : ℕ} → Ending s stop g (Some n) → Yields base64_content s stop from stop (take n (base64_bytes g))
+    unfolding base64_content
+    ending_yields {n} z =
+        let h = z.most n refl in
         let k = length_some n g h in
         record {
-          is = ending_is ∙ flow_on n g (stands_for []) h ∙ ap (after (take n (base64_bytes g))) (sym (nothing_left s stop stop (omega arith)));
+          is = ap base64_from x.is ∙ z.is x.most x.few (y.last e) ∙ flow_on n g (stands_for []) h ∙ ap (after (take n (base64_bytes g))) (sym (nothing_left s stop stop (omega arith)));
           ahead = omega (arith, x.ahead, x.inside);
           inside = omega arith;
-          short = omega (arith, x.ahead, x.inside, z.short h x.most);
+          short = omega (arith, x.ahead, x.inside, z.short n refl x.most);
         }
 
 module _ {s : List ℕ} {at stop : ℕ} {b b₀ : List ℕ} {pos i p size : ℕ} (inv : Progressed base64_content s stop at b b₀ pos (record { next = i; pos = p; size = size })) where
-  pub read-end : {end : ℕ} → stop ≡ min end (length s) → stop ≤ i → DecodesInto b b₀ pos (record { good = true; next = end; size = size }) (base64_content (take (end - at) (drop at s)))
-  read-end e h = decodes-good e inv (nothing_left s stop i h)
+  pub read-end : {end : ℕ} → stop ≡ min end (length s) → stop ≤ i → DecodesInto b b₀ pos (Some (record { next = end; size = size })) (base64_content (take (end - at) (drop at s)))
+  read-end e h = decodes-good _ e inv (nothing_left s stop i h)
 
   module _ {b₁ : List ℕ} {f : Progress} (x : Progressed base64_content s stop i b₀ b₁ p f) where
-    run-sum : size + f.size ≤ f.next
-    run-sum = omega (arith, inv.short, inv.ahead, x.short, x.ahead)
-
-    pub read-size : (end : ℕ) → stop ≡ min end (length s) → Bits.Fits bits64 end → i < stop → Bits.Fits bits64 (size + f.size)
-    read-size end e k l = let h = k.fits in record { fits = omega (arith, run-sum, x.inside) }
-
     module _ {g : Group} (y : Letters s stop f.next g) {t : Bool} (z : IsLast g t) where
-      module _ (q : t ≡ true) {n : ℕ} (w : Ending s stop g n) where
-        pub read-wrong : {end : ℕ} → stop ≡ min end (length s) → 4 ≤ n → DecodesInto b b₁ pos (record { good = false; next = end; size = 0 }) (base64_content (take (end - at) (drop at s)))
-        read-wrong e h = decodes-bad e (progress_append inv x) (ending_bad y z q w h)
+      module _ (q : t ≡ true) (end : ℕ) (e : stop ≡ min end (length s)) where
+        pub read-wrong : Ending s stop g None → DecodesInto b b₁ pos None (base64_content (take (end - at) (drop at s)))
+        read-wrong w = decodes-bad _ e (progress_append inv x) (ending_bad y z q w)
 
-        pub read-last-size : (end : ℕ) → stop ≡ min end (length s) → Bits.Fits bits64 end → n < 4 → Bits.Fits bits64 (size + f.size + n)
-        read-last-size end e k h = let h' = k.fits in record { fits = omega (arith, run-sum, y.ahead, y.inside, w.short (omega arith) y.most) }
-
-        pub read-last : {end : ℕ} {b₂ : List ℕ} {p' : ℕ} → stop ≡ min end (length s) → n < 4 → Put b₁ b₂ f.pos p' (take n (base64_bytes g))
-            → DecodesInto b b₂ pos (record { good = true; next = end; size = size + f.size + n }) (base64_content (take (end - at) (drop at s)))
-        read-last e h k = let h' : n ≤ 3 = omega arith in decodes-good e (progress_more (progress_append inv x) (ending_yields y z q w h') k (sym (length_some n g h'))) (nothing_left s stop stop (omega arith))
+        pub read-last : {n : ℕ} → Ending s stop g (Some n) → {b₂ : List ℕ} {p' : ℕ} → Put b₁ b₂ f.pos p' (take n (base64_bytes g))
+            → DecodesInto b b₂ pos (Some (record { next = end; size = size + f.size + n })) (base64_content (take (end - at) (drop at s)))
+        read-last {n} w k = decodes-good _ e (progress_more (progress_append inv x) (ending_yields y z q w) k (sym (length_some n g (w.most n refl)))) (nothing_left s stop stop (omega arith))
 
       module _ (q : t ≡ false) where
-        pub read-sum : (end : ℕ) → stop ≡ min end (length s) → Bits.Fits bits64 end → Bits.Fits bits64 (size + f.size + 3)
-        read-sum end e k = let h = k.fits in record { fits = omega (arith, run-sum, y.ahead, y.inside, (z.four q).0) }
-
-        pub read_less : i < stop → stop - g.next < stop - i
-        read_less l = omega (arith, x.ahead, y.ahead, (z.four q).0)
-
         pub read-on : {b₂ : List ℕ} {p' : ℕ} → Put b₁ b₂ f.pos p' (take 3 (base64_bytes g)) → Progressed base64_content s stop at b b₂ pos (record { next = g.next; pos = p'; size = size + f.size + 3 })
         read-on k = progress_more (progress_append inv x) (four-yields y z q) k (sym (length_some 3 g (omega arith)))

@@ -7,21 +7,19 @@ ghost use Rattle.base64_body.specs.GroupAnswers.{Blanks, Letters, Ending};
 
 use base64_letter::letter_number::sextet_value;
 use base64_quantum::{Group, WRONG, first_byte, last_size, second_byte, third_byte};
-use literal_body::{is_blank, put};
+use literal_body::put;
+use scanning::class::is_blank;
 
 fn past_blanks(text: &[u8], from: usize, stop: usize) -> usize
     requires { Within text.now from stop }
     ensures { Blanks text.now stop from result }
 {
-    let mut at = from;
-    while at < stop {
-        if is_blank(text[at]) {
-            at += 1;
-        } else {
+    for at in from..stop {
+        if !is_blank(text[at]) {
             return at;
         }
     }
-    at
+    stop
 }
 
 fn grouped(count: u8, a: u8, b: u8, c: u8, d: u8, next: usize) -> Group
@@ -84,12 +82,13 @@ pub(crate) fn put_bytes(out: &mut [u8], p: usize, g: Group, n: usize) -> usize
 }
 
 // How many bytes the last letters make, if only blanks follow them.
-pub(crate) fn ending_size(text: &[u8], g: Group, stop: usize) -> usize
+pub(crate) fn ending_size(text: &[u8], g: Group, stop: usize) -> Option<usize>
     requires { Within text.now g.next stop }
     ensures { Ending text.now stop g result }
 {
     if past_blanks(text, g.next, stop) < stop {
-        return WRONG;
+        return None;
     }
-    last_size(g)
+    let n = last_size(g);
+    if n < WRONG { Some(n) } else { None }
 }

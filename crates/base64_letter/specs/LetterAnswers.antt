@@ -1,6 +1,5 @@
 -- Of the code: the number of a letter of base64 text, and what it adds to a word.
 use Rattle.std.specs.Prelude.{ℕ, ◌≤◌, ◌<◌, ◌≡◌}
-use Rattle.notation.specs.Classes.{is}
 use Rattle.notation.specs.Literals.{Sextet, sextet, padding, non_alphabet, sextet_at}
 
 -- the number of a sextet

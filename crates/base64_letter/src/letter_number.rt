@@ -9,6 +9,7 @@ use base64_quantum::PADDING;
 const NO_LETTER: u8 = 65;
 
 // The number of a byte. Letters and digits are mixed in every way, and branches on them would be foretold badly: a table has none.
+#[tactic(auto, unfolding(crate::specs::LetterAnswers::sextet_number, notation::specs::Literals::sextet_at, cbor::specs::Utf8::is_in))]
 pub fn sextet_value(b: u8) -> u8
     ensures { result ≡ sextet_number (sextet_at b) }
 {

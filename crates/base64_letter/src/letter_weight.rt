@@ -19,6 +19,7 @@ pub fn row_of(b: u8) -> u64
 }
 
 // What a letter adds to a word. It is called in one place, so that it is inlined there and becomes a table.
+#[tactic(auto, unfolding(crate::specs::LetterAnswers::sextet_weight, notation::specs::Literals::sextet_at, cbor::specs::Utf8::is_in))]
 pub fn weight(row: u64) -> u64
     ensures { Weighs (row - 0x100) result }
 {

@@ -2,14 +2,14 @@
 -- Assumes nothing.
 use mathlib.Core.Path.{◌≡◌, refl, sym, ap, ◌∙◌}
 use mathlib.Core.List.{[], ◌∷◌}
-use mathlib.Core.Bool.{Bool, true, false, ◌&&◌, true≢false}
-use Prim.Native.Nat.{ℕ, ◌+◌, ◌*◌, ◌/◌, ◌%◌, ◌≤◌, ◌<◌}
+use mathlib.Core.Bool.{Bool, true, false, ◌&&◌}
+use Prim.Native.Nat.{ℕ, ◌+◌, ◌*◌, ◌/◌, ◌%◌, ◌≤◌}
 use native.Mathlib.Omega.{arith}
 use lib.Dec.{leb, eqb}
-use borrow.Author.Tests.{le-leb, lt-leb, leb-true, eq-eqb, ne_eqb}
+use borrow.Author.Tests.{leb-true, ne_eqb}
 use Rattle.cbor.proofs.Utf8Laws.{both_true}
 use Rattle.notation.specs.Literals.{Content, stands_for, bad, after, sextet, padding, non_alphabet, valued, last_two, last_three, is_padding, last_four, full_four, base64_from}
-use Rattle.base64_quantum.specs.QuantumAnswers.{sextet_of, waits, waiting_of, all_sextets, first_byte, second_of, third_of, base64_bytes, flowing, full_size, last_two_size, last_three_size, last_four_size, Last, IsLast}
+use Rattle.base64_quantum.specs.QuantumAnswers.{sextet_of, waits, waiting_of, all_sextets, first_byte, second_of, third_of, base64_bytes, flowing, full_size, last_two_size, last_three_size, last_four_size, Last}
 use Rattle.base64_quantum.specs.declared.Group.{Group}
 
 -- GROUPS
@@ -17,111 +17,6 @@ use Rattle.base64_quantum.specs.declared.Group.{Group}
 pub counted : (g : Group) (n : ℕ) → g.count ≡ n → waiting_of g ≡ waits n (sextet_of g.a) (sextet_of g.b) (sextet_of g.c) (sextet_of g.d)
 unfolding waiting_of
 counted g n e = ap (λ (k : ℕ). waits k (sextet_of g.a) (sextet_of g.b) (sextet_of g.c) (sextet_of g.d)) e
-
-module _ (g : Group) where
-  pub all-a : 63 < g.a → false ≡ all_sextets g
-  unfolding all_sextets
-  all-a h = sym (simp (all_sextets, lt-leb g.a 63 h))
-
-  module _ (ha : g.a ≤ 63) where
-    pub all_b : 63 < g.b → false ≡ all_sextets g
-    unfolding all_sextets
-    all_b h = sym (simp (all_sextets, le-leb g.a 63 ha, lt-leb g.b 63 h))
-
-    module _ (hb : g.b ≤ 63) where
-      pub all_c : 63 < g.c → false ≡ all_sextets g
-      unfolding all_sextets
-      all_c h = sym (simp (all_sextets, le-leb g.a 63 ha, le-leb g.b 63 hb, lt-leb g.c 63 h))
-
-      pub all_d : g.c ≤ 63 → leb g.d 63 ≡ all_sextets g
-      unfolding all_sextets
-      all_d h = sym (simp (all_sextets, le-leb g.a 63 ha, le-leb g.b 63 hb, le-leb g.c 63 h))
-
-  pub full_three : {t : Bool} → t ≡ all_sextets g → t ≡ true → 3 ≡ full_size g
-  unfolding full_size
-  full_three x e = sym (rw (sym x ∙ e, full_size))
-
-  pub full_four_lem : {t : Bool} → t ≡ all_sextets g → t ≡ false → 4 ≡ full_size g
-  unfolding full_size
-  full_four_lem x e = sym (rw (sym x ∙ e, full_size))
-
-  pub first-is : g.a % 64 * 4 + g.b % 64 / 16 ≡ first_byte g
-  unfolding first_byte
-  first-is = refl
-
-  pub second_is : g.b % 16 * 16 + g.c % 64 / 4 ≡ second_of g
-  unfolding second_of
-  second_is = refl
-
-  pub third-is : g.c % 4 * 64 + g.d % 64 ≡ third_of g
-  unfolding third_of
-  third-is = refl
-
-pub ruleset all_ways = (all-a, all_b, all_c, all_d)
-
-pub ruleset full_ways = (full_three, full_four_lem)
-
--- SIZES AT THE END
-
-module _ (a b : ℕ) where
-  pub two_a : 63 < a → 4 ≡ last_two_size a b
-  unfolding last_two_size
-  two_a h = sym (simp (last_two_size, lt-leb a 63 h))
-
-  pub three_a : (c : ℕ) → 63 < a → 4 ≡ last_three_size a b c
-  unfolding last_three_size
-  three_a c h = sym (simp (last_three_size, lt-leb a 63 h))
-
-  module _ (ha : a ≤ 63) where
-    pub two_b : 63 < b → 4 ≡ last_two_size a b
-    unfolding last_two_size
-    two_b h = sym (simp (last_two_size, le-leb a 63 ha, lt-leb b 63 h))
-
-    pub three_b : (c : ℕ) → 63 < b → 4 ≡ last_three_size a b c
-    unfolding last_three_size
-    three_b c h = sym (simp (last_three_size, le-leb a 63 ha, lt-leb b 63 h))
-
-    module _ (hb : b ≤ 63) where
-      pub two_good : b % 16 ≡ 0 → 1 ≡ last_two_size a b
-      unfolding last_two_size
-      two_good e = sym (simp (last_two_size, le-leb a 63 ha, le-leb b 63 hb, eq-eqb (b % 16) 0 e))
-
-      pub two_bits : (b % 16 ≡ 0 → ⊥) → 4 ≡ last_two_size a b
-      unfolding last_two_size
-      two_bits n = sym (simp (last_two_size, le-leb a 63 ha, le-leb b 63 hb, ne_eqb (b % 16) 0 n))
-
-      module _ (c : ℕ) where
-        pub three_c : 63 < c → 4 ≡ last_three_size a b c
-        unfolding last_three_size
-        three_c h = sym (simp (last_three_size, le-leb a 63 ha, le-leb b 63 hb, lt-leb c 63 h))
-
-        pub three_good : c ≤ 63 → c % 4 ≡ 0 → 2 ≡ last_three_size a b c
-        unfolding last_three_size
-        three_good h e = sym (simp (last_three_size, le-leb a 63 ha, le-leb b 63 hb, le-leb c 63 h, eq-eqb (c % 4) 0 e))
-
-        pub three_bits : c ≤ 63 → (c % 4 ≡ 0 → ⊥) → 4 ≡ last_three_size a b c
-        unfolding last_three_size
-        three_bits h n = sym (simp (last_three_size, le-leb a 63 ha, le-leb b 63 hb, le-leb c 63 h, ne_eqb (c % 4) 0 n))
-
-pub ruleset two_ways = (two_a, two_b, two_good, two_bits)
-
-pub ruleset three_ways = (three_a, three_b, three_c, three_good, three_bits)
-
-module _ (g : Group) where
-  module _ (e : g.d ≡ 64) where
-    pub four_two : {r : ℕ} → g.c ≡ 64 → r ≡ last_two_size g.a g.b → r ≡ last_four_size g
-    unfolding last_four_size
-    four_two q p = p ∙ sym (simp (last_four_size, eq-eqb g.d 64 e, eq-eqb g.c 64 q))
-
-    pub four_three : {r : ℕ} → (g.c ≡ 64 → ⊥) → r ≡ last_three_size g.a g.b g.c → r ≡ last_four_size g
-    unfolding last_four_size
-    four_three n p = p ∙ sym (simp (last_four_size, eq-eqb g.d 64 e, ne_eqb g.c 64 n))
-
-  pub four_full : {r : ℕ} → (g.d ≡ 64 → ⊥) → r ≡ full_size g → r ≡ last_four_size g
-  unfolding last_four_size
-  four_full n p = p ∙ sym (rw (ne_eqb g.d 64 n, last_four_size))
-
-pub ruleset four_ways = (four_two, four_three, four_full)
 
 -- WHAT A GROUP STANDS FOR
 
@@ -282,19 +177,3 @@ module _ (g : Group) where
         most = omega (arith, four-most g);
         short = λ k h. omega arith;
       }
-
-pub ruleset last_ways = (last_none, last_one, last-pair, last_triple, last-whole)
-
--- WHETHER IT IS THE LAST
-
-module _ (g : Group) where
-  pub last-few : g.count < 4 → IsLast g true
-  last-few h = record { four = λ z. absurd (true≢false z); last = λ z k. absurd (omega arith) }
-
-  pub last_not : {t : Bool} → 4 ≤ g.count → t ≡ all_sextets g → t ≡ true → IsLast g false
-  last_not h x e = record { four = λ z. (h, sym x ∙ e); last = λ z. absurd (true≢false (sym z)) }
-
-  pub last-wrong : {t : Bool} → t ≡ all_sextets g → t ≡ false → IsLast g true
-  last-wrong x e = record { four = λ z. absurd (true≢false z); last = λ z k. sym x ∙ e }
-
-pub ruleset is-last_ways = (last-few, last_not, last-wrong)

@@ -1,7 +1,8 @@
 // Up to four letters of base64 text, a quantum of RFC 4648: how many bytes they make, and which.
-#![tactic(auto)]
+#![tactic(auto, unfolding(crate::specs::QuantumAnswers::all_sextets, crate::specs::QuantumAnswers::first_byte, crate::specs::QuantumAnswers::second_of, crate::specs::QuantumAnswers::third_of, crate::specs::QuantumAnswers::full_size, crate::specs::QuantumAnswers::last_two_size, crate::specs::QuantumAnswers::last_three_size, crate::specs::QuantumAnswers::last_four_size))]
 
 ghost use Rattle.std.specs.Prelude.{◌≡◌};
+ghost use Rattle.std.specs.Option.{unwrap_or};
 ghost use Rattle.base64_quantum.specs.QuantumAnswers.{all_sextets, IsLast, first_byte, second_of, third_of, Last, last_two_size, last_three_size, last_four_size, full_size};
 
 // The number of `=`, above those of the 64 letters.
@@ -24,39 +25,21 @@ pub struct Group {
 fn all_sextets(g: Group) -> bool
     ensures { result ≡ all_sextets g }
 {
-    if 63 < g.a {
-        return false;
-    }
-    if 63 < g.b {
-        return false;
-    }
-    if 63 < g.c {
-        return false;
-    }
-    g.d <= 63
+    g.a <= 63 && g.b <= 63 && g.c <= 63 && g.d <= 63
 }
 
 // Whether letters are the last of a text or stand wrongly, being no four with values.
 pub fn is_last(g: Group) -> bool
     ensures { IsLast g result }
 {
-    if g.count < 4 {
-        return true;
-    }
-    if all_sextets(g) {
-        return false;
-    }
-    true
+    g.count < 4 || !all_sextets(g)
 }
 
 // How many bytes four letters with others behind them make.
-fn full_size(g: Group) -> usize
-    ensures { result ≡ full_size g }
+fn full_size(g: Group) -> Option<usize>
+    ensures { unwrap_or result 4 ≡ full_size g }
 {
-    if all_sextets(g) {
-        return 3;
-    }
-    WRONG
+    if all_sextets(g) { Some(3) } else { None }
 }
 
 pub fn first_byte(g: Group) -> u8
@@ -78,61 +61,46 @@ pub fn third_byte(g: Group) -> u8
 }
 
 // How many bytes two letters at the end make.
-fn last_two(a: u8, b: u8) -> usize
-    ensures { result ≡ last_two_size a b }
+fn last_two(a: u8, b: u8) -> Option<usize>
+    ensures { unwrap_or result 4 ≡ last_two_size a b }
 {
-    if 63 < a {
-        return WRONG;
+    if a <= 63 && b <= 63 && b % 16 == 0 {
+        return Some(1);
     }
-    if 63 < b {
-        return WRONG;
-    }
-    if b % 16 == 0 {
-        return 1;
-    }
-    WRONG
+    None
 }
 
-fn last_three(a: u8, b: u8, c: u8) -> usize
-    ensures { result ≡ last_three_size a b c }
+fn last_three(a: u8, b: u8, c: u8) -> Option<usize>
+    ensures { unwrap_or result 4 ≡ last_three_size a b c }
 {
-    if 63 < a {
-        return WRONG;
+    if a <= 63 && b <= 63 && c <= 63 && c % 4 == 0 {
+        return Some(2);
     }
-    if 63 < b {
-        return WRONG;
-    }
-    if 63 < c {
-        return WRONG;
-    }
-    if c % 4 == 0 {
-        return 2;
-    }
-    WRONG
+    None
 }
 
 // Four letters at the end, the last of them perhaps `=`.
-fn last_four(g: Group) -> usize
-    ensures { result ≡ last_four_size g }
+fn last_four(g: Group) -> Option<usize>
+    ensures { unwrap_or result 4 ≡ last_four_size g }
 {
-    if g.d == PADDING {
-        if g.c == PADDING {
-            return last_two(g.a, g.b);
-        }
-        return last_three(g.a, g.b, g.c);
+    if g.d != PADDING {
+        return full_size(g);
     }
-    full_size(g)
+    if g.c == PADDING {
+        return last_two(g.a, g.b);
+    }
+    last_three(g.a, g.b, g.c)
 }
 
 pub fn last_size(g: Group) -> usize
     ensures { Last g result }
 {
-    let count = g.count;
-    match count {
-        0 => 0,
-        1 => WRONG,
+    let size = match g.count {
+        0 => Some(0),
+        1 => None,
         2 => last_two(g.a, g.b),
         3 => last_three(g.a, g.b, g.c),
         _ => last_four(g),
-    }
+    };
+    size.unwrap_or(WRONG)
 }

@@ -3,7 +3,7 @@
 use mathlib.Core.Path.{◌≡◌, refl, sym, ap, ◌∙◌}
 use mathlib.Core.List.{List, [], ◌∷◌}
 use mathlib.Core.Bool.{Bool, true, false, ◌||◌}
-use Prim.Native.Nat.{ℕ, zero, suc, ◌+◌, ◌-◌, ◌*◌, ◌/◌, ◌%◌, ◌≤◌, ◌<◌, ◌^◌}
+use Prim.Native.Nat.{ℕ, zero, suc, ◌+◌, ◌-◌, ◌*◌, ◌/◌, ◌%◌, ◌≤◌, ◌<◌}
 use native.Mathlib.Omega.{arith}
 use lib.Dec.{T, leb, leb→le}
 use lib.ListN.{length, set, get_or, length-set}
@@ -14,11 +14,10 @@ use borrow.Author.Tests.{leb-true, leb-false, ne_eqb}
 use Rattle.cbor.specs.Utf8.{is_in}
 use Rattle.cbor.proofs.Table.{byte}
 use Rattle.notation.specs.Classes.{blank, class_number, class_rows, class_in, class_of, is}
-use Rattle.notation.specs.Literals.{Content, after, Sextet, sextet, padding, non_alphabet, sextet_at, sextets, valued, is_padding, full_four, base64_from, base64_content}
+use Rattle.notation.specs.Literals.{after, Sextet, sextet, padding, non_alphabet, sextet_at, sextets, valued, is_padding, full_four, base64_from, base64_content}
 use Rattle.scanning.specs.Stands.{span}
 use Rattle.literal_body.specs.LiteralAnswers.{Put}
 use Rattle.literal_body.specs.LiteralReading.{Within, Yields, Progressed}
-use Rattle.literal_body.specs.declared.Progress.{Progress}
 use Rattle.base64_letter.specs.LetterAnswers.{sextet_number, sextet_weight, Weighs}
 use Rattle.base64_word.specs.WordAnswers.{word_at, WordThere, TooLate}
 use Rattle.notation_theorems.proofs.SoundContent.{Fits, sextet-fits}
@@ -129,9 +128,6 @@ module _ {s : List ℕ} {at k w : ℕ} (inv : Weighed s at k w) where
       pub weighed_on : Weighed s at (k + 1) (w * 64 + v)
       weighed_on = record { is = rw (add-one k) next_is; most = omega arith; small = rw (add-one k) next_small }
 
-  pub weighed_end : 4 ≤ k → WordThere s at w
-  weighed_end l = let e : k ≡ 4 = omega (arith, inv.most) in record { is = λ h. inv.is h ∙ ap (word_at s at) e }
-
 -- four letters with values make three bytes, whatever follows
 abbrev pub bytes_of : ℕ → ℕ → ℕ → ℕ → List ℕ
 bytes_of a b c d = (a * 4 + b / 16) ∷ (b % 16 * 16 + c / 4) ∷ (c % 4 * 64 + d) ∷ []
@@ -187,18 +183,6 @@ word-yields s at stop w h l e g =
 
 -- PLACES THAT ARE TOO LATE
 
-module _ {from stop n : ℕ} where
-  pub late-from : stop - from < n → TooLate from stop n from
-  late-from h = record { early = λ k l g. absurd (omega arith); late = λ k l. omega arith }
-
-  pub late_stop : 0 < n → n ≤ stop - from → TooLate from stop n (stop - (n - 1))
-  late_stop g h = record { early = λ k l q. omega arith; late = λ k l. omega arith }
-
-pub ruleset late_ways = (late-from, late_stop)
-
-pub late-same : {content : List ℕ → Content} {s : List ℕ} {stop from : ℕ} {b b' : List ℕ} {pos n late : ℕ} {r : Progress} → Progressed content s stop from b b' pos r → TooLate 0 (length b) n late → TooLate 0 (length b') n late
-late-same {n = n} {late = late} x h = rw x.same h
-
 module _ (b : List ℕ) (p x y z : ℕ) {late : ℕ} (h : TooLate 0 (length b) 3 late) where
   pub word-past : late ≤ p → Put b b p p (x ∷ y ∷ z ∷ [])
   word-past g = record { same = refl; is = λ l. absurd (omega (arith, h.late p g)); next = λ l. absurd (omega (arith, h.late p g)) }
@@ -217,31 +201,9 @@ module _ (b : List ℕ) (p x y z : ℕ) {late : ℕ} (h : TooLate 0 (length b) 3
       let w : Put b₂ (set b₂ (p + 2) z) (p + 2) (p + 3) (z ∷ []) = rw e₂ at (put_one b₂ (p + 2) z (omega arith)) in
       put-more (put-more u v) w
 
-module _ {n p late : ℕ} (h : TooLate 0 n 3 late) (g : p < late) where
-  pub first_fits : p < n
-  first_fits = omega (arith, h.early p (omega arith) g)
-
-  pub second_fits : p + 1 < n
-  second_fits = omega (arith, h.early p (omega arith) g)
-
-  pub third-fits : p + 2 < n
-  third-fits = omega (arith, h.early p (omega arith) g)
-
-  module _ (k : n < 2 ^ 64) where
-    pub third_adds : Bits.Fits bits64 (p + 2)
-    third_adds = record { fits = omega (arith, h.early p (omega arith) g) }
-
-    pub word_adds : Bits.Fits bits64 (p + 3)
-    word_adds = record { fits = omega (arith, h.early p (omega arith) g) }
-
-pub ruleset word_fits = (first_fits, second_fits, third-fits, third_adds, word_adds)
-
 pub ruleset word_ways = (word-past, word-put)
 
 -- THE LOOP
-
-pub four-fits : {s : List ℕ} {from stop last at : ℕ} → Within s from stop → TooLate from stop 4 last → from ≤ at → at < last → at + 4 ≤ length s
-four-fits {at = at} i h l g = omega (arith, h.early at l g, i.inside)
 
 abbrev pub FoursRead : List ℕ → ℕ → ℕ → List ℕ → List ℕ → ℕ → ℕ → ℕ → Type 0
 FoursRead s stop from b b₁ pos at p = Progressed base64_content s stop from b b₁ pos (record { next = at; pos = p; size = (at - from) / 4 * 3 })
@@ -259,6 +221,3 @@ module _ {s : List ℕ} {stop from : ℕ} {b : List ℕ} {pos : ℕ} where
       let l = inv.ahead in
       let z : (at - from) / 4 * 3 + 3 ≡ (at + 4 - from) / 4 * 3 = omega arith in
       rw z at (progress_more inv (word-yields s at stop w (h.early at l g) i.inside (e.is k) k) x refl)
-
-  pub fours_end : {b₁ : List ℕ} {at p : ℕ} {r : Progress} → FoursRead s stop from b b₁ pos at p → r ≡ record { next = at; pos = p; size = (at - from) / 4 * 3 } → Progressed base64_content s stop from b b₁ pos r
-  fours_end inv e = rw e inv

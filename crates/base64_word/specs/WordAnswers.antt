@@ -1,6 +1,5 @@
 -- Of the code: words of four letters of base64 text, and the places at which they fit.
 use Rattle.std.specs.Prelude.{ℕ, zero, suc, ◌+◌, ◌*◌, ◌≤◌, ◌<◌, ◌≡◌, List, get_or}
-use Rattle.notation.specs.Classes.{is}
 use Rattle.base64_letter.specs.LetterAnswers.{sextet_weight}
 
 -- the word of k bytes

@@ -20,10 +20,8 @@ fn word(text: &[u8], at: usize) -> u64
     ensures { WordThere text.now at result }
 {
     let mut w: u64 = 0;
-    let mut k: usize = 0;
-    while k < 4 {
+    for k in 0..4 {
         w = w * 64 + weight(row_of(text[at + k]));
-        k += 1;
     }
     w
 }
@@ -72,6 +70,7 @@ pub fn put_fours(text: &[u8], from: usize, stop: usize, out: &mut [u8], pos: usi
     requires { Within text.now from stop }
     ensures { Progressed base64_content text.now stop from out.old out.new pos result }
 {
+    // A cursor: where it stops is part of the answer, so no range counts it.
     let mut at = from;
     let mut p = pos;
     let last = too_late(from, stop, LETTERS);

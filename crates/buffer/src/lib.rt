@@ -20,85 +20,31 @@ pub fn put(out: &mut [u8], pos: usize, v: u8)
 fn fits(end: usize, from: usize, by: usize, size: usize) -> bool
     ensures { result ≡ leb (from + by + size) end }
 {
-    if end < size {
-        return false;
-    }
-    if end - size < from {
-        return false;
-    }
-    by <= end - size - from
+    size <= end && from <= end - size && by <= end - size - from
 }
 
 // Bytes that move up move from the last one down, so that none is overwritten before it has moved. With a distance that is a
 // literal the compiler makes wide moves of the loop.
-fn move_up_1(out: &mut [u8], from: usize, size: usize)
-    ensures { out.new ≡ moved_up out.old from 1 size }
+fn move_up_by<const BY: usize>(out: &mut [u8], from: usize, size: usize)
+    ensures { out.new ≡ moved_up out.old from BY size }
 {
-    if !fits(out.len(), from, 1, size) {
+    if !fits(out.len(), from, BY, size) {
         return;
     }
-    let mut k = size;
-    while 0 < k {
-        k -= 1;
-        let i = from + k;
-        out[i + 1] = out[i];
+    for i in (from..from + size).rev() {
+        out[i + BY] = out[i];
     }
 }
 
-fn move_up_2(out: &mut [u8], from: usize, size: usize)
-    ensures { out.new ≡ moved_up out.old from 2 size }
-{
-    if !fits(out.len(), from, 2, size) {
-        return;
-    }
-    let mut k = size;
-    while 0 < k {
-        k -= 1;
-        let i = from + k;
-        out[i + 2] = out[i];
-    }
-}
-
-fn move_up_4(out: &mut [u8], from: usize, size: usize)
-    ensures { out.new ≡ moved_up out.old from 4 size }
-{
-    if !fits(out.len(), from, 4, size) {
-        return;
-    }
-    let mut k = size;
-    while 0 < k {
-        k -= 1;
-        let i = from + k;
-        out[i + 4] = out[i];
-    }
-}
-
-fn move_up_8(out: &mut [u8], from: usize, size: usize)
-    ensures { out.new ≡ moved_up out.old from 8 size }
-{
-    if !fits(out.len(), from, 8, size) {
-        return;
-    }
-    let mut k = size;
-    while 0 < k {
-        k -= 1;
-        let i = from + k;
-        out[i + 8] = out[i];
-    }
-}
-
-// By a distance that is not known.
+// By a distance that is not known. It is no `copy_within`: the must-fail edit move_overlaps turns the order of its loop.
 fn move_far(out: &mut [u8], from: usize, by: usize, size: usize)
     ensures { out.new ≡ moved_up out.old from by size }
 {
     if !fits(out.len(), from, by, size) {
         return;
     }
-    let mut k = size;
-    while 0 < k {
-        let i = from + (k - 1);
+    for i in (from..from + size).rev() {
         out[i + by] = out[i];
-        k -= 1;
     }
 }
 
@@ -108,10 +54,10 @@ fn move_up(out: &mut [u8], from: usize, by: usize, size: usize)
 {
     match by {
         0 => {}
-        1 => move_up_1(out, from, size),
-        2 => move_up_2(out, from, size),
-        4 => move_up_4(out, from, size),
-        8 => move_up_8(out, from, size),
+        1 => move_up_by::<1>(out, from, size),
+        2 => move_up_by::<2>(out, from, size),
+        4 => move_up_by::<4>(out, from, size),
+        8 => move_up_by::<8>(out, from, size),
         _ => move_far(out, from, by, size),
     }
 }
@@ -120,14 +66,8 @@ fn move_up(out: &mut [u8], from: usize, by: usize, size: usize)
 fn move_down(out: &mut [u8], to: usize, by: usize, size: usize)
     ensures { out.new ≡ moved_down out.old to by size }
 {
-    if !fits(out.len(), to, by, size) {
-        return;
-    }
-    let mut i: usize = 0;
-    while i < size {
-        let j = to + i;
-        out[j] = out[j + by];
-        i += 1;
+    if fits(out.len(), to, by, size) {
+        out.copy_within(to + by..to + by + size, to);
     }
 }
 
@@ -158,20 +98,14 @@ pub fn close(out: &mut [u8], pos: usize, initial: u8, argument: u64, size: usize
     write_head(out, pos, initial, argument);
 }
 
-// The first n bytes of a list, written at a place.
+// The first n bytes of a list, written at a place. Of the loop the compiler makes wide steps; `copy_from_slice` would call memmove, which the library asks of no caller.
 pub fn copy_at(from: &[u8], n: usize, out: &mut [u8], pos: usize)
     ensures { out.new ≡ copied out.old pos from.now n }
 {
-    if !fits(out.len(), pos, 0, n) {
-        return;
-    }
-    if from.len() < n {
-        return;
-    }
-    let mut i: usize = 0;
-    while i < n {
-        out[pos + i] = from[i];
-        i += 1;
+    if fits(out.len(), pos, 0, n) && n <= from.len() {
+        for (i, &b) in from[..n].iter().enumerate() {
+            out[pos + i] = b;
+        }
     }
 }
 
@@ -186,12 +120,7 @@ pub fn copy(from: &[u8], n: usize, out: &mut [u8])
 pub fn zero(out: &mut [u8], from: usize, size: usize)
     ensures { out.new ≡ over_if_fits out.old from (replicate size 0) }
 {
-    if !fits(out.len(), from, 0, size) {
-        return;
-    }
-    let mut i: usize = 0;
-    while i < size {
-        out[from + i] = 0;
-        i += 1;
+    if fits(out.len(), from, 0, size) {
+        out[from..from + size].fill(0);
     }
 }

@@ -4,10 +4,11 @@ use Rattle.cbor.specs.Refusals.{Verdict, accepted, refused}
 use Rattle.cbor.specs.Items.{Items}
 use Rattle.cbor.specs.Paths.{Spot, start, end}
 use Rattle.checked.specs.CheckAnswers.{check_told, check_of}
-use Rattle.checked.specs.declared.Checked.{Checked}
 use Rattle.part.specs.PartAnswers.{locate_told, locate_of}
-use Rattle.part.specs.declared.Located.{Located}
 use Rattle.c_reply.specs.Replies.{code, succeeds}
+use Rattle.std.specs.Prelude as std
+use Rattle.part.specs.declared.Part.{Part}
+use Rattle.refusal.specs.declared.Refusal.{Refusal}
 
 -- where the part starts and ends, or the place
 unfoldable pub spot_in : List ℕ → Verdict Spot → List ℕ
@@ -20,12 +21,12 @@ place_in value (accepted x) = set value 0 0
 place_in value (refused n place) = set value 0 place
 
 -- what is returned and written is what a verdict asks for, if the answer told it
-pub record CheckReplied (c : Checked) (v v' : List ℕ) (r : ℕ) : Type 0 where
+pub record CheckReplied (c : std.Result Unit Refusal) (v v' : List ℕ) (r : ℕ) : Type 0 where
   pub number : (w : Verdict Items) → check_told c ≡ check_of w → r ≡ code w
   pub success : (w : Verdict Items) → check_told c ≡ check_of w → eqb r 0 ≡ succeeds w
   pub value : (w : Verdict Items) → check_told c ≡ check_of w → v' ≡ place_in v w
 
-pub record PartReplied (l : Located) (v v' : List ℕ) (r : ℕ) : Type 0 where
+pub record PartReplied (l : std.Result Part Refusal) (v v' : List ℕ) (r : ℕ) : Type 0 where
   pub number : (w : Verdict Spot) → locate_told l ≡ locate_of w → r ≡ code w
   pub success : (w : Verdict Spot) → locate_told l ≡ locate_of w → eqb r 0 ≡ succeeds w
   pub value : (w : Verdict Spot) → locate_told l ≡ locate_of w → v' ≡ spot_in v w

@@ -12,9 +12,9 @@ use Rattle.refusal.specs.declared.Refusal.{Refusal}
 use Rattle.refusal.specs.declared.RefusalKind.{RefusalKind}
 use Rattle.refusal.specs.declared.RefusalKind.TheVariants.{TooLong, NotUtf8, NoToken, UnknownWord, Dots, Float, OutOfRange, BadContent, BadIndicator, TooDeep, NotAllowed, MixedChunks, BadTypedArray, NoRoom, EndsInside, NotWellFormed, NoSuchPath}
 use Rattle.outcome.specs.Outcomes.{outcome_of}
-use Rattle.outcome.specs.declared.Answer.{Answer}
-use Rattle.outcome.specs.declared.Answer.TheVariants.{Written, Refused}
 use Rattle.c_reply.specs.Replies.{code, succeeds, length_in, answer_of}
+use Rattle.std.specs.Prelude.{Ok, Err}
+use Rattle.std.specs.Prelude as std
 
 -- past its end a list stays as it is
 pub set_past : (v : List ℕ) (i x : ℕ) → length v ≤ i → v ≡ set v i x
@@ -48,28 +48,28 @@ pub fails : {r : ℕ} (k : RefusalKind) → r ≡ kind_number k → eqb r 0 ≡ 
 fails k s = rw s (not_zero k)
 
 -- AN ANSWER
-module _ {a : Answer} where
-  pub done-number : {n : ℕ} → a ≡ Written n → 0 ≡ code (answer_of a)
+module _ {a : std.Result ℕ Refusal} where
+  pub done-number : {n : ℕ} → a ≡ Ok n → 0 ≡ code (answer_of a)
   unfolding code answer_of outcome_of
   done-number e = rw e
 
-  pub done-value : (v : List ℕ) {v' : List ℕ} {n : ℕ} → a ≡ Written n → v' ≡ set v 0 n → v' ≡ length_in v (answer_of a)
+  pub done-value : (v : List ℕ) {v' : List ℕ} {n : ℕ} → a ≡ Ok n → v' ≡ set v 0 n → v' ≡ length_in v (answer_of a)
   unfolding length_in answer_of outcome_of
   done-value v e s = rw e s
 
-  pub refused-number : {e : Refusal} {r : ℕ} → a ≡ Refused e → r ≡ kind_number e.kind → r ≡ code (answer_of a)
+  pub refused-number : {e : Refusal} {r : ℕ} → a ≡ Err e → r ≡ kind_number e.kind → r ≡ code (answer_of a)
   unfolding code answer_of outcome_of
   refused-number e s = rw e s
 
-  pub refused-value : (v : List ℕ) {v' : List ℕ} {e : Refusal} → a ≡ Refused e → v' ≡ set v 0 e.place → v' ≡ length_in v (answer_of a)
+  pub refused-value : (v : List ℕ) {v' : List ℕ} {e : Refusal} → a ≡ Err e → v' ≡ set v 0 e.place → v' ≡ length_in v (answer_of a)
   unfolding length_in answer_of outcome_of
   refused-value v e s = rw e s
 
-  pub done-success : {n : ℕ} → a ≡ Written n → true ≡ succeeds (answer_of a)
+  pub done-success : {n : ℕ} → a ≡ Ok n → true ≡ succeeds (answer_of a)
   unfolding succeeds answer_of outcome_of
   done-success e = rw e
 
-  pub refused-success : {x : Refusal} {r : ℕ} → a ≡ Refused x → r ≡ kind_number x.kind → eqb r 0 ≡ succeeds (answer_of a)
+  pub refused-success : {x : Refusal} {r : ℕ} → a ≡ Err x → r ≡ kind_number x.kind → eqb r 0 ≡ succeeds (answer_of a)
   unfolding succeeds answer_of outcome_of
   refused-success {x} e s = rw e (fails x.kind s)
 

@@ -3,7 +3,8 @@
 use Rattle.std.specs.Prelude.{ℕ, Bool, true, false, List, [], set}
 use Rattle.cbor.specs.Refusals.{Verdict, accepted, refused}
 use Rattle.outcome.specs.Outcomes.{outcome_of}
-use Rattle.outcome.specs.declared.Answer.{Answer}
+use Rattle.std.specs.Prelude as std
+use Rattle.refusal.specs.declared.Refusal.{Refusal}
 
 -- 0, or the number of the refusal
 unfoldable pub code : {A : Type 0} → Verdict A → ℕ
@@ -21,5 +22,5 @@ length_in value (accepted n) = set value 0 n
 length_in value (refused n place) = set value 0 place
 
 -- an answer without its buffer
-unfoldable pub answer_of : Answer → Verdict ℕ
+unfoldable pub answer_of : std.Result ℕ Refusal → Verdict ℕ
 answer_of a = (outcome_of a []).answer

@@ -5,7 +5,6 @@ ghost use Rattle.std.specs.Prelude.{◌≡◌, eqb, set};
 ghost use Rattle.refusal.specs.RefusalKinds.{kind_number};
 ghost use Rattle.c_reply.specs.Replies.{code, succeeds, length_in, answer_of};
 
-use outcome::Answer;
 use refusal::Refusal;
 
 // Puts a number into a slice that reaches that far.
@@ -28,17 +27,17 @@ pub fn refused(e: Refusal, value: &mut [u64]) -> u8
     refusal::number(kind)
 }
 
-pub fn reply(a: Answer, value: &mut [u64]) -> u8
+pub fn reply(a: Result<usize, Refusal>, value: &mut [u64]) -> u8
     ensures value { result ≡ code (answer_of a) }
     ensures result_value { eqb result 0 ≡ succeeds (answer_of a) }
     ensures value_after { value.new ≡ length_in value.old (answer_of a) }
 {
     match a {
-        Answer::Written(n) => {
+        Ok(n) => {
             let length = n as u64;
             put(value, 0, length);
             0
         }
-        Answer::Refused(e) => refused(e, value),
+        Err(e) => refused(e, value),
     }
 }

@@ -8,22 +8,18 @@ use Rattle.refusal.specs.declared.Refusal.{Refusal}
 use Rattle.head.specs.declared.HeadAt.{HeadAt}
 use Rattle.walk_answer.specs.WalkAnswers.{pass_told, walk_told, map_result, told_of, walk_all_of}
 use Rattle.walk_answer.specs.declared.WalkedItem.{WalkedItem}
-use Rattle.walk_answer.specs.declared.Walked.{Walked}
-use Rattle.walk_answer.specs.declared.Walked.TheVariants.{Made as MadeV, Refused as WalkRefusedV}
 use Rattle.walk_answer.specs.declared.Passage.{Passage}
-use Rattle.walk_answer.specs.declared.Passed.{Passed}
-use Rattle.walk_answer.specs.declared.Passed.TheVariants.{Span as SpanV, Refused as RefusedV}
 use Rattle.checked.specs.CheckAnswers.{check_told, check_of, check_by, scan_told, scan_by}
-use Rattle.checked.specs.declared.Checked.TheVariants.{Accepted, Refused as CheckRefused}
-use Rattle.checked.specs.declared.Scanned.TheVariants.{Item as ItemV, Refused as ScanRefused}
+use Rattle.std.specs.Prelude.{Ok, Err}
+use Rattle.std.specs.Prelude as std
 
 -- CHECK
-module _ {a : Passed} where
-  pub check_refused_lem : {e : Refusal} → a ≡ RefusedV e → check_told (CheckRefused e) ≡ check_by (pass_told a)
+module _ {a : std.Result Passage Refusal} where
+  pub check_refused_lem : {e : Refusal} → a ≡ Err e → check_told (Err e) ≡ check_by (pass_told a)
   unfolding check_told check_by pass_told
   check_refused_lem f = rw f
 
-  pub check_fine : {m : Passage} → a ≡ SpanV m → check_told Accepted ≡ check_by (pass_told a)
+  pub check_fine : {m : Passage} → a ≡ Ok m → check_told (Ok tt) ≡ check_by (pass_told a)
   unfolding check_told check_by pass_told
   check_fine f = rw f
 
@@ -36,12 +32,12 @@ check_read n (ok xs r) = refl
 check_read n (refuse k l) = refl
 
 -- SCAN
-module _ (h : HeadAt) {a : Walked} where
-  pub scan_refused_lem : {e : Refusal} → a ≡ WalkRefusedV e → scan_told (ScanRefused e) ≡ scan_by h (walk_told a)
+module _ (h : HeadAt) {a : std.Result WalkedItem Refusal} where
+  pub scan_refused_lem : {e : Refusal} → a ≡ Err e → scan_told (Err e) ≡ scan_by h (walk_told a)
   unfolding scan_told scan_by walk_told
   scan_refused_lem f = rw f
 
-  pub scan_made : {m : WalkedItem} → a ≡ MadeV m → scan_told (ItemV (record { major = m.major; info = h.info; argument = h.argument; content = h.end; end = m.end })) ≡ scan_by h (walk_told a)
+  pub scan_made : {m : WalkedItem} → a ≡ Ok m → scan_told (Ok (record { major = m.major; info = h.info; argument = h.argument; content = h.end; end = m.end })) ≡ scan_by h (walk_told a)
   unfolding scan_told scan_by walk_told
   scan_made f = rw f
 

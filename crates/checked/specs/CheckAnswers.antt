@@ -5,10 +5,10 @@ use Rattle.cbor.specs.Items.{Items}
 use Rattle.refusal.specs.RefusalKinds.{kind_number}
 use Rattle.head.specs.declared.HeadAt.{HeadAt}
 use Rattle.walk_answer.specs.WalkAnswers.{PassTold, passed, pass_refused, WalkTold, item_passed, walk_refused}
-use Rattle.checked.specs.declared.Checked.{Checked}
-use Rattle.checked.specs.declared.Checked.TheVariants.{Accepted, Refused as CheckRefused}
-use Rattle.checked.specs.declared.Scanned.{Scanned}
-use Rattle.checked.specs.declared.Scanned.TheVariants.{Item as ItemV, Refused as ScanRefused}
+use Rattle.std.specs.Prelude.{Ok, Err}
+use Rattle.std.specs.Prelude as std
+use Rattle.checked.specs.declared.ItemAt.{ItemAt}
+use Rattle.refusal.specs.declared.Refusal.{Refusal}
 
 -- CHECK
 
@@ -16,9 +16,9 @@ pub data CheckTold : Type 0 where
   fine : CheckTold
   check_refused : ℕ → ℕ → CheckTold
 
-unfoldable pub check_told : Checked → CheckTold
-check_told Accepted = fine
-check_told (CheckRefused e) = check_refused (kind_number e.kind) e.place
+unfoldable pub check_told : std.Result Unit Refusal → CheckTold
+check_told (Ok tt) = fine
+check_told (Err e) = check_refused (kind_number e.kind) e.place
 
 unfoldable pub check_of : Verdict Items → CheckTold
 check_of (accepted xs) = fine
@@ -36,9 +36,9 @@ pub data ScanTold : Type 0 where
   item_scanned : ℕ → ℕ → ℕ → ℕ → ℕ → ScanTold
   scan_refused : ℕ → ℕ → ScanTold
 
-unfoldable pub scan_told : Scanned → ScanTold
-scan_told (ItemV x) = item_scanned x.major x.info x.argument x.content x.end
-scan_told (ScanRefused e) = scan_refused (kind_number e.kind) e.place
+unfoldable pub scan_told : std.Result ItemAt Refusal → ScanTold
+scan_told (Ok x) = item_scanned x.major x.info x.argument x.content x.end
+scan_told (Err e) = scan_refused (kind_number e.kind) e.place
 
 -- by the item's head and the walk over it
 unfoldable pub scan_by : HeadAt → WalkTold → ScanTold

@@ -7,13 +7,7 @@ ghost use Rattle.checked.specs.CheckAnswers.{check_told, check_by, scan_told, sc
 
 use head::HeadAt;
 use refusal::Refusal;
-use walk_answer::{Passed, Walked};
-
-#[derive(Drop)]
-pub enum Checked {
-    Accepted,
-    Refused(Refusal),
-}
+use walk_answer::{Passage, WalkedItem};
 
 // One item: its major type, the rest of its head as read; where the head ends and its content begins; where the item ends.
 #[derive(Drop)]
@@ -25,34 +19,24 @@ pub struct ItemAt {
     pub end: usize,
 }
 
-#[derive(Drop)]
-pub enum Scanned {
-    Item(ItemAt),
-    Refused(Refusal),
-}
-
 // Bytes by the walk over all of them.
-pub fn check_by(all: Passed) -> Checked
+pub fn check_by(all: Result<Passage, Refusal>) -> Result<(), Refusal>
     ensures { check_told result ≡ check_by (pass_told all) }
 {
-    match all {
-        Passed::Refused(e) => Checked::Refused(e),
-        Passed::Span(_m) => Checked::Accepted,
-    }
+    all?;
+    Ok(())
 }
 
 // An item by its head and the walk over it.
-pub fn scan_by(h: HeadAt, walked: Walked) -> Scanned
+pub fn scan_by(h: HeadAt, walked: Result<WalkedItem, Refusal>) -> Result<ItemAt, Refusal>
     ensures { scan_told result ≡ scan_by h (walk_told walked) }
 {
-    match walked {
-        Walked::Refused(e) => Scanned::Refused(e),
-        Walked::Made(m) => Scanned::Item(ItemAt {
-            major: m.major,
-            info: h.info,
-            argument: h.argument,
-            content: h.end,
-            end: m.end,
-        }),
-    }
+    let m = walked?;
+    Ok(ItemAt {
+        major: m.major,
+        info: h.info,
+        argument: h.argument,
+        content: h.end,
+        end: m.end,
+    })
 }

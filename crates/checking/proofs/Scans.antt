@@ -14,29 +14,27 @@ use Rattle.head.specs.HeadAnswers.{head_told, head_from, head_at}
 use Rattle.walk_answer.specs.WalkAnswers.{pass_told, walk_told, walk_of, walk_all_of, item_after}
 use Rattle.refusal.specs.declared.Refusal.{Refusal}
 use Rattle.head.specs.declared.HeadAt.{HeadAt}
-use Rattle.head.specs.declared.HeadRead.{HeadRead}
-use Rattle.head.specs.declared.HeadRead.TheVariants.{Head as HeadV, Refused as HeadRefusedV}
-use Rattle.walk_answer.specs.declared.Walked.{Walked}
-use Rattle.walk_answer.specs.declared.Passed.{Passed}
 use Rattle.walk_parts.proofs.WalkItems.{item-told}
 use Rattle.operations.specs.Operations.{items_of}
 use Rattle.checked.specs.CheckAnswers.{check_told, check_of, check_by, item_scanned, scan_refused, scan_told, scan_by}
-use Rattle.checked.specs.declared.Checked.{Checked}
-use Rattle.checked.specs.declared.Scanned.{Scanned}
-use Rattle.checked.specs.declared.Scanned.TheVariants.{Refused as ScanRefused}
 use Rattle.checked.proofs.Checks.{check_read}
 use Rattle.checking.specs.Scans.{HeadOf, scan_from, scanned}
 use Rattle.path.proofs.Stepping.{Got, got}
+use Rattle.std.specs.Prelude.{Ok, Err}
+use Rattle.std.specs.Prelude as std
+use Rattle.checked.specs.declared.ItemAt.{ItemAt}
+use Rattle.walk_answer.specs.declared.Passage.{Passage}
+use Rattle.walk_answer.specs.declared.WalkedItem.{WalkedItem}
 
 -- CHECK
 
-pub check_told_lem : (s : List ℕ) (a : Passed) (r : Checked) → pass_told a ≡ walk_all_of (length s) (decode s) → check_told r ≡ check_by (pass_told a) → check_told r ≡ check_of (items_of s)
+pub check_told_lem : (s : List ℕ) (a : std.Result Passage Refusal) (r : std.Result Unit Refusal) → pass_told a ≡ walk_all_of (length s) (decode s) → check_told r ≡ check_by (pass_told a) → check_told r ≡ check_of (items_of s)
 unfolding items_of
 check_told_lem s a r told by = by ∙ ap check_by told ∙ check_read (length s) (decode s)
 
 -- SCAN
 
-scan_no : (n : ℕ) (e : Refusal) (res : Result Head) (go : Head → List ℕ → Result HeadOf) → head_told (HeadRefusedV e) ≡ head_from n res → scan_told (ScanRefused e) ≡ scan_from n (bind res go)
+scan_no : (n : ℕ) (e : Refusal) (res : Result Head) (go : Head → List ℕ → Result HeadOf) → head_told (Err e) ≡ head_from n res → scan_told (Err e) ≡ scan_from n (bind res go)
 unfolding head_told head_from scan_told scan_from bind
 scan_no n e (ok d r) go h = let z : ◌≡◌ {A = ℕ} 0 1 = cc in absurd (omega arith)
 scan_no n e (refuse k l) go h =
@@ -44,12 +42,12 @@ scan_no n e (refuse k l) go h =
     let j : e.place ≡ n - l = cc in
     λ x. scan_refused (i x) (j x)
 
-module _ (s : List ℕ) (i : ℕ) (a : HeadRead) (told : head_told a ≡ head_at s i) where
-  pub scan_refused_lem : {e : Refusal} → a ≡ HeadRefusedV e → scan_told (ScanRefused e) ≡ scan_from (length s) (scanned (drop i s))
+module _ (s : List ℕ) (i : ℕ) (a : std.Result HeadAt Refusal) (told : head_told a ≡ head_at s i) where
+  pub scan_refused_lem : {e : Refusal} → a ≡ Err e → scan_told (Err e) ≡ scan_from (length s) (scanned (drop i s))
   unfolding head_at scanned
   scan_refused_lem f = scan_no (length s) _ (next_head (drop i s)) _ (rw f at told)
 
-  module _ {h : HeadAt} (f : a ≡ HeadV h) where
+  module _ {h : HeadAt} (f : a ≡ Ok h) where
     pub scan_room : i ≤ length s
     scan_room = let g = got s i a told f in omega (arith, g.early)
 
@@ -63,9 +61,9 @@ module _ (s : List ℕ) (i : ℕ) (a : HeadRead) (told : head_told a ≡ head_at
     unfolding scanned bind
     scan_is g = rw g.is
 
-    module _ (inner : Walked) (long : length s * 1 < 2 ^ 63)
-        (walked : walk_told inner ≡ walk_of (length (take (length s - i) (drop i s))) (item_at 16 (take (length s - i) (drop i s)))) (part : Walked) (after : walk_told part ≡ item_after i (walk_told inner)) where
-      pub scan_told_lem : (r : Scanned) → scan_told r ≡ scan_by h (walk_told part) → scan_told r ≡ scan_from (length s) (scanned (drop i s))
+    module _ (inner : std.Result WalkedItem Refusal) (long : length s * 1 < 2 ^ 63)
+        (walked : walk_told inner ≡ walk_of (length (take (length s - i) (drop i s))) (item_at 16 (take (length s - i) (drop i s)))) (part : std.Result WalkedItem Refusal) (after : walk_told part ≡ item_after i (walk_told inner)) where
+      pub scan_told_lem : (r : std.Result ItemAt Refusal) → scan_told r ≡ scan_by h (walk_told part) → scan_told r ≡ scan_from (length s) (scanned (drop i s))
       scan_told_lem r by =
           let g = got s i a told f in
           by ∙ ap (scan_by h) (item-told 16 s i inner part scan_room long walked after) ∙ scan_read g (item_at 16 (drop i s)) ∙ ap (scan_from (length s)) (sym (scan_is g))

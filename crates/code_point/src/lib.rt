@@ -19,32 +19,28 @@ pub fn put_point(out: &mut [u8], p: usize, c: u32) -> usize
     requires { c < 0x110000 }
     ensures { Put out.old out.new p result (utf8_of c) }
 {
-    if c < 0x80 {
-        return put(out, p, c as u8);
+    match c {
+        0x00..=0x7f => put(out, p, c as u8),
+        0x80..=0x7ff => put_two(out, p, (0xc0 + c / 0x40) as u8, tail(c)),
+        0x800..=0xffff => {
+            let q = put(out, p, (0xe0 + c / 0x1000) as u8);
+            put_two(out, q, tail(c / 0x40), tail(c))
+        }
+        _ => {
+            let q = put_two(out, p, (0xf0 + c / 0x40000) as u8, tail(c / 0x1000));
+            put_two(out, q, tail(c / 0x40), tail(c))
+        }
     }
-    if c < 0x800 {
-        return put_two(out, p, (0xc0 + c / 0x40) as u8, tail(c));
-    }
-    if c < 0x10000 {
-        let q = put(out, p, (0xe0 + c / 0x1000) as u8);
-        return put_two(out, q, tail(c / 0x40), tail(c));
-    }
-    let q = put_two(out, p, (0xf0 + c / 0x40000) as u8, tail(c / 0x1000));
-    put_two(out, q, tail(c / 0x40), tail(c))
 }
 
 // How many bytes that is.
 pub fn point_size(c: u32) -> usize
     ensures { result ≡ length (utf8_of c) }
 {
-    if c < 0x80 {
-        return 1;
+    match c {
+        0x00..=0x7f => 1,
+        0x80..=0x7ff => 2,
+        0x800..=0xffff => 3,
+        _ => 4,
     }
-    if c < 0x800 {
-        return 2;
-    }
-    if c < 0x10000 {
-        return 3;
-    }
-    4
 }

@@ -27,9 +27,7 @@ use Rattle.notation_theorems.proofs.MarkedText.{marked-length}
 use Rattle.encoding.specs.ReadAnswers.{Wrote, ReadTold, of_item}
 use Rattle.encoding.proofs.Wrote.{wrote-held}
 use Rattle.correcting.proofs.ReadOne.{one-accepted, one_denied}
-use Rattle.encoding.specs.declared.answer.MadeItem.{MadeItem as MadeS}
-use Rattle.encoding.specs.declared.answer.ReadAnswer.{ReadAnswer}
-use Rattle.encoding.specs.declared.answer.ReadAnswer.TheVariants.{Made as ReadMade, Refused as ReadRefused}
+use Rattle.encoding.specs.declared.answer.MadeItem.{MadeItem}
 use Rattle.operations.specs.Operations.{and_then, room, fitting, written, items_of, spot_of, look_up, level, replaced, correction, zeroed, correct}
 use Rattle.part.specs.PartAnswers.{locate_told, locate_of}
 use Rattle.outcome.specs.Outcomes.{outcome_of, Roomy}
@@ -37,53 +35,47 @@ use Rattle.text_check.specs.TextAnswers.{text_told, passing}
 use Rattle.planning.specs.PlanAnswers.{Bounded, length_for, PlanFor}
 use Rattle.splicing.specs.Splices.{splice, Plans}
 use Rattle.correcting.specs.Corrections.{Spots, NewRead, Newly, decision_of, Planned, room_for, Replaces, Decides, Corrects}
-use Rattle.outcome.specs.declared.Answer.{Answer}
-use Rattle.outcome.specs.declared.Answer.TheVariants.{Written, Refused as AnswerRefused}
-use Rattle.text_check.specs.declared.Text.{Text}
-use Rattle.text_check.specs.declared.Text.TheVariants.{Good, Refused as TextRefused}
-use Rattle.part.specs.declared.Located.{Located}
-use Rattle.part.specs.declared.Located.TheVariants.{Part as PartV, Refused as PartRefused}
 use Rattle.part.specs.declared.Part.{Part}
 use Rattle.planning.specs.declared.Plan.{Plan}
-use Rattle.planning.specs.declared.Decision.{Decision}
-use Rattle.planning.specs.declared.Decision.TheVariants.{Replace, Refused}
 use Rattle.operations.proofs.Verdicts.{and_then-ok, and_then-is, and_then-refused}
 use Rattle.text_check.proofs.Texts.{passes, fails, passed-short}
 use Rattle.operations.proofs.Demands.{items_of-ok}
 use Rattle.splicing.proofs.Putting.{whole_length}
+use Rattle.std.specs.Prelude.{Ok, Err}
+use Rattle.std.specs.Prelude as std
 
 -- THE NEW ITEM
-newly : (s : List ℕ) (levels : ℕ) (item : List ℕ) (a : ReadAnswer) (v : Verdict Item) → read_item levels s ≡ v → NewRead item a v → Newly s levels item a
+newly : (s : List ℕ) (levels : ℕ) (item : List ℕ) (a : std.Result MadeItem Refusal) (v : Verdict Item) → read_item levels s ≡ v → NewRead item a v → Newly s levels item a
 newly s levels item a v e n = record { read = rw e n }
 
 stands : {b b' ws : List ℕ} {n : ℕ} → n ≡ length ws → Wrote b b' 0 ws → n ≤ length b → take n b' ≡ ws
 stands {b} {b'} {ws} {n} e w f = let g : length ws ≤ length b = omega arith in rw e (wrote-held w g)
 
-module _ (s : List ℕ) {t : Text} (h : text_told t ≡ passing s) where
-  pub new_short : t ≡ Good → length s ≤ 65535
+module _ (s : List ℕ) {t : std.Result Unit Refusal} (h : text_told t ≡ passing s) where
+  pub new_short : t ≡ (Ok tt) → length s ≤ 65535
   unfolding text_told
   new_short e = passed-short s (sym h ∙ rw e)
 
-  pub new_refused : {levels : ℕ} {item : List ℕ} {e : Refusal} → t ≡ TextRefused e → Newly s levels item (ReadRefused e)
+  pub new_refused : {levels : ℕ} {item : List ℕ} {e : Refusal} → t ≡ Err e → Newly s levels item (Err e)
   unfolding text_told read_item NewRead
   new_refused {levels} {item} {e} i =
       let p : passing s ≡ refused (kind_number e.kind) e.place = sym h ∙ rw i in
-      newly s levels item (ReadRefused e) _ (fails s (verdict_of (length s) (single levels s)) p) (e, refl, refl, refl)
+      newly s levels item (Err e) _ (fails s (verdict_of (length s) (single levels s)) p) (e, refl, refl, refl)
 
-  pub new_read : {levels : ℕ} {item item' : List ℕ} {a : ReadAnswer} → t ≡ Good → Roomy s item → ReadTold of_item s item item' (length (marked s)) 0 a (plus (single levels s)) → Newly s levels item' a
+  pub new_read : {levels : ℕ} {item item' : List ℕ} {a : std.Result MadeItem Refusal} → t ≡ (Ok tt) → Roomy s item → ReadTold of_item s item item' (length (marked s)) 0 a (plus (single levels s)) → Newly s levels item' a
   unfolding text_told read_item NewRead
   new_read {levels} {item} {item'} {a} i l told = go a told
     where
       passed : read_item levels s ≡ verdict_of (length s) (single levels s)
       passed = passes s (verdict_of (length s) (single levels s)) (sym h ∙ rw i)
 
-      go : (a : ReadAnswer) → ReadTold of_item s item item' (length (marked s)) 0 a (plus (single levels s)) → Newly s levels item' a
-      go (ReadMade m) x =
-          let o = one-accepted levels (ReadMade m) x refl in
+      go : (a : std.Result MadeItem Refusal) → ReadTold of_item s item item' (length (marked s)) 0 a (plus (single levels s)) → Newly s levels item' a
+      go (Ok m) x =
+          let o = one-accepted levels (Ok m) x refl in
           let f : m.size ≤ most_bytes → m.size ≤ length item = λ n. omega (arith, n, o.short, l.room, marked-length s) in
           let w : m.size ≤ most_bytes → take m.size item' ≡ encode o.item = λ n. stands o.size o.wrote (f n) in
-          newly s levels item' (ReadMade m) _ (passed ∙ o.is) (m, refl, record { sized = o.size; held = w }, λ n. omega (arith, f n, o.wrote.same))
-      go (ReadRefused e) x = newly s levels item' (ReadRefused e) _ (passed ∙ one_denied levels (ReadRefused e) x refl) (e, refl, refl, refl)
+          newly s levels item' (Ok m) _ (passed ∙ o.is) (m, refl, record { sized = o.size; held = w }, λ n. omega (arith, f n, o.wrote.same))
+      go (Err e) x = newly s levels item' (Err e) _ (passed ∙ one_denied levels (Err e) x refl) (e, refl, refl, refl)
 
 pub ruleset new_ways = (new_refused, new_read)
 
@@ -97,7 +89,7 @@ module _ (b : List ℕ) (p : Part) (used room : ℕ) (w : List ℕ) where
   unfolding room_for
   room-no t = rw (t, room_for)
 
-replace_new : (p : Part) (used room levels : ℕ) (s item : List ℕ) (d : Decision) {a : ReadAnswer} {m : MadeS} (v : Verdict Item) → read_item levels s ≡ v → NewRead item a v → a ≡ ReadMade m → Bounded p used
+replace_new : (p : Part) (used room levels : ℕ) (s item : List ℕ) (d : std.Result Plan Refusal) {a : std.Result MadeItem Refusal} {m : MadeItem} (v : Verdict Item) → read_item levels s ≡ v → NewRead item a v → a ≡ Ok m → Bounded p used
     → PlanFor p used m.size room d → Replaces p used room levels s item d
 unfolding NewRead and_then decision_of Planned kind_number
 replace_new p used room levels s item d {m = m} (accepted y) e (m', i, w, l) j k f = go (leb (length_for p used m.size) (min room most_bytes)) refl
@@ -130,19 +122,19 @@ replace_new p used room levels s item d {m = m} (accepted y) e (m', i, w, l) j k
         rw (f.no t) (record { is = λ b. sym (room-no b p used room (encode y) u) ∙ rw e; planned = λ b lb ub. tt })
 replace_new p used room levels s item d (refused n q) e (x, i, j, k') g k f = let z : ◌≡◌ {A = ℕ} 0 1 = cc (i, g) in absurd (omega arith)
 
-replace_no : (p : Part) (used room levels : ℕ) (s item : List ℕ) {a : ReadAnswer} {x : Refusal} (v : Verdict Item) → read_item levels s ≡ v → NewRead item a v → a ≡ ReadRefused x
-    → Replaces p used room levels s item (Refused x)
+replace_no : (p : Part) (used room levels : ℕ) (s item : List ℕ) {a : std.Result MadeItem Refusal} {x : Refusal} (v : Verdict Item) → read_item levels s ≡ v → NewRead item a v → a ≡ Err x
+    → Replaces p used room levels s item (Err x)
 unfolding NewRead and_then decision_of Planned
 replace_no p used room levels s item (accepted y) e (m, i, w, l) g = let z : ◌≡◌ {A = ℕ} 0 1 = cc (i, g) in absurd (omega arith)
 replace_no p used room levels s item {x = x} (refused n q) e (x', i, j, k) g =
     let same : x' ≡ x = cc (i, g) in
     record { is = λ b. rw (e, rw same at j, rw same at k); planned = λ b lb ub. tt }
 
-module _ (p : Part) (used room : ℕ) {levels : ℕ} {s item : List ℕ} {a : ReadAnswer} (nw : Newly s levels item a) where
-  pub replace_done : {m : MadeS} {d : Decision} → a ≡ ReadMade m → Bounded p used → PlanFor p used m.size room d → Replaces p used room levels s item d
+module _ (p : Part) (used room : ℕ) {levels : ℕ} {s item : List ℕ} {a : std.Result MadeItem Refusal} (nw : Newly s levels item a) where
+  pub replace_done : {m : MadeItem} {d : std.Result Plan Refusal} → a ≡ Ok m → Bounded p used → PlanFor p used m.size room d → Replaces p used room levels s item d
   replace_done e k f = replace_new p used room levels s item _ (read_item levels s) refl nw.read e k f
 
-  pub replace_refused : {x : Refusal} → a ≡ ReadRefused x → Replaces p used room levels s item (Refused x)
+  pub replace_refused : {x : Refusal} → a ≡ Err x → Replaces p used room levels s item (Err x)
   replace_refused e = replace_no p used room levels s item (read_item levels s) refl nw.read e
 
 pub ruleset replace_ways = (replace_done, replace_refused)
@@ -163,7 +155,7 @@ spot-found path xs z e = go (locate path xs) e
     go (found y) i = ap found (cc)
     go (nowhere k) i = absurd (refused_not_accepted i)
 
-spotted : (s path : List ℕ) (p : Part) → Bytes s → (v : Verdict Spot) → look_up s path ≡ v → locate_told (PartV p) ≡ locate_of v → Spotted s path p
+spotted : (s path : List ℕ) (p : Part) → Bytes s → (v : Verdict Spot) → look_up s path ≡ v → locate_told (Ok p) ≡ locate_of v → Spotted s path p
 unfolding locate_told locate_of look_up start end
 spotted s path p b (accepted z) e h =
     let o = and_then-ok (items_of s) (λ xs. spot_of (locate path xs)) e in
@@ -207,14 +199,14 @@ module _ (b : List ℕ) (used : ℕ) (path : List ℕ) (p : Part) (l : used ≤ 
   onward-room (accepted y) = room-is y
   onward-room (refused n q) = refl
 
-refused-spot : (e : Refusal) (w : Verdict Spot) → locate_told (PartRefused e) ≡ locate_of w → w ≡ refused (kind_number e.kind) e.place
+refused-spot : (e : Refusal) (w : Verdict Spot) → locate_told (Err e) ≡ locate_of w → w ≡ refused (kind_number e.kind) e.place
 unfolding locate_told locate_of
 refused-spot e (accepted z) h = let z : ◌≡◌ {A = ℕ} 0 1 = cc in absurd (omega arith)
 refused-spot e (refused n q) h = let i : kind_number e.kind ≡ n = cc in let j : e.place ≡ q = cc in rw (i, j)
 
 -- THE DECISION: v says whether the used bytes are within the buffer
 module _ (b : List ℕ) (used : ℕ) (path text : List ℕ) {v : Bool} (f : v ≡ leb used (min (length b) most_bytes)) where
-  pub decide_long : {item : List ℕ} {d : Decision} → v ≡ false → d ≡ Refused (record { kind = TooLong; place = 0 }) → Decides b used path text item d
+  pub decide_long : {item : List ℕ} {d : std.Result Plan Refusal} → v ≡ false → d ≡ Err (record { kind = TooLong; place = 0 }) → Decides b used path text item d
   unfolding correction room decision_of Planned kind_number
   decide_long t e =
       let i : leb used (min (length b) most_bytes) ≡ false = sym f ∙ t in
@@ -230,21 +222,21 @@ module _ (b : List ℕ) (used : ℕ) (path text : List ℕ) {v : Bool} (f : v �
   unfolding correction room
   onward_of t = let i : leb used (min (length b) most_bytes) ≡ true = sym f ∙ t in rw (i, correction)
 
-  module _ (t : v ≡ true) {r : Located} (sp : Spots (take used b) path r) where
-    pub decide_refused : {item : List ℕ} {e : Refusal} → r ≡ PartRefused e → Decides b used path text item (Refused e)
+  module _ (t : v ≡ true) {r : std.Result Part Refusal} (sp : Spots (take used b) path r) where
+    pub decide_refused : {item : List ℕ} {e : Refusal} → r ≡ Err e → Decides b used path text item (Err e)
     unfolding decision_of Planned
     decide_refused {item} {e} i = record { is = sym (onward_of t ∙ and_then-refused _ (refused-spot e (look_up (take used b) path) (rw i at sp.told))); planned = tt }
 
-    found_at : {p : Part} → r ≡ PartV p → Spotted (take used b) path p
+    found_at : {p : Part} → r ≡ Ok p → Spotted (take used b) path p
     found_at {p} i = spotted (take used b) path p sp.bytes (look_up (take used b) path) refl (rw i at sp.told)
 
-    pub decide_bounded : {p : Part} → r ≡ PartV p → Bounded p used
+    pub decide_bounded : {p : Part} → r ≡ Ok p → Bounded p used
     decide_bounded {p} i =
         let s = found_at i in
         let u = used_is b used path p (omega (arith, inside t)) s in
         record { order = omega (arith, s.start, s.end); inside = omega (arith, s.end, u); short = omega (arith, inside t) }
 
-    pub decide_done : {p : Part} {levels : ℕ} {item : List ℕ} {d : Decision} → r ≡ PartV p → levels ≡ level path → Replaces p used (length b) levels text item d → Decides b used path text item d
+    pub decide_done : {p : Part} {levels : ℕ} {item : List ℕ} {d : std.Result Plan Refusal} → r ≡ Ok p → levels ≡ level path → Replaces p used (length b) levels text item d → Decides b used path text item d
     decide_done {p} {levels} {item} {d} i e x =
         let s = found_at i in
         let l : used ≤ length b = omega (arith, inside t) in
@@ -256,16 +248,16 @@ module _ (b : List ℕ) (used : ℕ) (path text : List ℕ) {v : Bool} (f : v �
 pub ruleset decide_ways = (decide_long, decide_refused, decide_done)
 
 -- CARRIED OUT
-module _ {b path text item : List ℕ} {used : ℕ} {d : Decision} (ds : Decides b used path text item d) where
-  pub carry_plans : {p : Plan} → d ≡ Replace p → Plans b used item p
+module _ {b path text item : List ℕ} {used : ℕ} {d : std.Result Plan Refusal} (ds : Decides b used path text item d) where
+  pub carry_plans : {p : Plan} → d ≡ Ok p → Plans b used item p
   unfolding Planned
   carry_plans e = rw e at ds.planned
 
-  pub carry_refused : {e : Refusal} → d ≡ Refused e → Corrects b b used path text (AnswerRefused e)
+  pub carry_refused : {e : Refusal} → d ≡ Err e → Corrects b b used path text (Err e)
   unfolding decision_of correct outcome_of written
   carry_refused {e} i = let c : refused (kind_number e.kind) e.place ≡ correction b used path text = rw i at ds.is in record { is = ap (written b (zeroed used)) c }
 
-  pub carry_done : {p : Plan} {n : ℕ} {b' : List ℕ} → d ≡ Replace p → n ≡ p.length → b' ≡ over b 0 (zeroed used (splice b used p.start p.end (take p.size item))) → Corrects b b' used path text (Written n)
+  pub carry_done : {p : Plan} {n : ℕ} {b' : List ℕ} → d ≡ Ok p → n ≡ p.length → b' ≡ over b 0 (zeroed used (splice b used p.start p.end (take p.size item))) → Corrects b b' used path text (Ok n)
   unfolding decision_of correct outcome_of written
   carry_done {p} i l e =
       let c : accepted (splice b used p.start p.end (take p.size item)) ≡ correction b used path text = rw i at ds.is in
@@ -274,5 +266,5 @@ module _ {b path text item : List ℕ} {used : ℕ} {d : Decision} (ds : Decides
 
 pub ruleset carry_ways = (carry_refused, carry_done)
 
-pub corrected : {b b' path text : List ℕ} {used : ℕ} {r : Answer} → Corrects b b' used path text r → outcome_of r b' ≡ correct b used path text
+pub corrected : {b b' path text : List ℕ} {used : ℕ} {r : std.Result ℕ Refusal} → Corrects b b' used path text r → outcome_of r b' ≡ correct b used path text
 corrected x = x.is

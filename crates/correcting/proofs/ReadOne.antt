@@ -24,10 +24,10 @@ use Rattle.token.specs.declared.Token.{Token as Cut}
 use Rattle.scanning.proofs.Marked.{length_marked, at-end, stands-left, stands_at}
 use Rattle.encoding.specs.ReadAnswers.{Wrote, Room, of_item, ReadTold, Denies, Strayed}
 use Rattle.correcting.specs.OneAnswers.{Behind}
-use Rattle.encoding.specs.declared.answer.MadeItem.{MadeItem as MadeS}
-use Rattle.encoding.specs.declared.answer.ReadAnswer.{ReadAnswer}
-use Rattle.encoding.specs.declared.answer.ReadAnswer.TheVariants.{Made, Refused}
+use Rattle.encoding.specs.declared.answer.MadeItem.{MadeItem}
 use Rattle.encoding.proofs.Telling.{place_at, place-left, bind-yes, told-no, told-ok, denied, got, lost, told-lost, told_more, told_stop}
+use Rattle.std.specs.Prelude.{Ok, Err}
+use Rattle.std.specs.Prelude as std
 
 pub one-room : (s : List ℕ) → length s ≤ 65535 → Room s 0 0
 one-room s h = record { inside = omega arith; room = omega (arith, length_marked s) }
@@ -42,7 +42,7 @@ module _ {s : List ℕ} {at : ℕ} (d : ℕ) (sk : Skips s 0 at) where
   unfolding place
   first-at = stands_at sk.stands
 
-  pub one-blank : {b b' : List ℕ} {a : ReadAnswer} → (at ≡ 0 → ⊥) → Denies not_allowed 0 a → ReadTold of_item s b b' (length (marked s)) 0 a (plus (single d s))
+  pub one-blank : {b b' : List ℕ} {a : std.Result MadeItem Refusal} → (at ≡ 0 → ⊥) → Denies not_allowed 0 a → ReadTold of_item s b b' (length (marked s)) 0 a (plus (single d s))
   unfolding single_marked
   one-blank n h =
       let e : eqb (place (marked s)) (length (marked s)) ≡ false = ne_eqb (place (marked s)) (length (marked s)) (λ i. n (omega (arith, first-at, i))) in
@@ -54,11 +54,11 @@ module _ {s : List ℕ} {at : ℕ} (d : ℕ) (sk : Skips s 0 at) where
       let e : eqb (place (marked s)) (length (marked s)) ≡ true = eq-eqb (place (marked s)) (length (marked s)) (omega (arith, first-left, z)) in
       sym (single-is d s) ∙ rw (e, single_marked)
 
-  module _ {b b' : List ℕ} (a : ReadAnswer) (told : ReadTold of_item s b b' (length (marked s) - 0) 0 a (reads (one d) (drop 0 (marked s)))) (z : at ≡ 0) where
-    pub one-refused : {b'' : List ℕ} {e : Refusal} → a ≡ Refused e → ReadTold of_item s b b'' (length (marked s)) 0 (Refused e) (plus (single d s))
+  module _ {b b' : List ℕ} (a : std.Result MadeItem Refusal) (told : ReadTold of_item s b b' (length (marked s) - 0) 0 a (reads (one d) (drop 0 (marked s)))) (z : at ≡ 0) where
+    pub one-refused : {b'' : List ℕ} {e : Refusal} → a ≡ Err e → ReadTold of_item s b b'' (length (marked s)) 0 (Err e) (plus (single d s))
     one-refused f = told-lost _ _ (lost a told f) (one-is z)
 
-    pub one-behind : {m : MadeS} {a' : ReadAnswer} → a ≡ Made m → Behind s d m a' → ReadTold of_item s b b' (length (marked s)) 0 a' (plus (single d s))
+    pub one-behind : {m : MadeItem} {a' : std.Result MadeItem Refusal} → a ≡ Ok m → Behind s d m a' → ReadTold of_item s b b' (length (marked s)) 0 a' (plus (single d s))
     one-behind {m} g h =
         let it = got a told g in
         let e = it.moved.stands.drops in
@@ -69,7 +69,7 @@ module _ {s : List ℕ} {at : ℕ} (d : ℕ) (sk : Skips s 0 at) where
 pub ruleset one_ways = (one-blank, one-refused, one-behind)
 
 -- BEHIND THE ITEM
-pub behind-none : {s : List ℕ} {m : MadeS} (d : ℕ) → m.next ≡ length s → Behind s d m (Made m)
+pub behind-none : {s : List ℕ} {m : MadeItem} (d : ℕ) → m.next ≡ length s → Behind s d m (Ok m)
 unfolding alone_marked
 behind-none {s} {m} d e =
     let q : eqb (length (drop m.next (marked s))) 1 ≡ true = rw (at-end s m.next e) in
@@ -92,7 +92,7 @@ module _ (s : List ℕ) (k d : ℕ) (n : k ≡ length s → ⊥) where
   unfolding outside
   outside-token x h = outside-is x ∙ rw (eq-eqb (place rest) (length rest) h, outside)
 
-module _ {s : List ℕ} {m : MadeS} {t : Cut} {a : ReadAnswer} (d : ℕ) (inside : m.next ≤ length (marked s)) (n : m.next ≡ length s → ⊥) (tk : Took s m.next t) where
+module _ {s : List ℕ} {m : MadeItem} {t : Cut} {a : std.Result MadeItem Refusal} (d : ℕ) (inside : m.next ≤ length (marked s)) (n : m.next ≡ length s → ⊥) (tk : Took s m.next t) where
   pub behind-blank : (t.place ≡ m.next → ⊥) → Denies not_allowed m.next a → Behind s d m a
   behind-blank p h =
       let l = length-drop m.next (marked s) in
@@ -110,20 +110,20 @@ module _ {s : List ℕ} {m : MadeS} {t : Cut} {a : ReadAnswer} (d : ℕ) (inside
 pub ruleset behind_ways = (behind-none, behind-blank, behind-token)
 
 -- THE VERDICT that an answer stands for
-pub record Accepted (s b b' : List ℕ) (most d : ℕ) (m : MadeS) : Type 0 where
+pub record Accepted (s b b' : List ℕ) (most d : ℕ) (m : MadeItem) : Type 0 where
   pub item : Item
   pub is : verdict_of (length s) (single d s) ≡ accepted item
   pub size : m.size ≡ length (encode item)
   pub wrote : Wrote b b' 0 (encode item)
   pub short : m.size ≤ 9 * most
 
-module _ {s b b' : List ℕ} {most : ℕ} (d : ℕ) (a : ReadAnswer) (told : ReadTold of_item s b b' most 0 a (plus (single d s))) where
-  pub one-accepted : {m : MadeS} → a ≡ Made m → Accepted s b b' most d m
+module _ {s b b' : List ℕ} {most : ℕ} (d : ℕ) (a : std.Result MadeItem Refusal) (told : ReadTold of_item s b b' most 0 a (plus (single d s))) where
+  pub one-accepted : {m : MadeItem} → a ≡ Ok m → Accepted s b b' most d m
   unfolding of_item verdict_of
   one-accepted g =
       let it = got a told g in
       record { item = it.thing; is = sym (verdict_marked s (single d s)) ∙ ap (verdict_of (length (marked s))) it.is; size = it.moved.sized; wrote = it.moved.wrote; short = omega (arith, it.moved.short) }
 
-  pub one_denied : {e : Refusal} → a ≡ Refused e → verdict_of (length s) (single d s) ≡ refused (kind_number e.kind) e.place
+  pub one_denied : {e : Refusal} → a ≡ Err e → verdict_of (length s) (single d s) ≡ refused (kind_number e.kind) e.place
   unfolding verdict_of
   one_denied g = let l = lost a told g in sym (verdict_marked s (single d s)) ∙ ap (verdict_of (length (marked s))) l.is ∙ cc (l.kind, l.place)

@@ -1,18 +1,15 @@
 -- Decimal digits: where they end, what they make, and which may come first.
 -- Assumes nothing.
-use Rattle.std.proofs.Common.{◌≡◌, ℕ, zero, ◌+◌, ◌-◌, ◌*◌, ◌<◌, ◌≤◌, Bool, true, false, not, leb, List, [], ◌∷◌, length, get_or, drop, sym, refl, ap, ◌∙◌, arith, lt-ltb, ne_eqb, le-leb, leb-false, leb-true}
+use Rattle.std.proofs.Common.{◌≡◌, ℕ, ◌+◌, ◌-◌, ◌*◌, ◌<◌, ◌≤◌, Bool, true, false, not, leb, List, [], ◌∷◌, length, get_or, drop, sym, refl, ap, ◌∙◌, arith, lt-ltb, ne_eqb, le-leb}
 use borrow.Author.Tests.{not-true, not-false}
 use Rattle.cbor.specs.Refusals.{Result, ok, refuse, bind}
-use Rattle.cbor.specs.Items.{unsigned}
 use Rattle.cbor.specs.Utf8.{is_in}
-use Rattle.cbor.proofs.Tests.{clash}
-use Rattle.notation.specs.Classes.{digit, minus, is}
 use Rattle.notation.specs.Scanning.{run}
 use Rattle.notation.specs.Numbers.{digit_value, is_digit, number_from, digits, makes_float, is_floating, radix_of}
 use Rattle.notation.specs.Reading.{marked}
 use Rattle.notation_theorems.proofs.PrintNumbers.{digit_range}
 use Rattle.scanning.proofs.Marked.{at_byte, at-end}
-use Rattle.decimals.specs.DigitParts.{Worth, Outside, GoesOn, EndsAt, Tally, Leads, Behind, DigitThere}
+use Rattle.decimals.specs.DigitParts.{Worth, Outside, GoesOn, EndsAt, Tally}
 
 -- A DIGIT
 
@@ -30,14 +27,13 @@ a-digit b h l = rw (le-leb 0x30 b h, is_digit) (rw (le-leb b 0x39 l) (lt-ltb (b 
 pub digit-below : (b : ℕ) → b < 0x30 → false ≡ is_digit 10 b
 digit-below b h = sym (no_digit b (λ p. omega (arith, p.0)))
 
-pub digit-from : (b : ℕ) → 0x30 ≤ b → leb b 0x39 ≡ is_digit 10 b
-digit-from b h = go (leb b 0x39) refl
-  where
-    go : (t : Bool) → leb b 0x39 ≡ t → t ≡ is_digit 10 b
-    go true e = sym (a-digit b h (leb-true b 0x39 e))
-    go false e = sym (no_digit b (λ p. omega (arith, p.1, leb-false b 0x39 e)))
+pub digit-in : (b : ℕ) → 0x30 ≤ b → b < 0x3a → true ≡ is_digit 10 b
+digit-in b h l = sym (a-digit b h (omega arith))
 
-pub ruleset digit_ways = (digit-below, digit-from)
+pub digit-above : (b : ℕ) → 0x3a ≤ b → false ≡ is_digit 10 b
+digit-above b h = sym (no_digit b (λ p. omega (arith, p.1)))
+
+pub ruleset digit_ways = (digit-below, digit-in, digit-above)
 
 module _ (b : ℕ) (e : is_digit 10 b ≡ true) where
   pub worth_sub : 0x30 ≤ b
@@ -56,9 +52,6 @@ module _ (b : ℕ) (e : is_digit 10 b ≡ true) where
 
 -- WHAT GOES ON
 
-pub on-yes : {b : ℕ} → GoesOn b true
-on-yes = record { is = λ e. absurd (clash e); paren = λ e. absurd (clash e) }
-
 pub on_not : {b : ℕ} (t : Bool) → t ≡ is_digit 10 b → (b ≡ 0x28 → ⊥) → (b ≡ 0x2e → ⊥) → (b ≡ 0x45 → ⊥) → (b ≡ 0x5f → ⊥) → (b ≡ 0x62 → ⊥) → (b ≡ 0x65 → ⊥) → (b ≡ 0x6f → ⊥) → (b ≡ 0x78 → ⊥) → GoesOn b t
 unfolding makes_float radix_of
 on_not {b} t e n₀ n₁ n₂ n₃ n₄ n₅ n₆ n₇ =
@@ -72,8 +65,6 @@ on_not {b} t e n₀ n₁ n₂ n₃ n₄ n₅ n₆ n₇ =
       paren = λ f. ne_eqb b 0x28 n₀;
     }
 
-pub ruleset on_ways = (on-yes, on_not)
-
 -- the end mark, and an opening parenthesis, are outside
 outside-end : Outside 256
 unfolding is_digit makes_float radix_of is_in
@@ -84,10 +75,10 @@ unfolding is_digit makes_float radix_of is_in
 outside-paren = record { digit = refl; float = refl; mark = refl; radix = refl }
 
 module _ {s : List ℕ} {at : ℕ} (h : at ≤ length s) where
-  pub ends-text : length s ≤ at → EndsAt s at true
+  pub ends-text : length s ≤ at → EndsAt s at (leb (length s) at)
   ends-text l =
       let e : at ≡ length s = omega arith in
-      record { is = λ f. record { next = 256; rest = []; left = at-end s at e; outside = outside-end }; paren = λ f. refl }
+      rw (le-leb (length s) at l) (record { is = λ f. record { next = 256; rest = []; left = at-end s at e; outside = outside-end }; paren = λ f. refl })
 
 pub ends_at : {s : List ℕ} {at : ℕ} {t : Bool} → at < length s → GoesOn (get_or s at 0) t → EndsAt s at (not t)
 ends_at {s} {at} {t} l g =
@@ -130,32 +121,3 @@ module _ {s : List ℕ} {from first at v : ℕ} (inv : Tally s from first at v) 
           inside = omega arith;
           ahead = omega (arith, inv.ahead);
         }
-
-module _ {b : ℕ} {minus more : Bool} where
-  pub leads-other : (b ≡ 0x30 → ⊥) → Leads b minus more true
-  leads-other n = record { unsigned = λ e z. absurd (n z); single = λ e z. absurd (n z) }
-
-  pub leads_never : Leads b minus more false
-  leads_never = record { unsigned = λ e z. absurd (clash (sym e)); single = λ e z. absurd (clash (sym e)) }
-
-  pub leads-zero : minus ≡ false → Leads b minus more (not more)
-  leads-zero m = record { unsigned = λ e z. m; single = λ e z. not-true more e }
-
-pub ruleset leads_ways = (leads-other, leads_never, leads-zero)
-
-module _ {at : ℕ} {minus : Bool} where
-  pub behind-some : minus ≡ true → Behind at minus (at + 1)
-  behind-some e = record { some = λ z. refl; none = λ z. absurd (clash (sym e ∙ z)) }
-
-  pub behind-none : minus ≡ false → Behind at minus at
-  behind-none e = record { some = λ z. absurd (clash (sym z ∙ e)); none = λ z. refl }
-
-pub ruleset behind_ways = (behind-some, behind-none)
-
-pub there_not : {s : List ℕ} {at : ℕ} → DigitThere s at false
-there_not = record { is = λ e. absurd (clash (sym e)) }
-
-pub there-byte : {s : List ℕ} {at : ℕ} {t : Bool} → at < length s → t ≡ is_digit 10 (get_or s at 0) → DigitThere s at t
-there-byte l e = record { is = λ f. record { inside = l; digit = sym e ∙ f } }
-
-pub ruleset there_ways = (there_not, there-byte)

@@ -1,6 +1,5 @@
 -- Of the code: what the code of decimal digits says of them. s is a text; the definitions read it with its end mark.
 use Rattle.std.specs.Prelude.{◌≡◌, ℕ, ◌+◌, ◌≤◌, Bool, true, false, List, ◌∷◌, length, drop, ◌==◌, nat_eq}
-use Rattle.cbor.specs.Items.{unsigned}
 use Rattle.notation.specs.Numbers.{digit_value, is_digit, digits, makes_float, is_floating, no_radix, radix_of}
 use Rattle.notation.specs.Reading.{marked}
 use Rattle.numbers.specs.NumberAnswers.{DigitAt}

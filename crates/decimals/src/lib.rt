@@ -13,10 +13,7 @@ const MOST: u64 = 1_844_674_407_370_955_160;
 fn is_digit(b: u8) -> bool
     ensures { result ≡ is_digit 10 b }
 {
-    if b < b'0' {
-        return false;
-    }
-    b <= b'9'
+    matches!(b, b'0'..=b'9')
 }
 
 fn digit(b: u8) -> u64
@@ -30,27 +27,14 @@ fn digit(b: u8) -> u64
 fn goes_on(b: u8) -> bool
     ensures { GoesOn b result }
 {
-    match b {
-        b'(' => true,
-        b'.' => true,
-        b'E' => true,
-        b'_' => true,
-        b'b' => true,
-        b'e' => true,
-        b'o' => true,
-        b'x' => true,
-        _ => is_digit(b),
-    }
+    matches!(b, b'(' | b'.' | b'E' | b'_' | b'b' | b'e' | b'o' | b'x') || is_digit(b)
 }
 
 pub fn ends(text: &[u8], at: usize) -> bool
     requires { at ≤ length text.now }
     ensures { EndsAt text.now at result }
 {
-    if text.len() <= at {
-        return true;
-    }
-    !goes_on(text[at])
+    text.len() <= at || !goes_on(text[at])
 }
 
 #[derive(Drop)]
@@ -65,50 +49,36 @@ fn digits(text: &[u8], from: usize, first: u64) -> DigitRun
     requires first_bound { first ≤ 9 }
     ensures { Tally text.now from first result.end result.value }
 {
-    let mut at = from;
     let mut value = first;
-    while at < text.len() {
-        let b = text[at];
-        if !is_digit(b) {
-            return DigitRun { value, end: at };
-        }
-        if MOST <= value {
-            return DigitRun { value, end: at };
+    for end in from..text.len() {
+        let b = text[end];
+        if !is_digit(b) || MOST <= value {
+            return DigitRun { value, end };
         }
         value = value * 10 + digit(b);
-        at += 1;
     }
-    DigitRun { value, end: at }
+    DigitRun {
+        value,
+        end: text.len(),
+    }
 }
 
 // Whether a first digit may stand before more digits or none, behind a minus or not.
 pub fn leads(b: u8, minus: bool, more: bool) -> bool
     ensures { Leads b minus more result }
 {
-    if b != b'0' {
-        return true;
-    }
-    if minus {
-        return false;
-    }
-    !more
+    b != b'0' || !minus && !more
 }
 
 pub fn behind_sign(at: usize, minus: bool) -> usize
     requires { at < 0xffff_ffff_ffff_ffff }
     ensures { Behind at minus result }
 {
-    if minus {
-        return at + 1;
-    }
-    at
+    if minus { at + 1 } else { at }
 }
 
 pub fn digit_at(text: &[u8], at: usize) -> bool
     ensures { DigitThere text.now at result }
 {
-    if text.len() <= at {
-        return false;
-    }
-    is_digit(text[at])
+    at < text.len() && is_digit(text[at])
 }

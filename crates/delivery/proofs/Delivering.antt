@@ -12,12 +12,13 @@ use Rattle.refusal.specs.declared.RefusalKind.TheVariants.{NoRoom}
 use Rattle.memory.proofs.Buffer.{written-fits, copied-yes}
 use Rattle.outcome.specs.Outcomes.{Refuses}
 use Rattle.delivery.specs.Deliveries.{Delivered}
-use Rattle.outcome.specs.declared.Answer.{Answer}
-use Rattle.outcome.specs.declared.Answer.TheVariants.{Written}
 use Rattle.outcome.proofs.Room.{laid-room, laid-yes, laid-no}
+use Rattle.std.specs.Prelude.{Ok}
+use Rattle.std.specs.Prelude as std
+use Rattle.refusal.specs.declared.Refusal.{Refusal}
 
 module _ {m : List ℕ} {n : ℕ} (b : List ℕ) {v : Bool} (f : v ≡ leb n (min (length b) 65535)) where
-  pub deliver_done : {b' : List ℕ} → v ≡ true → b' ≡ copied b 0 m n → Delivered m n b b' (Written n)
+  pub deliver_done : {b' : List ℕ} → v ≡ true → b' ≡ copied b 0 m n → Delivered m n b b' (Ok n)
   deliver_done t e = record {
     is = λ w x.
         let l : n ≤ min (length b) 65535 = laid-room b f t in
@@ -27,7 +28,7 @@ module _ {m : List ℕ} {n : ℕ} (b : List ℕ) {v : Bool} (f : v ≡ leb n (mi
         rw (e, c) (laid-yes b f w x.sized t);
   }
 
-  pub deliver_refused : {r : Answer} → v ≡ false → Refuses NoRoom 0 r → Delivered m n b b r
+  pub deliver_refused : {r : std.Result ℕ Refusal} → v ≡ false → Refuses NoRoom 0 r → Delivered m n b b r
   deliver_refused t x = record { is = λ w y. laid-no b f w y.sized t x }
 
 pub ruleset deliver_ways = (deliver_done, deliver_refused)

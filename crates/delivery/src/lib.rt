@@ -3,16 +3,16 @@
 
 ghost use Rattle.delivery.specs.Deliveries.{Delivered};
 
-use outcome::{Answer, fits, refuse};
-use refusal::RefusalKind;
+use outcome::{fits, refuse};
+use refusal::{Refusal, RefusalKind};
 
 // The first `size` bytes of what was made, if that is all of them and they have room.
-pub fn deliver(made: &[u8], size: usize, out: &mut [u8]) -> Answer
+pub fn deliver(made: &[u8], size: usize, out: &mut [u8]) -> Result<usize, Refusal>
     ensures { Delivered made.now size out.old out.new result }
 {
     if fits(size, out.len()) {
         buffer::copy(made, size, out);
-        return Answer::Written(size);
+        return Ok(size);
     }
     refuse(RefusalKind::NoRoom, 0)
 }

@@ -11,25 +11,25 @@ use Rattle.operations.specs.Operations.{Outcome}
 use Rattle.outcome.specs.Outcomes.{outcome_of}
 use Rattle.checked.specs.CheckAnswers.{check_told, check_of}
 use Rattle.part.specs.PartAnswers.{locate_told, locate_of}
-use Rattle.outcome.specs.declared.Answer.{Answer}
-use Rattle.outcome.specs.declared.Answer.TheVariants.{Written, Refused}
-use Rattle.checked.specs.declared.Checked.{Checked}
-use Rattle.part.specs.declared.Located.{Located}
 use Rattle.c_reply.specs.Replies.{code, succeeds, length_in, answer_of}
 use Rattle.c_place_reply.specs.PlaceReplies.{spot_in, place_in, CheckReplied, PartReplied}
+use Rattle.std.specs.Prelude.{Ok, Err}
+use Rattle.std.specs.Prelude as std
+use Rattle.part.specs.declared.Part.{Part}
+use Rattle.refusal.specs.declared.Refusal.{Refusal}
 
 -- AN OPERATION WITH A BUFFER
-answer_of_lem : (a : Answer) (b : List ℕ) → answer_of a ≡ (outcome_of a b).answer
+answer_of_lem : (a : std.Result ℕ Refusal) (b : List ℕ) → answer_of a ≡ (outcome_of a b).answer
 unfolding answer_of outcome_of
-answer_of_lem (Written n) b = refl
-answer_of_lem (Refused e) b = refl
+answer_of_lem (Ok n) b = refl
+answer_of_lem (Err e) b = refl
 
-buffer_of : (a : Answer) (b : List ℕ) → b ≡ (outcome_of a b).buffer
+buffer_of : (a : std.Result ℕ Refusal) (b : List ℕ) → b ≡ (outcome_of a b).buffer
 unfolding outcome_of
-buffer_of (Written n) b = refl
-buffer_of (Refused e) b = refl
+buffer_of (Ok n) b = refl
+buffer_of (Err e) b = refl
 
-module _ (a : Answer) (b : List ℕ) (o : Outcome ℕ) (h : outcome_of a b ≡ o) where
+module _ (a : std.Result ℕ Refusal) (b : List ℕ) (o : Outcome ℕ) (h : outcome_of a b ≡ o) where
   pub whole-number : {r : ℕ} → r ≡ code (answer_of a) → r ≡ code o.answer
   whole-number s = s ∙ ap code (answer_of_lem a b ∙ ap (λ p. p.answer) h)
 
@@ -43,7 +43,7 @@ module _ (a : Answer) (b : List ℕ) (o : Outcome ℕ) (h : outcome_of a b ≡ o
   whole-value v s = s ∙ ap (length_in v) (answer_of_lem a b ∙ ap (λ p. p.answer) h)
 
 -- LOOKING UP
-module _ {l : Located} {v v' : List ℕ} {r : ℕ} (w : Verdict Spot) (x : PartReplied l v v' r) (h : locate_told l ≡ locate_of w) where
+module _ {l : std.Result Part Refusal} {v v' : List ℕ} {r : ℕ} (w : Verdict Spot) (x : PartReplied l v v' r) (h : locate_told l ≡ locate_of w) where
   pub part-number : r ≡ code w
   part-number = x.number w h
 
@@ -54,7 +54,7 @@ module _ {l : Located} {v v' : List ℕ} {r : ℕ} (w : Verdict Spot) (x : PartR
   part-value = x.value w h
 
 -- CHECKING
-module _ {c : Checked} {v v' : List ℕ} {r : ℕ} (w : Verdict Items) (x : CheckReplied c v v' r) (h : check_told c ≡ check_of w) where
+module _ {c : std.Result Unit Refusal} {v v' : List ℕ} {r : ℕ} (w : Verdict Items) (x : CheckReplied c v v' r) (h : check_told c ≡ check_of w) where
   pub check_number : r ≡ code w
   check_number = x.number w h
 

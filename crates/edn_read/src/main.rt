@@ -7,23 +7,15 @@ mod report;
 fn answer(rt: &HostRuntime, text: &[u8]) {
     let mut out = [0u8; 131090];
     let size = report::report_read(text, &mut out);
-    let output = streams::write_all(&mut rt.stdout(), report_lines::front(&out, size));
-    if !output.is_whole {
-        streams::fail(
-            rt,
-            "edn_read: standard output cannot be written",
-            output.error,
-        );
+    if let Err(e) = streams::write_all(&mut rt.stdout(), report_lines::front(&out, size)) {
+        streams::fail(rt, "edn_read: standard output cannot be written", e.error);
     }
 }
 
 fn main(rt: HostRuntime) {
     let mut text = io::large_buffer();
-    let input = streams::read_all(&mut rt.stdin(), &mut text);
-    let n = input.size;
-    if input.is_whole {
-        answer(&rt, &text[..n]);
-    } else {
-        streams::fail(&rt, "edn_read: standard input cannot be read", input.error);
+    match streams::read_all(&mut rt.stdin(), &mut text) {
+        Ok(n) => answer(&rt, &text[..n]),
+        Err(e) => streams::fail(&rt, "edn_read: standard input cannot be read", e.error),
     }
 }

@@ -24,8 +24,10 @@ use Rattle.encoding.specs.ReadAnswers.{verdict_by, info_by, Informed, major_by, 
 use Rattle.token.specs.TokenAnswers.{width_number}
 use Rattle.token.specs.declared.Token.{Token as Cut}
 use Rattle.encoding.proofs.Wrote.{wrote-front, wrote-closed, wrote-moved}
-use Rattle.encoding.specs.declared.answer.ReadAnswer.{ReadAnswer}
-use Rattle.encoding.specs.declared.answer.ReadAnswer.TheVariants.{Made, Refused}
+use Rattle.std.specs.Prelude.{Ok, Err}
+use Rattle.std.specs.Prelude as std
+use Rattle.encoding.specs.declared.answer.MadeItem.{MadeItem}
+use Rattle.refusal.specs.declared.Refusal.{Refusal}
 
 -- THE MAJOR TYPE
 module _ {c : ℕ} where
@@ -128,11 +130,11 @@ unfolding initial_by
 initial-is t a b = rw (a.is, b.is)
 
 -- REFUSALS AND ANSWERS
-pub denies_is : {k : RefusalKind} {at : ℕ} → Denies (kind_number k) at (Refused (record { kind = k; place = at }))
+pub denies_is : {k : RefusalKind} {at : ℕ} → Denies (kind_number k) at (Err (record { kind = k; place = at }))
 unfolding verdict_by
 denies_is = record { is = refl }
 
-pub strayed-is : {d k : ℕ} {t : Cut} {kind : RefusalKind} → k ≡ stray_by d t.kind t.refusal t.indicator → Kinded k kind → Strayed d t (Refused (record { kind = kind; place = t.place }))
+pub strayed-is : {d k : ℕ} {t : Cut} {kind : RefusalKind} → k ≡ stray_by d t.kind t.refusal t.indicator → Kinded k kind → Strayed d t (Err (record { kind = kind; place = t.place }))
 unfolding verdict_by
 strayed-is {kind = kind} e h = record { number = kind_number kind; is = refl; known = λ l m. h.is (rw e l) (rw e m) ∙ e }
 
@@ -202,31 +204,31 @@ module _ {b b' : List ℕ} {pos first size r : ℕ} (n : ℕ) (h : HeadSize firs
 
 pub ruleset before_ways = (before-short, before_long)
 
-module _ {b : List ℕ} {pos room major indicator n next size place width : ℕ} {binary : Bool} {length' : ℕ} {a : ReadAnswer} (c : width ≡ choose_by indicator n) where
+module _ {b : List ℕ} {pos room major indicator n next size place width : ℕ} {binary : Bool} {length' : ℕ} {a : std.Result MadeItem Refusal} (c : width ≡ choose_by indicator n) where
   pub finish_none : width ≡ 0 → Denies bad_indicator place a → Finished b b pos room major indicator n next size place binary length' a
   finish_none e f = record { refused = λ z. f; made = λ k. absurd (k (sym c ∙ e)); closed = λ k. absurd (k (sym c ∙ e)) }
 
   -- a head of `head` bytes, of the additional information that goes with the width
   finish_by : {b' : List ℕ} {info head : ℕ} → (width ≡ 0 → ⊥) → Informed width n info → head ≡ length (head_bytes (major * 32 + info) n)
       → ((b₀ ws : List ℕ) → Wrote b₀ b (pos + room) ws → size ≡ length ws → (length (head_bytes (major * 32 + info) n) < room → pos + room + size ≤ length b) → Wrote b₀ b' pos (head_bytes (major * 32 + info) n ++ ws))
-      → a ≡ Made (record { next = next; size = head + size; count = 1; indicator = 0; binary = binary; length = length' }) → Finished b b' pos room major indicator n next size place binary length' a
+      → a ≡ Ok (record { next = next; size = head + size; count = 1; indicator = 0; binary = binary; length = length' }) → Finished b b' pos room major indicator n next size place binary length' a
   finish_by {b'} {info} {head} k i h w f =
       let j : info ≡ info_by (choose_by indicator n) n = i.is ∙ ap (λ (w : ℕ). info_by w n) c in
       let q : head ≡ length (head_bytes (major * 32 + info_by (choose_by indicator n) n) n) = h ∙ ap (λ (x : ℕ). length (head_bytes (major * 32 + x) n)) j in
       record {
         refused = λ z. absurd (k (c ∙ z));
-        made = λ z. f ∙ ap (λ (x : ℕ). Made (record { next = next; size = x + size; count = 1; indicator = 0; binary = binary; length = length' })) q;
+        made = λ z. f ∙ ap (λ (x : ℕ). Ok (record { next = next; size = x + size; count = 1; indicator = 0; binary = binary; length = length' })) q;
         closed = λ z b₀ ws u e far. rw j at (w b₀ ws u e (rw (← j) at far));
       }
 
-module _ {b b' : List ℕ} {pos major indicator n next size place width info head : ℕ} {binary : Bool} {length' : ℕ} {a : ReadAnswer} (c : width ≡ choose_by indicator n) (k : width ≡ 0 → ⊥) (i : Informed width n info) where
+module _ {b b' : List ℕ} {pos major indicator n next size place width info head : ℕ} {binary : Bool} {length' : ℕ} {a : std.Result MadeItem Refusal} (c : width ≡ choose_by indicator n) (k : width ≡ 0 → ⊥) (i : Informed width n info) where
   pub finish_done : Closes b b' pos (head_bytes (major * 32 + info) n) size head
-      → a ≡ Made (record { next = next; size = head + size; count = 1; indicator = 0; binary = binary; length = length' }) → Finished b b' pos 1 major indicator n next size place binary length' a
+      → a ≡ Ok (record { next = next; size = head + size; count = 1; indicator = 0; binary = binary; length = length' }) → Finished b b' pos 1 major indicator n next size place binary length' a
   finish_done h f = finish_by c k i h.sized (λ b₀ ws w e far. h.is b₀ ws w e) f
 
   -- behind any room: what was read is moved to where the head ends
   pub enclose_done : {b₁ : List ℕ} {room : ℕ} → HeadSize (major * 32 + info) head → b₁ ≡ moved b (pos + room) (pos + head) size → b' ≡ over_if_fits b₁ pos (head_bytes (major * 32 + info) n)
-      → a ≡ Made (record { next = next; size = head + size; count = 1; indicator = 0; binary = binary; length = length' }) → Finished b b' pos room major indicator n next size place binary length' a
+      → a ≡ Ok (record { next = next; size = head + size; count = 1; indicator = 0; binary = binary; length = length' }) → Finished b b' pos room major indicator n next size place binary length' a
   enclose_done {room = room} h m w f =
       let q : head ≡ length (head_bytes (major * 32 + info) n) = h.is n in
       finish_by c k i q (λ b₀ ws u e far. wrote-moved (head_bytes (major * 32 + info) n) u e (m ∙ ap (λ (x : ℕ). moved b (pos + room) (pos + x) size) q) w far) f
@@ -263,14 +265,14 @@ module _ {n : ℕ} (f : Few n) where
   pub short-first : {major size : ℕ} → Heavy major size → Fits bits8 (major * 32 + n)
   short-first h = record { fits = omega (arith, f.most, h.most) }
 
-  pub short-done : {b b' : List ℕ} {pos next size : ℕ} {a : ReadAnswer} (major : ℕ) → b' ≡ over_if_fits b pos ((major * 32 + n) ∷ []) → a ≡ Made (record { next = next; size = size + 1; count = 1; indicator = 0; binary = false; length = 0 })
+  pub short-done : {b b' : List ℕ} {pos next size : ℕ} {a : std.Result MadeItem Refusal} (major : ℕ) → b' ≡ over_if_fits b pos ((major * 32 + n) ∷ []) → a ≡ Ok (record { next = next; size = size + 1; count = 1; indicator = 0; binary = false; length = 0 })
       → FinishedShort b b' pos major n next size a
   short-done {next = next} {size = size} major w e =
       let q : size + 1 ≡ 1 + size = omega arith in
       record {
         is = λ place.
             finish_done few_choice (λ z. omega arith) few_informed (before-short n (few-size major) refl w)
-            (e ∙ ap (λ (x : ℕ). Made (record { next = next; size = x; count = 1; indicator = 0; binary = false; length = 0 })) q);
+            (e ∙ ap (λ (x : ℕ). Ok (record { next = next; size = x; count = 1; indicator = 0; binary = false; length = 0 })) q);
       }
 
 pub short-size : {major size : ℕ} → Heavy major size → Fits bits64 (size + 1)

@@ -26,8 +26,10 @@ use Rattle.encoding.proofs.ReadSmall.{one_byte}
 use Rattle.encoding.proofs.Wrote.{wrote-written, wrote-over, wrote-more}
 use Rattle.encoding.specs.ReadAnswers.{held_of, Tells, of_item, info_by, major_by, initial_by, is_bytes_by, HeadSize, HeadWritten, Light, Wrote, Filled, Gave, Leafed, Stringed, LiteralIs, LiteralTold, Ended}
 use Rattle.token.specs.declared.Token.{Token as Cut}
-use Rattle.encoding.specs.declared.answer.ReadAnswer.{ReadAnswer}
-use Rattle.encoding.specs.declared.answer.ReadAnswer.TheVariants.{Made}
+use Rattle.std.specs.Prelude.{Ok}
+use Rattle.std.specs.Prelude as std
+use Rattle.encoding.specs.declared.answer.MadeItem.{MadeItem}
+use Rattle.refusal.specs.declared.Refusal.{Refusal}
 
 -- HEADS of tokens
 pub info_width : (w : Width) (n : ℕ) → n ≤ limit w → info_by (width_number w) n ≡ information w n
@@ -54,12 +56,12 @@ module _ {b b' : List ℕ} {pos first size : ℕ} (n : ℕ) (h : HeadSize first 
 pub ruleset written_ways = (written-short, written_long)
 
 -- A LEAF
-pub leafed_is : {b b' : List ℕ} {pos first size : ℕ} {a : ReadAnswer} (t : Cut) → first ≡ initial_by t → HeadWritten b b' pos first t.argument size
-    → a ≡ Made (record { next = t.next; size = size; count = 1; indicator = 0; binary = false; length = 0 }) → Leafed t b b' pos a
+pub leafed_is : {b b' : List ℕ} {pos first size : ℕ} {a : std.Result MadeItem Refusal} (t : Cut) → first ≡ initial_by t → HeadWritten b b' pos first t.argument size
+    → a ≡ Ok (record { next = t.next; size = size; count = 1; indicator = 0; binary = false; length = 0 }) → Leafed t b b' pos a
 leafed_is {first = first} {size = size} t e h f =
     let q : size ≡ length (head_bytes (initial_by t) t.argument) = h.size.is t.argument ∙ ap (λ (x : ℕ). length (head_bytes x t.argument)) e in
     record {
-      is = f ∙ ap (λ (x : ℕ). Made (record { next = t.next; size = x; count = 1; indicator = 0; binary = false; length = 0 })) q;
+      is = f ∙ ap (λ (x : ℕ). Ok (record { next = t.next; size = x; count = 1; indicator = 0; binary = false; length = 0 })) q;
       wrote = rw e at h.wrote;
     }
 
@@ -126,8 +128,8 @@ module _ (pos size : ℕ) (l : Light (pos + size)) where
   pub ended-size : Fits bits64 (size + 2)
   ended-size = record { fits = omega (arith, l.fits) }
 
-pub ended_is : {b b₁ b₂ : List ℕ} {pos first next size : ℕ} {binary : Bool} {length' : ℕ} {a : ReadAnswer} → b₁ ≡ over_if_fits b pos (first ∷ []) → b₂ ≡ over_if_fits b₁ (pos + size + 1) (255 ∷ [])
-    → a ≡ Made (record { next = next; size = size + 2; count = 1; indicator = 0; binary = binary; length = length' }) → Ended b b₂ pos first next size binary length' a
+pub ended_is : {b b₁ b₂ : List ℕ} {pos first next size : ℕ} {binary : Bool} {length' : ℕ} {a : std.Result MadeItem Refusal} → b₁ ≡ over_if_fits b pos (first ∷ []) → b₂ ≡ over_if_fits b₁ (pos + size + 1) (255 ∷ [])
+    → a ≡ Ok (record { next = next; size = size + 2; count = 1; indicator = 0; binary = binary; length = length' }) → Ended b b₂ pos first next size binary length' a
 ended_is {b₁ = b₁} e f g = record { mid = b₁; front = e; back = wrote-written f; is = g }
 
 -- A LITERAL THAT IS AN ITEM
@@ -157,7 +159,7 @@ string-head {t = t} {k = k} {w = w} {c = c} l =
     let e : initial_by t ≡ initial (strings k) (information w (length c)) = rw (l.code, l.size, l.number, kind-major k, info_width w (length c) n) in
     rw (e, l.number) (sym (head_bytes_lem (strings k) w (length c) n))
 
-module _ (s : List ℕ) (t : Cut) {b b' : List ℕ} {pos : ℕ} {a : ReadAnswer} where
+module _ (s : List ℕ) (t : Cut) {b b' : List ℕ} {pos : ℕ} {a : std.Result MadeItem Refusal} where
   literal_open_by : {binary : Bool} {first : ℕ} → first ≡ initial_by t → t.indicator ≡ 1 → binary ≡ is_bytes_by t.kind → Ended b b' pos first t.next 0 binary 0 a
       → (k : Kind) (z : Size) (c : List ℕ) → LiteralIs s t k z c → Gave b b' pos t.next a (of_item (literal_item k z c))
   unfolding of_item literal_item encode enclosed opening_head closing_break encode_chunks initial_by initial size_number info_by
@@ -180,7 +182,7 @@ module _ (s : List ℕ) (t : Cut) {b b' : List ℕ} {pos : ℕ} {a : ReadAnswer}
   literal_open fe e te en = record { is = literal_open_by fe e te en }
 
   literal-by : {binary : Bool} {size : ℕ} → (t.indicator ≡ 1 → ⊥) → binary ≡ is_bytes_by t.kind → Stringed s t b b' pos size
-      → a ≡ Made (record { next = t.next; size = size; count = 1; indicator = 0; binary = binary; length = t.argument })
+      → a ≡ Ok (record { next = t.next; size = size; count = 1; indicator = 0; binary = binary; length = t.argument })
       → (k : Kind) (z : Size) (c : List ℕ) → LiteralIs s t k z c → Gave b b' pos t.next a (of_item (literal_item k z c))
   unfolding of_item literal_item encode encode_string size_number
   literal-by n1 te st f k indefinite c l = absurd (n1 l.size)
@@ -199,7 +201,7 @@ module _ (s : List ℕ) (t : Cut) {b b' : List ℕ} {pos : ℕ} {a : ReadAnswer}
       }
 
   pub literal-done : {binary : Bool} {size : ℕ} → (t.indicator ≡ 1 → ⊥) → binary ≡ is_bytes_by t.kind → Stringed s t b b' pos size
-      → a ≡ Made (record { next = t.next; size = size; count = 1; indicator = 0; binary = binary; length = t.argument }) → LiteralTold s t b b' pos a
+      → a ≡ Ok (record { next = t.next; size = size; count = 1; indicator = 0; binary = binary; length = t.argument }) → LiteralTold s t b b' pos a
   literal-done n1 te st f = record { is = literal-by n1 te st f }
 
 pub ruleset literal_ways = (literal_open, literal-done)

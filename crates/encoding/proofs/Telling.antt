@@ -21,11 +21,11 @@ use Rattle.notation.specs.Reading.{marked}
 use Rattle.token.specs.TokenAnswers.{width_number, indicator_number, item_code, open_code, kind_code, begin_code, shape_code, code_of, open_mark, item_mark, begin_mark, mark_of, Seen, Shown, Took}
 use Rattle.encoding.specs.ReadAnswers.{View, stray_by, verdict_by, MovedOn, Denied, After, ReadTold, Strayed, Denies}
 use Rattle.token.specs.declared.Token.{Token as Cut}
-use Rattle.encoding.specs.declared.answer.MadeItem.{MadeItem as MadeS}
-use Rattle.encoding.specs.declared.answer.ReadAnswer.{ReadAnswer}
-use Rattle.encoding.specs.declared.answer.ReadAnswer.TheVariants.{Made, Refused}
+use Rattle.encoding.specs.declared.answer.MadeItem.{MadeItem}
 use Rattle.scanning.proofs.Marked.{stands-left, stands_at}
 use Rattle.encoding.proofs.ReadTokens.{Known, Fine, LeafFine, Cuts, next-fine}
+use Rattle.std.specs.Prelude.{Ok, Err}
+use Rattle.std.specs.Prelude as std
 
 -- PLACES
 pub place_at : {s : List ℕ} {at : ℕ} {t : Cut} → Took s at t → t.place ≡ length (marked s) - place (drop at (marked s))
@@ -46,53 +46,53 @@ unfolding bind
 bind-yes u f x r e = rw e
 
 -- ANSWERS of the two kinds
-module _ {A : Type 0} {v : A → View} {s b b' : List ℕ} {most pos : ℕ} {a : ReadAnswer} where
+module _ {A : Type 0} {v : A → View} {s b b' : List ℕ} {most pos : ℕ} {a : std.Result MadeItem Refusal} where
   pub told-no : (k q : ℕ) (res : Result A) → res ≡ refuse k q → Denied s a k q → ReadTold v s b b' most pos a res
   unfolding After
   told-no k q res e f = rw e (record { after = f })
 
-  pub told-ok : {m : MadeS} {r : List ℕ} (x : A) (res : Result A) → res ≡ ok x r → a ≡ Made m → MovedOn s b b' most pos m (v x) r → ReadTold v s b b' most pos a res
+  pub told-ok : {m : MadeItem} {r : List ℕ} (x : A) (res : Result A) → res ≡ ok x r → a ≡ Ok m → MovedOn s b b' most pos m (v x) r → ReadTold v s b b' most pos a res
   unfolding After verdict_by
   told-ok {m} {r} x res e f mv = rw e (record { after = record { made = m; is = ap verdict_by f; moved = mv } })
 
-pub denied : {s : List ℕ} {a : ReadAnswer} {k p q : ℕ} → Denies k p a → p ≡ length (marked s) - q → Denied s a k q
+pub denied : {s : List ℕ} {a : std.Result MadeItem Refusal} {k p q : ℕ} → Denies k p a → p ≡ length (marked s) - q → Denied s a k q
 denied {k = k} d e = record { is = d.is ∙ ap (refused k) e }
 
 -- an answer that is a thing, of a reader whose result is res
-pub record Got {A : Type 0} (v : A → View) (s b b' : List ℕ) (most pos : ℕ) (m : MadeS) (res : Result A) : Type 0 where
+pub record Got {A : Type 0} (v : A → View) (s b b' : List ℕ) (most pos : ℕ) (m : MadeItem) (res : Result A) : Type 0 where
   pub thing : A
   pub rest : List ℕ
   pub is : res ≡ ok thing rest
   pub moved : MovedOn s b b' most pos m (v thing) rest
 
 -- what is said of a thing that was made, and of a refusal
-said-made : (a : ReadAnswer) (m : MadeS) → a ≡ Made m → verdict_by a ≡ accepted m
+said-made : (a : std.Result MadeItem Refusal) (m : MadeItem) → a ≡ Ok m → verdict_by a ≡ accepted m
 unfolding verdict_by
 said-made a m e = rw e
 
-pub said-refused : (a : ReadAnswer) (e : Refusal) → a ≡ Refused e → verdict_by a ≡ refused (kind_number e.kind) e.place
+pub said-refused : (a : std.Result MadeItem Refusal) (e : Refusal) → a ≡ Err e → verdict_by a ≡ refused (kind_number e.kind) e.place
 unfolding verdict_by
 said-refused a e f = rw f
 
 -- which are not the same
-never_both : {m : MadeS} {k p : ℕ} (u : Verdict MadeS) → u ≡ accepted m → u ≡ refused k p → ⊥
+never_both : {m : MadeItem} {k p : ℕ} (u : Verdict MadeItem) → u ≡ accepted m → u ≡ refused k p → ⊥
 never_both u e f = let z : ◌≡◌ {A = ℕ} 0 1 = cc in omega arith
 
-pub made_never : {m : MadeS} {k p : ℕ} {P : Type 0} (a : ReadAnswer) → verdict_by a ≡ refused k p → a ≡ Made m → P
+pub made_never : {m : MadeItem} {k p : ℕ} {P : Type 0} (a : std.Result MadeItem Refusal) → verdict_by a ≡ refused k p → a ≡ Ok m → P
 made_never {m} a f e = absurd (never_both (verdict_by a) (said-made a m e) f)
 
-made-same : (a : ReadAnswer) (m m' : MadeS) → a ≡ Made m → verdict_by a ≡ accepted m' → m ≡ m'
+made-same : (a : std.Result MadeItem Refusal) (m m' : MadeItem) → a ≡ Ok m → verdict_by a ≡ accepted m' → m ≡ m'
 made-same a m m' e f = let g = said-made a m e in cc
 
-got_of : {A : Type 0} (v : A → View) (s b b' : List ℕ) (most pos : ℕ) (a : ReadAnswer) (m : MadeS) (res : Result A) → a ≡ Made m → After v s b b' most pos a res → Got v s b b' most pos m res
+got_of : {A : Type 0} (v : A → View) (s b b' : List ℕ) (most pos : ℕ) (a : std.Result MadeItem Refusal) (m : MadeItem) (res : Result A) → a ≡ Ok m → After v s b b' most pos a res → Got v s b b' most pos m res
 unfolding After
 got_of v s b b' most pos a m (ok x r) e f = record { thing = x; rest = r; is = refl; moved = rw (made-same a m f.made e f.is) f.moved }
 got_of v s b b' most pos a m (refuse k q) e f = made_never a f.is e
 
-pub got : {A : Type 0} {v : A → View} {s b b' : List ℕ} {most pos : ℕ} {m : MadeS} {res : Result A} (a : ReadAnswer) → ReadTold v s b b' most pos a res → a ≡ Made m → Got v s b b' most pos m res
+pub got : {A : Type 0} {v : A → View} {s b b' : List ℕ} {most pos : ℕ} {m : MadeItem} {res : Result A} (a : std.Result MadeItem Refusal) → ReadTold v s b b' most pos a res → a ≡ Ok m → Got v s b b' most pos m res
 got {A} {v} {s} {b} {b'} {most} {pos} {m} {res} a h e = got_of v s b b' most pos a m res e h.after
 
-pub made_inside : {A : Type 0} {v : A → View} {s b b' : List ℕ} {most pos : ℕ} {m : MadeS} {res : Result A} (a : ReadAnswer) → ReadTold v s b b' most pos a res → a ≡ Made m → m.next ≤ length (marked s)
+pub made_inside : {A : Type 0} {v : A → View} {s b b' : List ℕ} {most pos : ℕ} {m : MadeItem} {res : Result A} (a : std.Result MadeItem Refusal) → ReadTold v s b b' most pos a res → a ≡ Ok m → m.next ≤ length (marked s)
 made_inside a h e = (got a h e).moved.stands.inside
 
 -- an answer that is a refusal
@@ -103,7 +103,7 @@ pub record Lost {A : Type 0} (s : List ℕ) (e : Refusal) (res : Result A) : Typ
   pub kind : kind_number e.kind ≡ number
   pub place : e.place ≡ length (marked s) - left
 
-lost_of : {A : Type 0} (v : A → View) (s b b' : List ℕ) (most pos : ℕ) (a : ReadAnswer) (e : Refusal) (res : Result A) → a ≡ Refused e → After v s b b' most pos a res → Lost s e res
+lost_of : {A : Type 0} (v : A → View) (s b b' : List ℕ) (most pos : ℕ) (a : std.Result MadeItem Refusal) (e : Refusal) (res : Result A) → a ≡ Err e → After v s b b' most pos a res → Lost s e res
 unfolding After
 lost_of v s b b' most pos a e (ok x r) h f = absurd (never_both (verdict_by a) f.is (said-refused a e h))
 lost_of v s b b' most pos a e (refuse k l) h f =
@@ -111,17 +111,17 @@ lost_of v s b b' most pos a e (refuse k l) h f =
     let g = said-refused a e h in
     record { number = k; left = l; is = refl; kind = cc; place = cc }
 
-pub lost : {A : Type 0} {v : A → View} {s b b' : List ℕ} {most pos : ℕ} {e : Refusal} {res : Result A} (a : ReadAnswer) → ReadTold v s b b' most pos a res → a ≡ Refused e → Lost s e res
+pub lost : {A : Type 0} {v : A → View} {s b b' : List ℕ} {most pos : ℕ} {e : Refusal} {res : Result A} (a : std.Result MadeItem Refusal) → ReadTold v s b b' most pos a res → a ≡ Err e → Lost s e res
 lost {A} {v} {s} {b} {b'} {most} {pos} {e} {res} a h f = lost_of v s b b' most pos a e res f h.after
 
 -- a reader that begins with a part that is refused
 pub told-lost : {A B : Type 0} {v : B → View} {s b b' : List ℕ} {most pos : ℕ} {e : Refusal} {res : Result A} (res' : Result B) (f : A → List ℕ → Result B) → Lost s e res → res' ≡ bind res f
-    → ReadTold v s b b' most pos (Refused e) res'
+    → ReadTold v s b b' most pos (Err e) res'
 told-lost {e = e} {res = res} res' f l q =
-    told-no l.number l.left res' (q ∙ bind-no res f _ _ l.is) (record { is = said-refused (Refused e) e refl ∙ ap₂ refused l.kind l.place })
+    told-no l.number l.left res' (q ∙ bind-no res f _ _ l.is) (record { is = said-refused (Err e) e refl ∙ ap₂ refused l.kind l.place })
 
 -- more text than there was
-after_more : {A : Type 0} (v : A → View) (s b b' : List ℕ) (m m' pos : ℕ) (a : ReadAnswer) (res : Result A) → m ≤ m' → After v s b b' m pos a res → After v s b b' m' pos a res
+after_more : {A : Type 0} (v : A → View) (s b b' : List ℕ) (m m' pos : ℕ) (a : std.Result MadeItem Refusal) (res : Result A) → m ≤ m' → After v s b b' m pos a res → After v s b b' m' pos a res
 unfolding After
 after_more v s b b' m m' pos a (ok x r) le f =
     record {
@@ -131,17 +131,17 @@ after_more v s b b' m m' pos a (ok x r) le f =
     }
 after_more v s b b' m m' pos a (refuse k left) le f = f
 
-pub told_more : {A : Type 0} {v : A → View} {s b b' : List ℕ} {m m' pos : ℕ} {a : ReadAnswer} {res : Result A} → m ≤ m' → ReadTold v s b b' m pos a res → ReadTold v s b b' m' pos a res
+pub told_more : {A : Type 0} {v : A → View} {s b b' : List ℕ} {m m' pos : ℕ} {a : std.Result MadeItem Refusal} {res : Result A} → m ≤ m' → ReadTold v s b b' m pos a res → ReadTold v s b b' m' pos a res
 told_more le h = record { after = after_more _ _ _ _ _ _ _ _ _ le h.after }
 
 -- a thing that something else is made of, with the same view
-after_map : {A B : Type 0} (v : A → View) (v' : B → View) (f : A → B) → ((x : A) → v x ≡ v' (f x)) → (s b b' : List ℕ) (most pos : ℕ) (a : ReadAnswer) (res : Result A)
+after_map : {A B : Type 0} (v : A → View) (v' : B → View) (f : A → B) → ((x : A) → v x ≡ v' (f x)) → (s b b' : List ℕ) (most pos : ℕ) (a : std.Result MadeItem Refusal) (res : Result A)
     → After v s b b' most pos a res → After v' s b b' most pos a (bind res (λ x r. ok (f x) r))
 unfolding After bind
 after_map v v' f h s b b' most pos a (ok x r) g = record { made = g.made; is = g.is; moved = rw (h x) at g.moved }
 after_map v v' f h s b b' most pos a (refuse k q) g = g
 
-pub told-map : {A B : Type 0} {v : A → View} {v' : B → View} {s b b' : List ℕ} {most pos : ℕ} {a : ReadAnswer} {res : Result A} (f : A → B) → ((x : A) → v x ≡ v' (f x)) → ReadTold v s b b' most pos a res
+pub told-map : {A B : Type 0} {v : A → View} {v' : B → View} {s b b' : List ℕ} {most pos : ℕ} {a : std.Result MadeItem Refusal} {res : Result A} (f : A → B) → ((x : A) → v x ≡ v' (f x)) → ReadTold v s b b' most pos a res
     → ReadTold v' s b b' most pos a (bind res (λ x r. ok (f x) r))
 told-map {v = v} {v' = v'} f h g = record { after = after_map v v' f h _ _ _ _ _ _ _ g.after }
 
@@ -266,7 +266,7 @@ stray-known n d a_comma k f = eleven
 stray-known n d a_colon k f = eleven
 
 -- a reader that comes to a token which its rule denies, or to none
-stop_of : {A : Type 0} (v : A → View) (s b b' : List ℕ) (most pos d at : ℕ) (a : ReadAnswer) (t : Cut) (f : Token → List ℕ → Result A) (u : Result Token)
+stop_of : {A : Type 0} (v : A → View) (s b b' : List ℕ) (most pos d at : ℕ) (a : std.Result MadeItem Refusal) (t : Cut) (f : Token → List ℕ → Result A) (u : Result Token)
     → Shown s t u → Cuts (place (drop at (marked s))) u → t.place ≡ length (marked s) - place (drop at (marked s)) → Strayed d t a
     → ((tok : Token) (r : List ℕ) → t.kind ≡ code_of tok → u ≡ ok tok r → f tok r ≡ refuse (stray d tok) (place (drop at (marked s)))) → ReadTold v s b b' most pos a (bind u f)
 unfolding Shown bind stray_by
@@ -280,7 +280,7 @@ stop_of v s b b' most pos d at a t f (refuse k q) h c p st g =
     told-no k q _ refl
     (record { is = st.is ∙ ap₂ refused (st.known (omega (arith, e, c.0.low)) (omega (arith, e, c.0.high)) ∙ e) (p ∙ ap (λ (x : ℕ). length (marked s) - x) (sym c.1)) })
 
-pub told_stop : {A : Type 0} {v : A → View} {s b b' : List ℕ} {most pos at : ℕ} {a : ReadAnswer} {t : Cut} (d : ℕ) (f : Token → List ℕ → Result A) (res : Result A)
+pub told_stop : {A : Type 0} {v : A → View} {s b b' : List ℕ} {most pos at : ℕ} {a : std.Result MadeItem Refusal} {t : Cut} (d : ℕ) (f : Token → List ℕ → Result A) (res : Result A)
     → Took s at t → Strayed d t a → res ≡ bind (next (drop at (marked s))) f
     → ((tok : Token) (r : List ℕ) → t.kind ≡ code_of tok → next (drop at (marked s)) ≡ ok tok r → f tok r ≡ refuse (stray d tok) (place (drop at (marked s)))) → ReadTold v s b b' most pos a res
 told_stop {A} {v} {s} {b} {b'} {most} {pos} {at} {a} {t} d f res tk st q g =

@@ -17,9 +17,10 @@ use Rattle.notation.specs.Reading.{marked}
 use Rattle.scanning.specs.Stands.{Stands}
 use Rattle.token.specs.TokenAnswers.{indicator_number, kind_code, size_number, code_of, Spelled}
 use Rattle.token.specs.declared.Token.{Token as Cut}
-use Rattle.encoding.specs.declared.answer.MadeItem.{MadeItem as MadeS}
-use Rattle.encoding.specs.declared.answer.ReadAnswer.{ReadAnswer}
-use Rattle.encoding.specs.declared.answer.ReadAnswer.TheVariants.{Made, Refused}
+use Rattle.encoding.specs.declared.answer.MadeItem.{MadeItem}
+use Rattle.std.specs.Prelude.{Ok, Err}
+use Rattle.std.specs.Prelude as std
+use Rattle.refusal.specs.declared.Refusal.{Refusal}
 
 -- WHAT THE CODE KNOWS of a thing that was read: its bytes; how many things it is, or how long the content of a chunk; the indicator on
 -- the token that closed it, by its number; and what the check of typed arrays asks for
@@ -248,13 +249,13 @@ pub record Roomed (pos end r : ℕ) : Type 0 where
 -- ANSWERS
 
 -- what each case of a reader's answer says: what was made, with its facts; or the number of the paper's table and the place
-unfoldable pub verdict_by : ReadAnswer → Verdict MadeS
-verdict_by (Made m) = accepted m
-verdict_by (Refused e) = refused (kind_number e.kind) e.place
+unfoldable pub verdict_by : std.Result MadeItem Refusal → Verdict MadeItem
+verdict_by (Ok m) = accepted m
+verdict_by (Err e) = refused (kind_number e.kind) e.place
 
 -- a reader's answer m, at pos: a thing x was read, and r is left. Its bytes are at most nine for each byte of the text, of which there
 -- were `most`, and they are in the buffer from pos on, if they fit
-pub record MovedOn (s b b' : List ℕ) (most pos : ℕ) (m : MadeS) (x : View) (r : List ℕ) : Type 0 where
+pub record MovedOn (s b b' : List ℕ) (most pos : ℕ) (m : MadeItem) (x : View) (r : List ℕ) : Type 0 where
   pub stands : Stands (marked s) m.next r
   pub sized : m.size ≡ length x.bytes
   pub counted : m.count ≡ x.count
@@ -264,42 +265,42 @@ pub record MovedOn (s b b' : List ℕ) (most pos : ℕ) (m : MadeS) (x : View) (
   pub short : m.size + 9 * length r ≤ 9 * most
   pub wrote : Wrote b b' pos x.bytes
 
-pub record Became {A : Type 0} (v : A → View) (s b b' : List ℕ) (most pos : ℕ) (a : ReadAnswer) (x : A) (r : List ℕ) : Type 0 where
-  pub made : MadeS
+pub record Became {A : Type 0} (v : A → View) (s b b' : List ℕ) (most pos : ℕ) (a : std.Result MadeItem Refusal) (x : A) (r : List ℕ) : Type 0 where
+  pub made : MadeItem
   pub is : verdict_by a ≡ accepted made
   pub moved : MovedOn s b b' most pos made (v x) r
 
 -- a refusal by the number k where q is left
-pub record Denied (s : List ℕ) (a : ReadAnswer) (k q : ℕ) : Type 0 where
+pub record Denied (s : List ℕ) (a : std.Result MadeItem Refusal) (k q : ℕ) : Type 0 where
   pub is : verdict_by a ≡ refused k (length (marked s) - q)
 
-unfoldable pub After : {A : Type 0} → (A → View) → List ℕ → List ℕ → List ℕ → ℕ → ℕ → ReadAnswer → Result A → Type 0
+unfoldable pub After : {A : Type 0} → (A → View) → List ℕ → List ℕ → List ℕ → ℕ → ℕ → std.Result MadeItem Refusal → Result A → Type 0
 After v s b b' most pos a (ok x r) = Became v s b b' most pos a x r
 After v s b b' most pos a (refuse k q) = Denied s a k q
 
 -- what a reader at pos tells of the result that the definitions have
-pub record ReadTold {A : Type 0} (v : A → View) (s b b' : List ℕ) (most pos : ℕ) (a : ReadAnswer) (res : Result A) : Type 0 where
+pub record ReadTold {A : Type 0} (v : A → View) (s b b' : List ℕ) (most pos : ℕ) (a : std.Result MadeItem Refusal) (res : Result A) : Type 0 where
   pub after : After v s b b' most pos a res
 
 -- the same of chunks of a kind
-pub record ChunksTold (kind : ℕ) (s b b' : List ℕ) (most pos : ℕ) (a : ReadAnswer) (res : Result Chunks) : Type 0 where
+pub record ChunksTold (kind : ℕ) (s b b' : List ℕ) (most pos : ℕ) (a : std.Result MadeItem Refusal) (res : Result Chunks) : Type 0 where
   pub told : ReadTold (of_chunks (kind_for kind)) s b b' most pos a res
-  pub kept : (m : MadeS) → a ≡ Made m → (m.binary ≡ is_bytes_by kind) × (m.length ≡ m.count)
+  pub kept : (m : MadeItem) → a ≡ Ok m → (m.binary ≡ is_bytes_by kind) × (m.length ≡ m.count)
 
 -- a refusal at a token that may not stand where it does
-pub record Strayed (d : ℕ) (t : Cut) (a : ReadAnswer) : Type 0 where
+pub record Strayed (d : ℕ) (t : Cut) (a : std.Result MadeItem Refusal) : Type 0 where
   pub number : ℕ
   pub is : verdict_by a ≡ refused number t.place
   pub known : 1 ≤ stray_by d t.kind t.refusal t.indicator → stray_by d t.kind t.refusal t.indicator ≤ 17 → number ≡ stray_by d t.kind t.refusal t.indicator
 
 -- a refusal by a number
-pub record Denies (k at : ℕ) (a : ReadAnswer) : Type 0 where
+pub record Denies (k at : ℕ) (a : std.Result MadeItem Refusal) : Type 0 where
   pub is : verdict_by a ≡ refused k at
 
 -- a thing was written at pos that v is the view of
-pub record Gave (b b' : List ℕ) (pos next : ℕ) (a : ReadAnswer) (v : View) : Type 0 where
-  pub made : MadeS
-  pub is : a ≡ Made made
+pub record Gave (b b' : List ℕ) (pos next : ℕ) (a : std.Result MadeItem Refusal) (v : View) : Type 0 where
+  pub made : MadeItem
+  pub is : a ≡ Ok made
   pub next_is : made.next ≡ next
   pub sized : made.size ≡ length v.bytes
   pub counted : made.count ≡ v.count
@@ -313,8 +314,8 @@ pub record HeadWritten (b b' : List ℕ) (pos first n r : ℕ) : Type 0 where
   pub size : HeadSize first r
 
 -- a leaf: its head
-pub record Leafed (t : Cut) (b b' : List ℕ) (pos : ℕ) (a : ReadAnswer) : Type 0 where
-  pub is : a ≡ Made (record { next = t.next; size = length (head_bytes (initial_by t) t.argument); count = 1; indicator = 0; binary = false; length = 0 })
+pub record Leafed (t : Cut) (b b' : List ℕ) (pos : ℕ) (a : std.Result MadeItem Refusal) : Type 0 where
+  pub is : a ≡ Ok (record { next = t.next; size = length (head_bytes (initial_by t) t.argument); count = 1; indicator = 0; binary = false; length = 0 })
   pub wrote : Wrote b b' pos (head_bytes (initial_by t) t.argument)
 
 -- a string's head and content
@@ -331,7 +332,7 @@ pub record LiteralIs (s : List ℕ) (t : Cut) (k : Kind) (z : Size) (c : List �
   pub spelled : Spelled s t.form t.start t.stop c
   pub fit : (w : Width) → z ≡ definite w → length c ≤ limit w
 
-pub record LiteralTold (s : List ℕ) (t : Cut) (b b' : List ℕ) (pos : ℕ) (a : ReadAnswer) : Type 0 where
+pub record LiteralTold (s : List ℕ) (t : Cut) (b b' : List ℕ) (pos : ℕ) (a : std.Result MadeItem Refusal) : Type 0 where
   pub is : (k : Kind) (z : Size) (c : List ℕ) → LiteralIs s t k z c → Gave b b' pos t.next a (of_item (literal_item k z c))
 
 -- a head was put, which has r bytes, before the size bytes that stood behind one byte of room for it
@@ -341,20 +342,20 @@ pub record Closes (b b' : List ℕ) (pos : ℕ) (hs : List ℕ) (size r : ℕ) :
 
 -- a container: a head as an indicator asks was put before what was read behind some room for it, or is refused at a place. Where the head is
 -- smaller than the room, what was read must have had its place behind the room
-pub record Finished (b b' : List ℕ) (pos room major indicator n next size place : ℕ) (binary : Bool) (length' : ℕ) (a : ReadAnswer) : Type 0 where
+pub record Finished (b b' : List ℕ) (pos room major indicator n next size place : ℕ) (binary : Bool) (length' : ℕ) (a : std.Result MadeItem Refusal) : Type 0 where
   pub refused : choose_by indicator n ≡ 0 → Denies bad_indicator place a
   pub made : (choose_by indicator n ≡ 0 → ⊥)
-      → a ≡ Made (record { next = next; size = length (head_bytes (major * 32 + info_by (choose_by indicator n) n) n) + size; count = 1; indicator = 0; binary = binary; length = length' })
+      → a ≡ Ok (record { next = next; size = length (head_bytes (major * 32 + info_by (choose_by indicator n) n) n) + size; count = 1; indicator = 0; binary = binary; length = length' })
   pub closed : (choose_by indicator n ≡ 0 → ⊥) → (b₀ ws : List ℕ) → Wrote b₀ b (pos + room) ws → size ≡ length ws
       → (length (head_bytes (major * 32 + info_by (choose_by indicator n) n) n) < room → pos + room + size ≤ length b) → Wrote b₀ b' pos (head_bytes (major * 32 + info_by (choose_by indicator n) n) n ++ ws)
 
 -- the same without an indicator for few things, whatever the place
-pub record FinishedShort (b b' : List ℕ) (pos major n next size : ℕ) (a : ReadAnswer) : Type 0 where
+pub record FinishedShort (b b' : List ℕ) (pos major n next size : ℕ) (a : std.Result MadeItem Refusal) : Type 0 where
   pub is : (place : ℕ) → Finished b b' pos 1 major 0 n next size place false 0 a
 
 -- a thing of indefinite length: the byte `first` was put before what was read, and a break behind it
-pub record Ended (b b' : List ℕ) (pos first next size : ℕ) (binary : Bool) (length' : ℕ) (a : ReadAnswer) : Type 0 where
+pub record Ended (b b' : List ℕ) (pos first next size : ℕ) (binary : Bool) (length' : ℕ) (a : std.Result MadeItem Refusal) : Type 0 where
   pub mid : List ℕ
   pub front : mid ≡ over_if_fits b pos (first ∷ [])
   pub back : Wrote mid b' (pos + size + 1) (255 ∷ [])
-  pub is : a ≡ Made (record { next = next; size = size + 2; count = 1; indicator = 0; binary = binary; length = length' })
+  pub is : a ≡ Ok (record { next = next; size = size + 2; count = 1; indicator = 0; binary = binary; length = length' })

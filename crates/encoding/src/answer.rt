@@ -1,5 +1,5 @@
 // What a reader answers: what was read, or why not.
-ghost use Rattle.std.specs.Prelude.{◌≡◌, false};
+ghost use Rattle.std.specs.Prelude.{◌≡◌, Ok, false};
 ghost use Rattle.refusal.specs.RefusalKinds.{kind_number};
 ghost use Rattle.encoding.specs.ReadAnswers.{stray_by, Strayed, Denies};
 
@@ -22,23 +22,17 @@ pub struct MadeItem {
     pub length: usize,
 }
 
-#[derive(Drop)]
-pub enum ReadAnswer {
-    Made(MadeItem),
-    Refused(Refusal),
-}
-
-pub fn refuse(kind: RefusalKind, place: usize) -> ReadAnswer
+pub fn refuse(kind: RefusalKind, place: usize) -> Result<MadeItem, Refusal>
     ensures { Denies (kind_number kind) place result }
 {
-    ReadAnswer::Refused(Refusal { kind, place })
+    Err(Refusal { kind, place })
 }
 
 // One item.
-pub fn done(next: usize, size: usize, binary: bool, length: usize) -> ReadAnswer
-    ensures { result ≡ ReadAnswer.Made (record { next = next; size = size; count = 1; indicator = 0; binary = binary; length = length }) }
+pub fn done(next: usize, size: usize, binary: bool, length: usize) -> Result<MadeItem, Refusal>
+    ensures { result ≡ Ok (record { next = next; size = size; count = 1; indicator = 0; binary = binary; length = length }) }
 {
-    ReadAnswer::Made(MadeItem {
+    Ok(MadeItem {
         next,
         size,
         count: 1,
@@ -49,10 +43,10 @@ pub fn done(next: usize, size: usize, binary: bool, length: usize) -> ReadAnswer
 }
 
 // Several things.
-pub fn listed(next: usize, size: usize, count: usize, indicator: u8) -> ReadAnswer
-    ensures { result ≡ ReadAnswer.Made (record { next = next; size = size; count = count; indicator = indicator; binary = false; length = 0 }) }
+pub fn listed(next: usize, size: usize, count: usize, indicator: u8) -> Result<MadeItem, Refusal>
+    ensures { result ≡ Ok (record { next = next; size = size; count = count; indicator = indicator; binary = false; length = 0 }) }
 {
-    ReadAnswer::Made(MadeItem {
+    Ok(MadeItem {
         next,
         size,
         count,
@@ -88,11 +82,11 @@ fn stray_number(levels: usize, kind: u8, refusal: u8, indicator: u8) -> u8
     NOT_ALLOWED
 }
 
-pub fn strayed(levels: usize, t: Token) -> ReadAnswer
+pub fn strayed(levels: usize, t: Token) -> Result<MadeItem, Refusal>
     ensures { Strayed levels t result }
 {
     let kind = kind_of(stray_number(levels, t.kind, t.refusal, t.indicator));
-    ReadAnswer::Refused(Refusal {
+    Err(Refusal {
         kind,
         place: t.place,
     })

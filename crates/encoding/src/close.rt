@@ -3,11 +3,11 @@ ghost use Rattle.std.specs.Prelude.{true, ◌+◌};
 ghost use Rattle.head.specs.HeadAnswers.{head_bytes};
 ghost use Rattle.encoding.specs.ReadAnswers.{Light, Heavy, Few, IsShort, Closes, Finished, FinishedShort, Ended};
 
-use crate::answer::{ReadAnswer, done, refuse};
+use crate::answer::{MadeItem, done, refuse};
 use crate::heads::{head_size, info_by};
 use head::initial::{BREAK, BYTE_STRING};
 use numbers::indicator::choose;
-use refusal::RefusalKind;
+use refusal::{Refusal, RefusalKind};
 use token::indicator::{MISFIT, NONE};
 
 // A thing of indefinite length: its first byte, and a break behind what was read.
@@ -19,7 +19,7 @@ pub fn endless(
     size: usize,
     binary: bool,
     length: usize,
-) -> ReadAnswer
+) -> Result<MadeItem, Refusal>
     requires { Light (pos + size) }
     ensures { Ended buf.old buf.new pos first next size binary length result }
 {
@@ -53,7 +53,7 @@ pub fn finish(
     place: usize,
     binary: bool,
     length: usize,
-) -> ReadAnswer
+) -> Result<MadeItem, Refusal>
     requires { Heavy major size }
     ensures { Finished buf.old buf.new pos 1 major indicator n next size place binary length result }
 {
@@ -87,7 +87,7 @@ pub fn finish_short(
     n: usize,
     next: usize,
     size: usize,
-) -> ReadAnswer
+) -> Result<MadeItem, Refusal>
     requires heavy { Heavy major size }
     requires few { Few n }
     ensures { FinishedShort buf.old buf.new pos major n next size result }
@@ -106,7 +106,7 @@ pub fn enclose(
     next: usize,
     size: usize,
     place: usize,
-) -> ReadAnswer
+) -> Result<MadeItem, Refusal>
     requires heavy { Heavy room size }
     requires light { Light pos }
     ensures { Finished buf.old buf.new pos room 2 indicator size next size place true size result }

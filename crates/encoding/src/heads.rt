@@ -2,11 +2,12 @@
 ghost use Rattle.std.specs.Prelude.{◌≡◌};
 ghost use Rattle.encoding.specs.ReadAnswers.{Informed, initial_by, MajorBy, HeadSize, HeadWritten, Leafed};
 
-use crate::answer::{ReadAnswer, done};
+use crate::answer::{MadeItem, done};
 use head::initial::{
     BYTE_STRING, IN_EIGHT_BYTES, IN_FOUR_BYTES, IN_ONE_BYTE, IN_TWO_BYTES, INDEFINITE_LENGTH,
     NEGATIVE_INTEGER, SIMPLE_VALUE, TAG, TEXT_STRING, UNSIGNED_INTEGER,
 };
+use refusal::Refusal;
 use token::Token;
 use token::indicator::{FOUR_BYTES, IMMEDIATE, INDEFINITE, NONE, ONE_BYTE, TWO_BYTES};
 use token::kind::{BYTES, NEGATIVE, SIMPLE, TEXT, UNSIGNED};
@@ -70,7 +71,7 @@ pub fn put_head(buf: &mut [u8], pos: usize, first: u8, n: u64) -> usize
 }
 
 // A leaf is its head.
-pub fn leaf(t: Token, buf: &mut [u8], pos: usize) -> ReadAnswer
+pub fn leaf(t: Token, buf: &mut [u8], pos: usize) -> Result<MadeItem, Refusal>
     ensures { Leafed t buf.old buf.new pos result }
 {
     let size = put_head(buf, pos, initial(t), t.argument);

@@ -20,22 +20,13 @@ fn is_angle(b: u8) -> u8 {
     0
 }
 
-fn larger(a: u8, b: u8) -> u8 {
-    if a < b {
-        return b;
-    }
-    a
-}
-
 // 1 if a `>` stands among the next 32 bytes, else 0. The compiler makes wide steps of the loop.
 fn closes_soon(text: &[u8], at: usize) -> u8
     requires { at + 32 ≤ length text.now }
 {
     let mut most: u8 = 0;
-    let mut i: usize = 0;
-    while i < 32 {
-        most = larger(most, is_angle(text[at + i]));
-        i += 1;
+    for i in 0..32 {
+        most = most.max(is_angle(text[at + i]));
     }
     most
 }

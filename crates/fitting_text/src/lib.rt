@@ -3,8 +3,8 @@
 
 ghost use Rattle.fitting_text.specs.FittingAnswers.{TextSize, Lays};
 
-use outcome::{Answer, fits, refuse};
-use refusal::RefusalKind;
+use outcome::{fits, refuse};
+use refusal::{Refusal, RefusalKind};
 
 // The length of the text of bytes that were checked: what is printed with no room at all is measured.
 fn text_size(bytes: &[u8]) -> usize
@@ -15,13 +15,13 @@ fn text_size(bytes: &[u8]) -> usize
 }
 
 // The text of bytes that were checked. Its size is known before its first byte is written.
-pub fn lay(bytes: &[u8], out: &mut [u8]) -> Answer
+pub fn lay(bytes: &[u8], out: &mut [u8]) -> Result<usize, Refusal>
     ensures { Lays bytes.now out.old out.new result }
 {
     let size = text_size(bytes);
     if fits(size, out.len()) {
         printer::print_items(bytes, out);
-        return Answer::Written(size);
+        return Ok(size);
     }
     refuse(RefusalKind::NoRoom, 0)
 }

@@ -1,6 +1,6 @@
 -- Heads: what the code knows at each return and each turn of a loop, and that this is what the definitions say.
 -- Assumes nothing.
-use mathlib.Core.Path.{◌≡◌, refl, sym, ap, ◌∙◌}
+use mathlib.Core.Path.{◌≡◌, refl, sym, ap, subst, ◌∙◌}
 use mathlib.Core.List.{List, [], ◌∷◌, ◌++◌, append_assoc, append-nil}
 use mathlib.Core.Bool.{Bool, true, false, ◌&&◌}
 use Prim.Native.Nat.{ℕ, suc, ◌+◌, ◌-◌, ◌*◌, ◌/◌, ◌%◌, ◌^◌, ◌≤◌, ◌<◌}
@@ -18,10 +18,13 @@ use Rattle.cbor.specs.Items.{Size, definite, indefinite}
 use Rattle.cbor.specs.Heads.{Major, integers, strings, arrays, maps, tags, simples, major_number, major_of, initial, head, Head, Information, argument, reserved, open_ended, information_of, is_float, is_allowed, is_indefinite, taking, started, argued, head_by, next_head}
 use Rattle.refusal.specs.RefusalKinds.{kind_number}
 use Rattle.memory.specs.Buffer.{over, over_if_fits}
-use Rattle.head.specs.HeadAnswers.{HeadTold, head_found as told_head, head_refused, head_told, size_information, head_from, head_at, form_by, form_of, Formed, Widened, Inside, argument_by, least_argument, argument_size, argument_at, Little, Short, HeadRoom, HeadEnd, head_bytes}
-use Rattle.head.specs.declared.HeadRead.TheVariants as HeadRead
+use Rattle.head.specs.HeadAnswers.{HeadTold, head_found as told_head, head_refused, head_told, size_information, head_from, head_at, form_by, form_of, form_number, Formed, Widened, Inside, argument_by, least_argument, argument_size, argument_at, Little, Short, HeadRoom, HeadEndsAt, HeadEnd, head_bytes}
+use Rattle.std.specs.Prelude as std
+use Rattle.std.specs.Prelude.{Ok, Err, Some, None}
+use Rattle.head.specs.declared.Meaning.{Meaning}
+use Rattle.head.specs.declared.Meaning.TheVariants.{Argument, OpenEnded, Refused}
 use Rattle.refusal.specs.declared.RefusalKind.{RefusalKind}
-use Rattle.refusal.specs.declared.RefusalKind.TheVariants.{Float, EndsInside, NotWellFormed}
+use Rattle.refusal.specs.declared.RefusalKind.TheVariants.{TooLong, NotUtf8, NoToken, UnknownWord, Dots, Float, OutOfRange, BadContent, BadIndicator, TooDeep, NotAllowed, MixedChunks, BadTypedArray, NoRoom, EndsInside, NotWellFormed, NoSuchPath}
 use Rattle.cbor.proofs.Arguments.{length_big}
 use Rattle.memory.proofs.Lists.{front}
 use Rattle.cbor.proofs.Table.{both, byte}
@@ -101,39 +104,39 @@ initials b h =
 
 -- `form`: a way to each of its returns
 module _ (b : ℕ) (u : Fits bits8 b) where
-  formed : (k : ℕ) → k ≡ form_code (b / 32) (b % 32) → Formed b k
+  formed : (k : Meaning) → form_number k ≡ form_code (b / 32) (b % 32) → Formed b k
   formed k e = let h : b < 256 = omega arith in record { is = e ∙ (initials b h).form; byte = h }
 
-  pub form_small : b % 32 ≤ 24 → Formed b 0
-  unfolding form_code
-  form_small h = formed 0 (sym (simp (form_code, le-leb (b % 32) 24 h)))
+  pub form_small : b % 32 ≤ 24 → Formed b Argument
+  unfolding form_code form_number kind_number
+  form_small h = formed Argument (sym (simp (form_code, le-leb (b % 32) 24 h)))
 
   module _ (a : 24 < b % 32) where
-    pub form-float : b % 32 ≤ 27 → b / 32 ≡ 7 → Formed b 6
-    unfolding form_code
-    form-float h e = formed 6 (sym (simp (form_code, lt-leb (b % 32) 24 a, le-leb (b % 32) 27 h, eq-eqb (b / 32) 7 e)))
+    pub form-float : b % 32 ≤ 27 → b / 32 ≡ 7 → Formed b (Refused Float)
+    unfolding form_code form_number kind_number
+    form-float h e = formed (Refused Float) (sym (simp (form_code, lt-leb (b % 32) 24 a, le-leb (b % 32) 27 h, eq-eqb (b / 32) 7 e)))
 
-    pub form-wide : b % 32 ≤ 27 → (b / 32 ≡ 7 → ⊥) → Formed b 0
-    unfolding form_code
-    form-wide h n = formed 0 (sym (simp (form_code, lt-leb (b % 32) 24 a, le-leb (b % 32) 27 h, ne_eqb (b / 32) 7 n)))
+    pub form-wide : b % 32 ≤ 27 → (b / 32 ≡ 7 → ⊥) → Formed b Argument
+    unfolding form_code form_number kind_number
+    form-wide h n = formed Argument (sym (simp (form_code, lt-leb (b % 32) 24 a, le-leb (b % 32) 27 h, ne_eqb (b / 32) 7 n)))
 
     module _ (a₂ : 27 < b % 32) where
-      pub form-reserved : b % 32 ≤ 30 → Formed b 16
-      unfolding form_code
-      form-reserved h = formed 16 (sym (simp (form_code, lt-leb (b % 32) 24 a, lt-leb (b % 32) 27 a₂, le-leb (b % 32) 30 h)))
+      pub form-reserved : b % 32 ≤ 30 → Formed b (Refused NotWellFormed)
+      unfolding form_code form_number kind_number
+      form-reserved h = formed (Refused NotWellFormed) (sym (simp (form_code, lt-leb (b % 32) 24 a, lt-leb (b % 32) 27 a₂, le-leb (b % 32) 30 h)))
 
       module _ (a₃ : 30 < b % 32) where
-        pub form-integer : b / 32 ≤ 1 → Formed b 16
-        unfolding form_code
-        form-integer h = formed 16 (sym (simp (form_code, lt-leb (b % 32) 24 a, lt-leb (b % 32) 27 a₂, lt-leb (b % 32) 30 a₃, le-leb (b / 32) 1 h)))
+        pub form-integer : b / 32 ≤ 1 → Formed b (Refused NotWellFormed)
+        unfolding form_code form_number kind_number
+        form-integer h = formed (Refused NotWellFormed) (sym (simp (form_code, lt-leb (b % 32) 24 a, lt-leb (b % 32) 27 a₂, lt-leb (b % 32) 30 a₃, le-leb (b / 32) 1 h)))
 
-        pub form-tag : 1 < b / 32 → b / 32 ≡ 6 → Formed b 16
-        unfolding form_code
-        form-tag h e = formed 16 (sym (simp (form_code, lt-leb (b % 32) 24 a, lt-leb (b % 32) 27 a₂, lt-leb (b % 32) 30 a₃, lt-leb (b / 32) 1 h, eq-eqb (b / 32) 6 e)))
+        pub form-tag : 1 < b / 32 → b / 32 ≡ 6 → Formed b (Refused NotWellFormed)
+        unfolding form_code form_number kind_number
+        form-tag h e = formed (Refused NotWellFormed) (sym (simp (form_code, lt-leb (b % 32) 24 a, lt-leb (b % 32) 27 a₂, lt-leb (b % 32) 30 a₃, lt-leb (b / 32) 1 h, eq-eqb (b / 32) 6 e)))
 
-        pub form_open : 1 < b / 32 → (b / 32 ≡ 6 → ⊥) → Formed b 31
-        unfolding form_code
-        form_open h n = formed 31 (sym (simp (form_code, lt-leb (b % 32) 24 a, lt-leb (b % 32) 27 a₂, lt-leb (b % 32) 30 a₃, lt-leb (b / 32) 1 h, ne_eqb (b / 32) 6 n)))
+        pub form_open : 1 < b / 32 → (b / 32 ≡ 6 → ⊥) → Formed b OpenEnded
+        unfolding form_code form_number kind_number
+        form_open h n = formed OpenEnded (sym (simp (form_code, lt-leb (b % 32) 24 a, lt-leb (b % 32) 27 a₂, lt-leb (b % 32) 30 a₃, lt-leb (b / 32) 1 h, ne_eqb (b / 32) 6 n)))
 
 pub ruleset form_ways = (form_small, form-float, form-wide, form-reserved, form-integer, form-tag, form_open)
 
@@ -272,31 +275,31 @@ pub ruleset argument_ways = (argument-none, argument-some)
 
 -- HEADS, READ
 
-pub told-refused : (kind : RefusalKind) (place : ℕ) → head_told (HeadRead.Refused (record { kind = kind; place = place })) ≡ head_refused (kind_number kind) place
+pub told-refused : (kind : RefusalKind) (place : ℕ) → head_told (Err (record { kind = kind; place = place })) ≡ head_refused (kind_number kind) place
 unfolding head_told
 told-refused kind place = refl
 
-pub told-head : (major info n end : ℕ) → head_told (HeadRead.Head (record { major = major; info = info; argument = n; end = end })) ≡ told_head major info n end
+pub told-head : (major info n end : ℕ) → head_told (Ok (record { major = major; info = info; argument = n; end = end })) ≡ told_head major info n end
 unfolding head_told
 told-head major info n end = refl
 
 -- what an initial byte may say, with its number f
-data Form (m : Major) (x : Information) (f : ℕ) : Type 0 where
-  is_argument : (w : Width) → x ≡ argument w → is_float m w ≡ false → f ≡ 0 → Form m x f
-  is_open : x ≡ open_ended → is_indefinite m ≡ true → f ≡ 31 → Form m x f
-  is_refused : (n : ℕ) → ((i left : ℕ) (s : List ℕ) → head_by m x i left s ≡ refuse n left) → f ≡ n → 0 < n → n < 31 → ((n ≡ 6 → ⊥) → n ≡ 16) → Form m x f
+data Saying (m : Major) (x : Information) (f : ℕ) : Type 0 where
+  is_argument : (w : Width) → x ≡ argument w → is_float m w ≡ false → f ≡ 0 → Saying m x f
+  is_open : x ≡ open_ended → is_indefinite m ≡ true → f ≡ 31 → Saying m x f
+  is_refused : (n : ℕ) → ((i left : ℕ) (s : List ℕ) → head_by m x i left s ≡ refuse n left) → f ≡ n → 0 < n → n < 31 → ((n ≡ 6 → ⊥) → n ≡ 16) → Saying m x f
 
-form_view : (m : Major) (x : Information) → Form m x (form_by m x)
+form_view : (m : Major) (x : Information) → Saying m x (form_by m x)
 unfolding form_by head_by
 form_view m (argument w) = go (is_float m w) refl
   where
-    go : (t : Bool) → is_float m w ≡ t → Form m (argument w) (elim t [ true ↦ float | false ↦ 0 ])
+    go : (t : Bool) → is_float m w ≡ t → Saying m (argument w) (elim t [ true ↦ float | false ↦ 0 ])
     go true e = is_refused 6 (λ i left s. rw (e, head_by)) refl (omega arith) (omega arith) (λ n. absurd (n refl))
     go false e = is_argument w refl e refl
 form_view m reserved = is_refused 16 (λ i left s. refl) refl (omega arith) (omega arith) (λ n. refl)
 form_view m open_ended = go (is_indefinite m) refl
   where
-    go : (t : Bool) → is_indefinite m ≡ t → Form m open_ended (elim t [ true ↦ 31 | false ↦ not_well_formed ])
+    go : (t : Bool) → is_indefinite m ≡ t → Saying m open_ended (elim t [ true ↦ 31 | false ↦ not_well_formed ])
     go true e = is_open refl e refl
     go false e = is_refused 16 (λ i left s. rw (e, head_by)) refl (omega arith) (omega arith) (λ n. refl)
 
@@ -351,6 +354,31 @@ module _ (m : Major) (w : Width) (i left : ℕ) (s : List ℕ) (e : is_float m w
     unfolding argued
     whole l = value ∙ rw (allowed m w n ∙ le-leb (least_by m (argument w)) n l, argued)
 
+-- every kind's number is between that of an argument and that of an indefinite length
+kind_range : (k : RefusalKind) → (0 < kind_number k) × (kind_number k < 31)
+unfolding kind_number
+kind_range TooLong = (omega arith, omega arith)
+kind_range NotUtf8 = (omega arith, omega arith)
+kind_range NoToken = (omega arith, omega arith)
+kind_range UnknownWord = (omega arith, omega arith)
+kind_range Dots = (omega arith, omega arith)
+kind_range Float = (omega arith, omega arith)
+kind_range OutOfRange = (omega arith, omega arith)
+kind_range BadContent = (omega arith, omega arith)
+kind_range BadIndicator = (omega arith, omega arith)
+kind_range TooDeep = (omega arith, omega arith)
+kind_range NotAllowed = (omega arith, omega arith)
+kind_range MixedChunks = (omega arith, omega arith)
+kind_range BadTypedArray = (omega arith, omega arith)
+kind_range NoRoom = (omega arith, omega arith)
+kind_range EndsInside = (omega arith, omega arith)
+kind_range NotWellFormed = (omega arith, omega arith)
+kind_range NoSuchPath = (omega arith, omega arith)
+
+pub not_argument : ◌≡◌ {A = Meaning} Argument OpenEnded → ⊥
+unfolding form_number
+not_argument e = let o : ◌≡◌ {A = ℕ} 0 31 = ap form_number e in omega arith
+
 -- `read_head`: a way to each of its returns
 pub head-end : {t : HeadTold} (s : List ℕ) (at : ℕ) → length s ≤ at → t ≡ head_refused (kind_number EndsInside) (length s) → t ≡ head_at s at
 unfolding head_at head_from next_head kind_number
@@ -386,28 +414,29 @@ module _ (s : List ℕ) (at : ℕ) (h : at < length s) where
       let p : at ≡ length s - (length s - at) = omega arith in
       ap (head_refused n) p ∙ sym (ap (head_from (length s)) (next ∙ e))
 
-  module _ (f : ℕ) (k : Formed (get_or s at 0) f) where
+  module _ (f : Meaning) (k : Formed (get_or s at 0) f) where
     facts : Initial (get_or s at 0)
     facts = initials (get_or s at 0) k.byte
 
-    refused_by : (n : ℕ) → 0 < n → n < 31 → f ≡ n → head_refused n at ≡ head_at s at
-    unfolding form_of here head_here
-    refused_by n l u e = go (form_view (major_at s at) (says_at s at))
+    refused_by : (kind : RefusalKind) → f ≡ Refused kind → head_refused (kind_number kind) at ≡ head_at s at
+    unfolding form_of here head_here form_number
+    refused_by kind e = go (form_view (major_at s at) (says_at s at))
       where
-        go : Form (major_at s at) (says_at s at) (form_by (major_at s at) (says_at s at)) → head_refused n at ≡ head_at s at
-        go (is_argument w x y z) = absurd (omega (arith, k.is))
-        go (is_open x y z) = absurd (omega (arith, k.is))
+        n : ℕ
+        n = kind_number kind
+
+        is : n ≡ form_of (get_or s at 0)
+        is = sym (ap form_number e) ∙ k.is
+
+        go : Saying (major_at s at) (says_at s at) (form_by (major_at s at) (says_at s at)) → head_refused n at ≡ head_at s at
+        go (is_argument w x y z) = absurd (omega (arith, is, (kind_range kind).0))
+        go (is_open x y z) = absurd (omega (arith, is, (kind_range kind).1))
         go (is_refused c y z l' u' o) =
-            let e' : c ≡ n = omega (arith, k.is) in
+            let e' : c ≡ n = omega (arith, is) in
             refusal n (y (low_at s at) (length s - at) (drop (at + 1) s) ∙ ap (λ (x : ℕ). refuse x (length s - at)) e')
 
-    pub head-float : {t : HeadTold} → f ≡ 6 → t ≡ head_refused (kind_number Float) at → t ≡ head_at s at
-    unfolding kind_number
-    head-float e q = q ∙ refused_by 6 (omega arith) (omega arith) e
-
-    pub head-bad : {t : HeadTold} → f ≡ 16 → t ≡ head_refused (kind_number NotWellFormed) at → t ≡ head_at s at
-    unfolding kind_number
-    head-bad e q = q ∙ refused_by 16 (omega arith) (omega arith) e
+    pub head-bad : {t : HeadTold} {kind : RefusalKind} → f ≡ Refused kind → t ≡ head_refused (kind_number kind) at → t ≡ head_at s at
+    head-bad {kind = kind} e q = q ∙ refused_by kind e
 
     -- a head that was read: its parts are the initial byte's, and r is left behind it
     telling : (m : Major) (z : Size) (n : ℕ) (r : List ℕ) → here ≡ ok (record { major = m; size = z; argument = n }) r
@@ -418,30 +447,34 @@ module _ (s : List ℕ) (at : ℕ) (h : at < length s) where
         let a : get_or s at 0 / 32 ≡ major_number m = sym (ap major_number em ∙ facts.number) in
         cc (ap (head_from (length s)) (next ∙ e))
 
-    pub head_open : {t : HeadTold} → f ≡ 31 → t ≡ told_head (get_or s at 0 / 32) (get_or s at 0 % 32) 0 (at + 1) → t ≡ head_at s at
+    opened : f ≡ OpenEnded → 31 ≡ form_of (get_or s at 0)
+    unfolding form_number
+    opened e = sym (ap form_number e) ∙ k.is
+
+    pub head_open : {t : HeadTold} → f ≡ OpenEnded → t ≡ told_head (get_or s at 0 / 32) (get_or s at 0 % 32) 0 (at + 1) → t ≡ head_at s at
     unfolding form_of here head_here head_by size_information info_by
     head_open {t} e q = go (form_view (major_at s at) (says_at s at))
       where
-        go : Form (major_at s at) (says_at s at) (form_by (major_at s at) (says_at s at)) → t ≡ head_at s at
-        go (is_argument w x y z) = absurd (omega (arith, k.is))
+        go : Saying (major_at s at) (says_at s at) (form_by (major_at s at) (says_at s at)) → t ≡ head_at s at
+        go (is_argument w x y z) = absurd (omega (arith, opened e))
         go (is_open x y z) =
             let p : at + 1 ≡ length s - length (drop (at + 1) s) = rw (length-drop (at + 1) s) (omega arith) in
             let i : 31 ≡ low_at s at = sym (ap (λ (c : Information). info_by c (low_at s at)) x) ∙ facts.info in
             let o : head_here (major_at s at) open_ended (low_at s at) ≡ ok (record { major = major_at s at; size = indefinite; argument = 0 }) (drop (at + 1) s) = rw (y, head_by) in
             let r = ap (λ (c : Information). head_here (major_at s at) c (low_at s at)) x ∙ o in
             q ∙ telling (major_at s at) indefinite 0 (drop (at + 1) s) r refl i (at + 1) p
-        go (is_refused c y z l' u' o) = absurd (omega (arith, k.is))
+        go (is_refused c y z l' u' o) = absurd (omega (arith, opened e))
 
-    open_low : f ≡ 31 → low_at s at ≡ 31
+    open_low : f ≡ OpenEnded → low_at s at ≡ 31
     unfolding form_of info_by
     open_low e = go (form_view (major_at s at) (says_at s at))
       where
-        go : Form (major_at s at) (says_at s at) (form_by (major_at s at) (says_at s at)) → low_at s at ≡ 31
-        go (is_argument w x y z) = absurd (omega (arith, k.is))
+        go : Saying (major_at s at) (says_at s at) (form_by (major_at s at) (says_at s at)) → low_at s at ≡ 31
+        go (is_argument w x y z) = absurd (omega (arith, opened e))
         go (is_open x y z) = sym (sym (ap (λ (c : Information). info_by c (low_at s at)) x) ∙ facts.info)
-        go (is_refused c y z l' u' o) = absurd (omega (arith, k.is))
+        go (is_refused c y z l' u' o) = absurd (omega (arith, opened e))
 
-    module _ (n₁ : f ≡ 6 → ⊥) (n₂ : f ≡ 16 → ⊥) (n₃ : f ≡ 31 → ⊥) {size : ℕ} (es : size ≡ argument_size (get_or s at 0 % 32)) where
+    module _ (a : f ≡ Argument) {size : ℕ} (es : size ≡ argument_size (get_or s at 0 % 32)) where
       record Given : Type 0 where
         width : Width
         exact : is_float (major_at s at) width ≡ false
@@ -450,11 +483,15 @@ module _ (s : List ℕ) (at : ℕ) (h : at < length s) where
         least : least_by (major_at s at) (argument width) ≡ least_argument (get_or s at 0)
         reads : here ≡ head_here (major_at s at) (argument width) (low_at s at)
 
+      argued_form : 0 ≡ form_of (get_or s at 0)
+      unfolding form_number
+      argued_form = sym (ap form_number a) ∙ k.is
+
       given : Given
       unfolding form_of here size_by info_by
       given = go (form_view (major_at s at) (says_at s at))
         where
-          go : Form (major_at s at) (says_at s at) (form_by (major_at s at) (says_at s at)) → Given
+          go : Saying (major_at s at) (says_at s at) (form_by (major_at s at) (says_at s at)) → Given
           go (is_argument w x y z) =
               record {
                 width = w;
@@ -464,8 +501,8 @@ module _ (s : List ℕ) (at : ℕ) (h : at < length s) where
                 least = sym (ap (least_by (major_at s at)) x) ∙ facts.least;
                 reads = ap (λ (c : Information). head_here (major_at s at) c (low_at s at)) x;
               }
-          go (is_open x y z) = absurd (n₃ (k.is ∙ z))
-          go (is_refused c y z l' u' o) = let q : c ≡ 16 = o (λ v. n₁ (k.is ∙ z ∙ v)) in absurd (n₂ (k.is ∙ z ∙ q))
+          go (is_open x y z) = absurd (omega (arith, argued_form))
+          go (is_refused c y z l' u' o) = absurd (omega (arith, argued_form))
 
       pub head-short : {t : HeadTold} → length s - at ≤ size → t ≡ head_refused (kind_number EndsInside) at → t ≡ head_at s at
       unfolding kind_number head_here
@@ -496,7 +533,7 @@ module _ (s : List ℕ) (at : ℕ) (h : at < length s) where
             let p : at + 1 + size ≡ length s - length (drop (argument_bytes g.width) (drop (at + 1) s)) = simp length-drop (omega (arith, g.sized)) in
             q ∙ telling (major_at s at) (definite g.width) n (drop (argument_bytes g.width) (drop (at + 1) s)) (g.reads ∙ w) refl i (at + 1 + size) p
 
-pub ruleset head_ways = (head-end, head-float, head-bad, head_open, head-short, head_little, head-found)
+pub ruleset head_ways = (head-end, head-bad, head_open, head-short, head_little, head-found)
 
 -- the bytes of the argument stand there
 pub argument-room : {s : List ℕ} {at : ℕ} (size i : ℕ) → at < length s → size ≡ argument_size i → size < length s - at → Inside s (at + 1) size
@@ -512,48 +549,56 @@ module _ {s : List ℕ} {from b size : ℕ} where
 
 pub ruleset little_ways = (little_no, little_some)
 
-pub argument_open : (s : List ℕ) (at : ℕ) {f : ℕ} → Formed (get_or s at 0) f → f ≡ 31 → 0 ≡ argument_at s at
-unfolding argument_at
-argument_open s at k e = sym (rw (eq-eqb (form_of (get_or s at 0)) 31 (sym k.is ∙ e), argument_at))
+pub argument_open : (s : List ℕ) (at : ℕ) {f : Meaning} → Formed (get_or s at 0) f → f ≡ OpenEnded → 0 ≡ argument_at s at
+unfolding argument_at form_number
+argument_open s at k e = sym (rw (eq-eqb (form_of (get_or s at 0)) 31 (sym k.is ∙ ap form_number e), argument_at))
 
-pub argument-wide : (s : List ℕ) (at : ℕ) {f size n : ℕ} → Formed (get_or s at 0) f → (f ≡ 31 → ⊥) → size ≡ argument_size (get_or s at 0 % 32) → n ≡ argument_by size (get_or s at 0 % 32) (take size (drop (at + 1) s))
+-- no other form has its number
+not_open : (f : Meaning) → (f ≡ OpenEnded → ⊥) → form_number f ≡ 31 → ⊥
+unfolding form_number
+not_open Argument n e = omega arith
+not_open OpenEnded n e = n refl
+not_open (Refused kind) n e = omega (arith, (kind_range kind).1)
+
+pub argument-wide : (s : List ℕ) (at : ℕ) {f : Meaning} {size n : ℕ} → Formed (get_or s at 0) f → (f ≡ OpenEnded → ⊥) → size ≡ argument_size (get_or s at 0 % 32) → n ≡ argument_by size (get_or s at 0 % 32) (take size (drop (at + 1) s))
     → n ≡ argument_at s at
 unfolding argument_at
 argument-wide s at {f} {size} {n} k x e h =
-    (rw e at h) ∙ sym (rw (ne_eqb (form_of (get_or s at 0)) 31 (λ z. x (k.is ∙ z)), argument_at))
+    (rw e at h) ∙ sym (rw (ne_eqb (form_of (get_or s at 0)) 31 (λ z. not_open f x (k.is ∙ z)), argument_at))
 
 low-size : (i : ℕ) → i < 24 → 0 ≡ argument_size i
 low-size i h = size_none i (omega arith) (omega arith) (omega arith) (omega arith)
 
-low_formed : (b : ℕ) {t : Bool} → Short b t → t ≡ true → Formed b 0
+low_formed : (b : ℕ) {t : Bool} → Short b t → t ≡ true → Formed b Argument
 low_formed b k e = form_small b (record { fits = k.byte }) (omega (arith, k.is e))
 
 pub argument-low : (s : List ℕ) (at : ℕ) {t : Bool} {n : ℕ} → Short (get_or s at 0) t → t ≡ true → Widened (get_or s at 0 % 32) n → n ≡ argument_at s at
 argument-low s at k e w =
-    argument-wide s at (low_formed (get_or s at 0) k e) (omega arith) (low-size (get_or s at 0 % 32) (k.is e)) (argument-none 0 (take 0 (drop (at + 1) s)) refl w)
+    argument-wide s at (low_formed (get_or s at 0) k e) (λ z. not_argument z) (low-size (get_or s at 0 % 32) (k.is e)) (argument-none 0 (take 0 (drop (at + 1) s)) refl w)
 
 pub ruleset argued_ways = (argument-low, argument_open, argument-wide)
 
 pub argued-room : (s : List ℕ) (at : ℕ) {size : ℕ} → HeadRoom s at → size ≡ argument_size (get_or s at 0 % 32) → Inside s (at + 1) size
 argued-room s at h e = record { inside = omega (arith, h.inside); short = omega (arith, size-most (get_or s at 0 % 32)) }
 
+none_some : {n : ℕ} → ◌≡◌ {A = std.Option ℕ} None (Some n) → ⊥
+none_some e = let o : ◌≡◌ {A = ℕ} 0 1 = ap (λ (x : std.Option ℕ). elim x [ None ↦ 0 | Some y ↦ 1 ]) e in omega arith
+
+some_same : {m n : ℕ} → Some m ≡ Some n → m ≡ n
+some_same {m} e = ap (λ (x : std.Option ℕ). elim x [ None ↦ m | Some y ↦ y ]) e
+
 module _ {s : List ℕ} {at : ℕ} where
-  ends-lost : (n q : ℕ) → head_refused n q ≡ head_at s at → HeadEnd s at 0
-  ends-lost n q e =
-      record {
-        room = λ z. absurd (z refl);
-        found = λ z. absurd (z refl);
-        lost = λ z m i a b h. let o : ◌≡◌ {A = ℕ} 0 1 = cc in omega arith;
-      }
+  ends-lost : (n q : ℕ) → head_refused n q ≡ head_at s at → HeadEnd s at None
+  ends-lost n q e = record { ends = λ r x. absurd (none_some x); lost = λ z m i a b h. let o : ◌≡◌ {A = ℕ} 0 1 = cc in omega arith }
 
-  ends_at : {r : ℕ} → 0 < r → HeadRoom s at → told_head (get_or s at 0 / 32) (get_or s at 0 % 32) (argument_at s at) r ≡ head_at s at → HeadEnd s at r
-  ends_at p i e = record { room = λ z. i; found = λ z. e; lost = λ z m j a b h. absurd (omega (arith, p)) }
+  ends_at : {r : ℕ} → HeadRoom s at → told_head (get_or s at 0 / 32) (get_or s at 0 % 32) (argument_at s at) r ≡ head_at s at → HeadEnd s at (Some r)
+  ends_at {r} i e = record { ends = λ q x. subst (λ (y : ℕ). HeadEndsAt s at y) (some_same x) (record { room = i; found = e }); lost = λ x. absurd (none_some (sym x)) }
 
-  pub ends-none : length s ≤ at → HeadEnd s at 0
+  pub ends-none : length s ≤ at → HeadEnd s at None
   unfolding kind_number
   ends-none h = ends-lost ends_inside (length s) (head-end s at h refl)
 
-  pub ends-short : {t : Bool} → at < length s → Short (get_or s at 0) t → t ≡ true → HeadEnd s at (at + 1)
+  pub ends-short : {t : Bool} → at < length s → Short (get_or s at 0) t → t ≡ true → HeadEnd s at (Some (at + 1))
   ends-short h k e =
       let l = k.is e in
       let w : Widened (get_or s at 0 % 32) (get_or s at 0 % 32) = record { is = refl; byte = omega arith } in
@@ -561,49 +606,46 @@ module _ {s : List ℕ} {at : ℕ} where
       let x : get_or s at 0 ≡ 0xf8 → ⊥ = λ e. let y : get_or s at 0 % 32 ≡ 24 = ap (λ (b : ℕ). b % 32) e in omega arith in
       let p : at + 1 + 0 ≡ at + 1 = omega arith in
       let z = low-size (get_or s at 0 % 32) l in
-      ends_at (omega arith) (record { inside = omega arith })
-      (head-found s at h 0 (low_formed (get_or s at 0) k e) (omega arith) (omega arith) (omega arith) z (omega arith) n (least-none (get_or s at 0) x) (omega arith)
+      ends_at (record { inside = omega arith })
+      (head-found s at h Argument (low_formed (get_or s at 0) k e) refl z (omega arith) n (least-none (get_or s at 0) x) (omega arith)
       (ap (told_head (get_or s at 0 / 32) (get_or s at 0 % 32) (argument_at s at)) (sym p)))
 
-  module _ (h : at < length s) {f : ℕ} (k : Formed (get_or s at 0) f) where
-    pub ends-float : f ≡ 6 → HeadEnd s at 0
-    ends-float e = ends-lost _ _ (head-float s at h f k e refl)
-
-    pub ends-bad : f ≡ 16 → HeadEnd s at 0
+  module _ (h : at < length s) {f : Meaning} (k : Formed (get_or s at 0) f) where
+    pub ends-bad : {kind : RefusalKind} → f ≡ Refused kind → HeadEnd s at None
     ends-bad e = ends-lost _ _ (head-bad s at h f k e refl)
 
-    pub ends_open : f ≡ 31 → HeadEnd s at (at + 1)
+    pub ends_open : f ≡ OpenEnded → HeadEnd s at (Some (at + 1))
     unfolding argument_size
     ends_open e =
         let z : 0 ≡ argument_size (get_or s at 0 % 32) = rw (open_low s at h f k e) in
-        ends_at (omega arith) (record { inside = omega arith })
+        ends_at (record { inside = omega arith })
         (head_open s at h f k e (ap (λ (n : ℕ). told_head (get_or s at 0 / 32) (get_or s at 0 % 32) n (at + 1)) (sym (argument_open s at k e))))
 
-    module _ (n₁ : f ≡ 6 → ⊥) (n₂ : f ≡ 16 → ⊥) (n₃ : f ≡ 31 → ⊥) {size : ℕ} (es : size ≡ argument_size (get_or s at 0 % 32)) where
-      pub ends-cut : length s - at ≤ size → HeadEnd s at 0
-      ends-cut l = ends-lost _ _ (head-short s at h f k n₁ n₂ n₃ es l refl)
+    module _ (a : f ≡ Argument) {size : ℕ} (es : size ≡ argument_size (get_or s at 0 % 32)) where
+      pub ends-cut : length s - at ≤ size → HeadEnd s at None
+      ends-cut l = ends-lost _ _ (head-short s at h f k a es l refl)
 
       module _ (l : size < length s - at) {t : Bool} (lt : Little s (at + 1) (get_or s at 0) size t) where
-        pub ends_little : t ≡ true → HeadEnd s at 0
-        ends_little y = ends-lost _ _ (head_little s at h f k n₁ n₂ n₃ es l refl refl (ltb-true _ _ (sym lt.is ∙ y)) refl)
+        pub ends_little : t ≡ true → HeadEnd s at None
+        ends_little y = ends-lost _ _ (head_little s at h f k a es l refl refl (ltb-true _ _ (sym lt.is ∙ y)) refl)
 
-        pub ends_found : t ≡ false → HeadEnd s at (at + 1 + size)
+        pub ends_found : t ≡ false → HeadEnd s at (Some (at + 1 + size))
         ends_found y =
-            let n = argument-wide s at k n₃ es refl in
+            let n = argument-wide s at k (λ o. not_argument (sym a ∙ o)) es refl in
             let q : least_argument (get_or s at 0) ≤ argument_by size (get_or s at 0 % 32) (take size (drop (at + 1) s)) = ltb-false _ _ (sym lt.is ∙ y) in
-            ends_at (omega arith) (record { inside = omega arith }) (head-found s at h f k n₁ n₂ n₃ es l (sym n) refl (omega (arith, n)) refl)
+            ends_at (record { inside = omega arith }) (head-found s at h f k a es l (sym n) refl (omega (arith, n)) refl)
 
 -- a head of a number or of a short argument, whose bytes are there
 pub ends_plain : {s : List ℕ} {at : ℕ} → get_or s at 0 < 256 → get_or s at 0 % 32 < 28 → (get_or s at 0 / 32 ≡ 7 → get_or s at 0 % 32 < 24) → at + argument_size (get_or s at 0 % 32) < length s
-    → HeadEnd s at (at + 1 + argument_size (get_or s at 0 % 32))
+    → HeadEnd s at (Some (at + 1 + argument_size (get_or s at 0 % 32)))
 ends_plain {s} {at} u l z h =
     let x : get_or s at 0 ≡ 0xf8 → ⊥ = λ e.
     let m : get_or s at 0 / 32 ≡ 7 = ap (λ (b : ℕ). b / 32) e in
     let i : get_or s at 0 % 32 ≡ 24 = ap (λ (b : ℕ). b % 32) e in
     omega (arith, z m) in
-    ends_found (omega arith) (by (leb (get_or s at 0 % 32) 24) refl) (omega arith) (omega arith) (omega arith) refl (omega arith) (little_no x) refl
+    ends_found (omega arith) (by (leb (get_or s at 0 % 32) 24) refl) refl refl (omega arith) (little_no x) refl
   where
-    by : (t : Bool) → leb (get_or s at 0 % 32) 24 ≡ t → Formed (get_or s at 0) 0
+    by : (t : Bool) → leb (get_or s at 0 % 32) 24 ≡ t → Formed (get_or s at 0) Argument
     by true e = form_small (get_or s at 0) (record { fits = u }) (leb-true (get_or s at 0 % 32) 24 e)
     by false e =
         let a = leb-false (get_or s at 0 % 32) 24 e in
@@ -611,7 +653,7 @@ ends_plain {s} {at} u l z h =
 
 pub ruleset ends_ways = (ends-none, ends-short)
 
-pub ruleset long_ways = (ends-float, ends-bad, ends_open, ends-cut, ends_little, ends_found)
+pub ruleset long_ways = (ends-bad, ends_open, ends-cut, ends_little, ends_found)
 
 -- NUMBERS AND HEADS, WRITTEN
 

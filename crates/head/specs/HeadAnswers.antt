@@ -5,8 +5,13 @@ use Rattle.cbor.specs.Widths.{information, big_endian, value_from}
 use Rattle.cbor.specs.Items.{Size, definite, indefinite}
 use Rattle.cbor.specs.Heads.{Major, major_number, major_of, Head, Information, argument, reserved, open_ended, information_of, is_float, is_indefinite, next_head}
 use Rattle.refusal.specs.RefusalKinds.{kind_number}
-use Rattle.head.specs.declared.HeadRead.{HeadRead}
-use Rattle.head.specs.declared.HeadRead.TheVariants.{Head as HeadV, Refused as RefusedV}
+use Rattle.std.specs.Prelude.{Ok, Err, Some, None}
+use Rattle.std.specs.Prelude as std
+use Rattle.head.specs.declared.HeadAt.{HeadAt}
+use Rattle.refusal.specs.declared.Refusal.{Refusal}
+use Rattle.refusal.specs.declared.RefusalKind.{RefusalKind}
+use Rattle.head.specs.declared.Meaning.{Meaning}
+use Rattle.head.specs.declared.Meaning.TheVariants.{Argument, OpenEnded, Refused}
 
 -- READING
 
@@ -15,9 +20,9 @@ pub data HeadTold : Type 0 where
   head_found : ℕ → ℕ → ℕ → ℕ → HeadTold
   head_refused : ℕ → ℕ → HeadTold
 
-unfoldable pub head_told : HeadRead → HeadTold
-head_told (HeadV h) = head_found h.major h.info h.argument h.end
-head_told (RefusedV e) = head_refused (kind_number e.kind) e.place
+unfoldable pub head_told : std.Result HeadAt Refusal → HeadTold
+head_told (Ok h) = head_found h.major h.info h.argument h.end
+head_told (Err e) = head_refused (kind_number e.kind) e.place
 
 -- the additional information of a size whose argument is n
 unfoldable pub size_information : Size → ℕ → ℕ
@@ -41,8 +46,14 @@ form_by m open_ended = elim (is_indefinite m) [ true ↦ 31 | false ↦ not_well
 unfoldable pub form_of : ℕ → ℕ
 form_of b = form_by (major_of (b / 32)) (information_of (b % 32))
 
-pub record Formed (b r : ℕ) : Type 0 where
-  pub is : r ≡ form_of b
+-- the code says it so
+unfoldable pub form_number : Meaning → ℕ
+form_number Argument = 0
+form_number OpenEnded = 31
+form_number (Refused kind) = kind_number kind
+
+pub record Formed (b : ℕ) (r : Meaning) : Type 0 where
+  pub is : form_number r ≡ form_of b
   pub byte : b < 256
 
 pub record Widened (b r : ℕ) : Type 0 where
@@ -87,11 +98,15 @@ argument_at s at =
 pub record HeadRoom (s : List ℕ) (at : ℕ) : Type 0 where
   pub inside : at + argument_size (get_or s at 0 % 32) < length s
 
--- the head at a place ends at r; 0: it is refused
-pub record HeadEnd (s : List ℕ) (at r : ℕ) : Type 0 where
-  pub room : (r ≡ 0 → ⊥) → HeadRoom s at
-  pub found : (r ≡ 0 → ⊥) → head_found (get_or s at 0 / 32) (get_or s at 0 % 32) (argument_at s at) r ≡ head_at s at
-  pub lost : r ≡ 0 → (m i n e : ℕ) → head_found m i n e ≡ head_at s at → ⊥
+-- the head at a place ends at r
+pub record HeadEndsAt (s : List ℕ) (at r : ℕ) : Type 0 where
+  pub room : HeadRoom s at
+  pub found : head_found (get_or s at 0 / 32) (get_or s at 0 % 32) (argument_at s at) r ≡ head_at s at
+
+-- where it ends; None: it is refused
+pub record HeadEnd (s : List ℕ) (at : ℕ) (r : std.Option ℕ) : Type 0 where
+  pub ends : (e : ℕ) → r ≡ Some e → HeadEndsAt s at e
+  pub lost : r ≡ None → (m i n e : ℕ) → head_found m i n e ≡ head_at s at → ⊥
 
 -- WRITING
 

@@ -25,22 +25,16 @@ pub struct HeadAt {
     pub end: usize,
 }
 
-#[derive(Drop)]
-pub enum HeadRead {
-    Head(HeadAt),
-    Refused(Refusal),
-}
-
-fn refuse(kind: RefusalKind, place: usize) -> HeadRead
+fn refuse(kind: RefusalKind, place: usize) -> Result<HeadAt, Refusal>
     ensures { head_told result ≡ head_refused (kind_number kind) place }
 {
-    HeadRead::Refused(Refusal { kind, place })
+    Err(Refusal { kind, place })
 }
 
-fn found(initial: u8, argument: u64, end: usize) -> HeadRead
+fn found(initial: u8, argument: u64, end: usize) -> Result<HeadAt, Refusal>
     ensures { head_told result ≡ head_found (initial / 32) (initial % 32) argument end }
 {
-    HeadRead::Head(HeadAt {
+    Ok(HeadAt {
         major: initial / 32,
         info: initial % 32,
         argument,
@@ -48,39 +42,38 @@ fn found(initial: u8, argument: u64, end: usize) -> HeadRead
     })
 }
 
-// What an initial byte may say of what stands behind it: an argument; an indefinite length, or a break. Else it is refused, and this is the refusal's number.
-const ARGUMENT: u8 = 0;
+// What an initial byte says: an argument is in it or behind it; a length is indefinite, or it is a break; or why it is refused.
+#[derive(Drop)]
+enum Meaning {
+    Argument,
+    OpenEnded,
+    Refused(RefusalKind),
+}
 
-const OPEN_ENDED: u8 = 31;
-
-const FLOAT: u8 = 6;
-
-const NOT_WELL_FORMED: u8 = 16;
-
-fn form(initial: u8) -> u8
+fn form(initial: u8) -> Meaning
     ensures { Formed initial result }
 {
     let major = initial / 32;
     let info = initial % 32;
     if info <= IN_ONE_BYTE {
-        return ARGUMENT;
+        return Meaning::Argument;
     }
     if info <= IN_EIGHT_BYTES {
         if major == SIMPLE_VALUE {
-            return FLOAT;
+            return Meaning::Refused(RefusalKind::Float);
         }
-        return ARGUMENT;
+        return Meaning::Argument;
     }
     if info <= LAST_RESERVED {
-        return NOT_WELL_FORMED;
+        return Meaning::Refused(RefusalKind::NotWellFormed);
     }
     if major <= NEGATIVE_INTEGER {
-        return NOT_WELL_FORMED;
+        return Meaning::Refused(RefusalKind::NotWellFormed);
     }
     if major == TAG {
-        NOT_WELL_FORMED
+        Meaning::Refused(RefusalKind::NotWellFormed)
     } else {
-        OPEN_ENDED
+        Meaning::OpenEnded
     }
 }
 
@@ -109,10 +102,8 @@ fn read_number(bytes: &[u8], from: usize, size: usize) -> u64
     ensures { result ≡ value_from 0 (take size (drop from bytes.now)) }
 {
     let mut v: u64 = 0;
-    let mut i: usize = 0;
-    while i < size {
+    for i in 0..size {
         v = v * 256 + wide(bytes[from + i]);
-        i += 1;
     }
     v
 }
@@ -140,33 +131,29 @@ fn least_argument(initial: u8) -> u64
 }
 
 // The head at a place.
-pub fn read_head(bytes: &[u8], at: usize) -> HeadRead
+pub fn read_head(bytes: &[u8], at: usize) -> Result<HeadAt, Refusal>
     ensures { head_told result ≡ head_at bytes.now at }
 {
     if bytes.len() <= at {
         return refuse(RefusalKind::EndsInside, bytes.len());
     }
     let initial = bytes[at];
-    let f = form(initial);
-    if f == FLOAT {
-        return refuse(RefusalKind::Float, at);
+    match form(initial) {
+        Meaning::Refused(kind) => refuse(kind, at),
+        Meaning::OpenEnded => found(initial, 0, at + 1),
+        Meaning::Argument => {
+            let info = initial % 32;
+            let size = argument_size(info);
+            if bytes.len() - at <= size {
+                return refuse(RefusalKind::EndsInside, at);
+            }
+            let argument = argument_at(bytes, at + 1, info, size);
+            if argument < least_argument(initial) {
+                return refuse(RefusalKind::NotWellFormed, at);
+            }
+            found(initial, argument, at + 1 + size)
+        }
     }
-    if f == NOT_WELL_FORMED {
-        return refuse(RefusalKind::NotWellFormed, at);
-    }
-    if f == OPEN_ENDED {
-        return found(initial, 0, at + 1);
-    }
-    let info = initial % 32;
-    let size = argument_size(info);
-    if bytes.len() - at <= size {
-        return refuse(RefusalKind::EndsInside, at);
-    }
-    let argument = argument_at(bytes, at + 1, info, size);
-    if argument < least_argument(initial) {
-        return refuse(RefusalKind::NotWellFormed, at);
-    }
-    found(initial, argument, at + 1 + size)
 }
 
 // Whether an argument is below the least that its initial byte may have.
@@ -187,41 +174,37 @@ fn is_short(initial: u8) -> bool
     initial % 32 < IN_ONE_BYTE
 }
 
-// Where another head at a place ends, 0 where it is refused.
-fn long_end(bytes: &[u8], at: usize) -> usize
+// Where another head at a place ends, if it is not refused.
+fn long_end(bytes: &[u8], at: usize) -> Option<usize>
     requires { at < length bytes.now }
     ensures { HeadEnd bytes.now at result }
 {
     let initial = bytes[at];
-    let f = form(initial);
-    if f == FLOAT {
-        return 0;
+    match form(initial) {
+        Meaning::Refused(_) => None,
+        Meaning::OpenEnded => Some(at + 1),
+        Meaning::Argument => {
+            let size = argument_size(initial % 32);
+            if bytes.len() - at <= size {
+                return None;
+            }
+            if is_little(bytes, at + 1, initial, size) {
+                return None;
+            }
+            Some(at + 1 + size)
+        }
     }
-    if f == NOT_WELL_FORMED {
-        return 0;
-    }
-    if f == OPEN_ENDED {
-        return at + 1;
-    }
-    let size = argument_size(initial % 32);
-    if bytes.len() - at <= size {
-        return 0;
-    }
-    if is_little(bytes, at + 1, initial, size) {
-        return 0;
-    }
-    at + 1 + size
 }
 
-// Where the head at a place ends, 0 where it is refused: of what `read_head` answers, the part that a walk asks for most.
-pub fn head_end(bytes: &[u8], at: usize) -> usize
+// Where the head at a place ends, if it is not refused: of what `read_head` answers, the part that a walk asks for most.
+pub fn head_end(bytes: &[u8], at: usize) -> Option<usize>
     ensures { HeadEnd bytes.now at result }
 {
     if bytes.len() <= at {
-        return 0;
+        return None;
     }
     if is_short(bytes[at]) {
-        return at + 1;
+        return Some(at + 1);
     }
     long_end(bytes, at)
 }
@@ -236,10 +219,10 @@ pub fn head_argument(bytes: &[u8], at: usize) -> u64
     if is_short(initial) {
         return wide(info);
     }
-    if form(initial) == OPEN_ENDED {
-        return 0;
+    match form(initial) {
+        Meaning::OpenEnded => 0,
+        _ => argument_at(bytes, at + 1, info, argument_size(info)),
     }
-    argument_at(bytes, at + 1, info, argument_size(info))
 }
 
 // The additional information of the shortest head for an argument.
@@ -270,11 +253,9 @@ fn write_number(out: &mut [u8], from: usize, size: usize, n: u64)
         return;
     }
     let mut m = n;
-    let mut k = size;
-    while 0 < k {
-        k -= 1;
+    for k in (0..size).rev() {
         out[from + k] = (m % 256) as u8;
-        m = m / 256;
+        m /= 256;
     }
 }
 

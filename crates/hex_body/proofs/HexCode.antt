@@ -2,14 +2,10 @@
 -- Assumes nothing.
 use mathlib.Core.Path.{◌≡◌, refl, sym, ap, ◌∙◌}
 use mathlib.Core.List.{List, [], ◌∷◌}
-use mathlib.Core.Bool.{Bool, true, false}
+use mathlib.Core.Bool.{true, false}
 use Prim.Native.Nat.{ℕ, ◌+◌, ◌-◌, ◌*◌, ◌/◌, ◌≤◌, ◌<◌, min}
 use native.Mathlib.Omega.{arith}
-use lib.Dec.{leb}
 use lib.ListN.{length, take, drop, get_or}
-use mir.Syntax.{w64 as bits64}
-use mir.Val.{Fits}
-use borrow.Author.Tests.{leb-true, leb-false}
 use Rattle.notation.specs.Numbers.{is_digit, digit_value}
 use Rattle.notation.specs.Literals.{stands_for, bad, after, no_comment, no_half, high, hex_digit, half_end, hex_from, hex_content}
 use Rattle.scanning.specs.Stands.{span}
@@ -17,11 +13,12 @@ use Rattle.literal_body.specs.LiteralAnswers.{digit_number, Put}
 use Rattle.literal_body.specs.LiteralReading.{Before, Within, Yields, Progressed, DecodesInto}
 use Rattle.literal_body.specs.declared.Progress.{Progress}
 use Rattle.hex_gaps.specs.GapAnswers.{Blank, Gap, Gaps}
-use Rattle.hex_body.specs.HexAnswers.{ByteRead}
+use Rattle.hex_body.specs.HexAnswers.{byte_read, ByteRead}
 use Rattle.hex_weight.specs.Weights.{pair_weight, PairThere}
 use Rattle.hex_pairs.specs.PairAnswers.{HexDigits, PairsPut}
-use Rattle.hex_body.specs.declared.HexByte.{HexByte}
-use Rattle.literal_body.proofs.LiteralCode.{put-none, true_false, digit-yes, digit-no, digit-number}
+use Rattle.hex_body.specs.declared.NextByte.TheVariants.{Byte, End, Wrong}
+use Rattle.std.specs.Prelude.{None, Some}
+use Rattle.literal_body.proofs.LiteralCode.{put-none, digit-yes, digit-no, digit-number}
 use Rattle.literal_body.proofs.ReadingCode.{span-step, span-over, yields_none, progress_start, progress_more, progress_append, decodes-good, decodes-bad}
 use Rattle.hex_pairs.proofs.DigitCode.{digit-front, two_digits, pair-yields}
 use Rattle.hex_pairs.proofs.PairsCode.{run-within}
@@ -53,9 +50,6 @@ module _ {s : List ℕ} {stop from : ℕ} {b b₁ : List ℕ} {pos at p size r :
   pub close_gap : Progressed hex_content s stop from b b₁ pos (record { next = at; pos = p; size = size }) → Progressed hex_content s stop from b b₁ pos (record { next = r; pos = p; size = size })
   close_gap inv = let k : size + 0 ≡ size = omega arith in rw k at (progress_more {n = 0} inv (yields-blank yields_none y.blank) (put-none b₁ p) refl)
 
-pub close_less : {s : List ℕ} {stop at r : ℕ} → Gap s stop at r → 2 ≤ stop - at → (r ≡ at → ⊥) → stop - r < stop - at
-close_less y l n = omega (arith, y.blank.ahead)
-
 -- A BYTE
 
 nothing_left : (s : List ℕ) (stop i : ℕ) → stop ≤ i → hex_content (span i stop s) ≡ stands_for []
@@ -66,38 +60,20 @@ module _ {s : List ℕ} {stop from i : ℕ} (l : stop ≤ length s) (w : from �
   up : i ≤ stop
   up = omega (arith, x.blank.inside)
 
-  wrong-by : {r : HexByte} → hex_content (span i stop s) ≡ bad → i < stop → r ≡ record { missing = true; byte = 0; next = i } → ByteRead s stop from r
-  unfolding hex_content
-  wrong-by {r} e h p =
-      let f : hex_content (span from stop s) ≡ bad = x.blank.is no_half ∙ e in
-      rw p
-      (record {
-        some = λ z. absurd (true_false z);
-        whole = λ z g. absurd (omega arith);
-        wrong = λ z g. f;
-        ahead = x.blank.ahead;
-        inside = up;
-      })
+  wrong-by : hex_content (span i stop s) ≡ bad → ByteRead s stop from Wrong
+  unfolding hex_content byte_read
+  wrong-by e = record { by = x.blank.is no_half ∙ e }
 
-  pub byte-none : {r : HexByte} → stop ≤ i → r ≡ record { missing = true; byte = 0; next = i } → ByteRead s stop from r
-  unfolding hex_content
-  byte-none h p =
-      let f : hex_content (span from stop s) ≡ stands_for [] = x.blank.is no_half ∙ nothing_left s stop i h in
-      rw p
-      (record {
-        some = λ z. absurd (true_false z);
-        whole = λ z g. f;
-        wrong = λ z g. absurd (omega arith);
-        ahead = x.blank.ahead;
-        inside = up;
-      })
+  pub byte-none : stop ≤ i → ByteRead s stop from End
+  unfolding hex_content byte_read
+  byte-none h = record { by = x.blank.is no_half ∙ nothing_left s stop i h }
 
   module _ (h : i < stop) {v : ℕ} (e : v ≡ digit_number (get_or s i 0)) where
-    pub byte-wrong : {r : HexByte} → 16 ≤ v → r ≡ record { missing = true; byte = 0; next = i } → ByteRead s stop from r
+    pub byte-wrong : 16 ≤ v → ByteRead s stop from Wrong
     unfolding hex_content
-    byte-wrong g p =
+    byte-wrong g =
         let d : is_digit 16 (get_or s i 0) ≡ false = digit-no 16 (get_or s i 0) (omega arith) in
-        wrong-by (x.none h d no_half) h p
+        wrong-by (x.none h d no_half)
 
     module _ (g : v < 16) {j : ℕ} (y : Gaps s stop (i + 1) j) where
       is_it : is_digit 16 (get_or s i 0) ≡ true
@@ -107,18 +83,18 @@ module _ {s : List ℕ} {stop from i : ℕ} (l : stop ≤ length s) (w : from �
       unfolding hex_content hex_digit
       after-high = ap hex_content (span-step s i stop h l) ∙ digit-front (get_or s i 0) no_half (span (i + 1) stop s) is_it ∙ y.blank.is (high (digit_value (get_or s i 0)))
 
-      pub byte_half : {r : HexByte} → stop ≤ j → r ≡ record { missing = true; byte = 0; next = i } → ByteRead s stop from r
+      pub byte_half : stop ≤ j → ByteRead s stop from Wrong
       unfolding hex_from half_end
-      byte_half k p = wrong-by (after-high ∙ ap (hex_from no_comment (high (digit_value (get_or s i 0)))) (span-over s j stop k)) h p
+      byte_half k = wrong-by (after-high ∙ ap (hex_from no_comment (high (digit_value (get_or s i 0)))) (span-over s j stop k))
 
       module _ (k : j < stop) {u : ℕ} (f : u ≡ digit_number (get_or s j 0)) where
-        pub byte_odd : {r : HexByte} → 16 ≤ u → r ≡ record { missing = true; byte = 0; next = i } → ByteRead s stop from r
-        byte_odd m p =
+        pub byte_odd : 16 ≤ u → ByteRead s stop from Wrong
+        byte_odd m =
             let d : is_digit 16 (get_or s j 0) ≡ false = digit-no 16 (get_or s j 0) (omega arith) in
-            wrong-by (after-high ∙ y.none k d (high (digit_value (get_or s i 0)))) h p
+            wrong-by (after-high ∙ y.none k d (high (digit_value (get_or s i 0))))
 
-        pub byte-whole : u < 16 → ByteRead s stop from (record { missing = false; byte = v * 16 + u; next = j + 1 })
-        unfolding hex_content
+        pub byte-whole : u < 16 → ByteRead s stop from (Byte (v * 16 + u) (j + 1))
+        unfolding hex_content byte_read
         byte-whole m =
             let q : is_digit 16 (get_or s j 0) ≡ true = digit-yes 16 (get_or s j 0) (omega arith) (omega arith) in
             let a : v ≡ digit_value (get_or s i 0) = e ∙ digit-number 16 (get_or s i 0) is_it in
@@ -129,13 +105,7 @@ module _ {s : List ℕ} {stop from i : ℕ} (l : stop ≤ length s) (w : from �
             ∙ (λ n. after ((sym a n * 16 + sym b n) ∷ []) (hex_content (span (j + 1) stop s))) in
             let o = x.blank.ahead in
             let o' = y.blank.ahead in
-            record {
-              some = λ z. record { is = x.blank.is no_half ∙ c; ahead = omega arith; inside = omega arith; short = omega arith };
-              whole = λ z. absurd (true_false (sym z));
-              wrong = λ z. absurd (true_false (sym z));
-              ahead = omega arith;
-              inside = omega arith;
-            }
+            record { by = (record { is = x.blank.is no_half ∙ c; ahead = omega arith; inside = omega arith; short = omega arith }, omega arith) }
 
 pub ruleset byte_ways = (byte-none, byte-wrong, byte_half, byte_odd, byte-whole)
 
@@ -156,46 +126,30 @@ module _ {s : List ℕ} {stop at e r : ℕ} (i : Before s at stop) (x : HexDigit
       rw k at (progress_more {n = n} progress_start (yields-blank (y.yields stop (omega arith) l) z) y.put (sym y.count))
 
 module _ {s : List ℕ} {stop at : ℕ} {b b₁ b₂ : List ℕ} {pos : ℕ} {f g : Progress} (x : Progressed hex_content s stop at b b₁ pos f) (y : Progressed hex_content s stop f.next b₁ b₂ f.pos g) where
-  pub stretch_size : Before s at stop → Fits bits64 stop → Fits bits64 (f.size + g.size)
-  stretch_size i k =
-      let h = k.fits in
-      let l = i.before in
-      let m : f.next ≤ stop = omega (arith, x.inside) in
-      let n : g.next ≤ stop = omega (arith, y.inside) in
-      record { fits = omega (arith, x.short, x.ahead, y.short, y.ahead) }
-
   pub stretch_on : Progressed hex_content s stop at b b₂ pos (record { next = g.next; pos = g.pos; size = f.size + g.size })
   stretch_on = progress_append x y
 
 -- THE LOOP
 
 module _ {s : List ℕ} {at stop : ℕ} {b b₀ : List ℕ} {pos i p size : ℕ} (inv : Progressed hex_content s stop at b b₀ pos (record { next = i; pos = p; size = size })) where
-  pub read-end : {end : ℕ} → stop ≡ min end (length s) → stop ≤ i → DecodesInto b b₀ pos (record { good = true; next = end; size = size }) (hex_content (take (end - at) (drop at s)))
-  read-end e h = decodes-good e inv (nothing_left s stop i h)
+  pub read-end : {end : ℕ} → stop ≡ min end (length s) → stop ≤ i → DecodesInto b b₀ pos (Some (record { next = end; size = size })) (hex_content (take (end - at) (drop at s)))
+  read-end e h = decodes-good _ e inv (nothing_left s stop i h)
 
   module _ {b₁ : List ℕ} {f : Progress} (x : Progressed hex_content s stop i b₀ b₁ p f) where
-    run-sum : size + f.size ≤ f.next
-    run-sum = omega (arith, inv.short, inv.ahead, x.short, x.ahead)
+    module _ (end : ℕ) (e : stop ≡ min end (length s)) where
+      pub read-whole : ByteRead s stop f.next End → DecodesInto b b₁ pos (Some (record { next = end; size = size + f.size })) (hex_content (take (end - at) (drop at s)))
+      unfolding byte_read
+      read-whole z = decodes-good _ e (progress_append inv x) z.by
 
-    module _ (end : ℕ) (e : stop ≡ min end (length s)) (k : Fits bits64 end) (l : i < stop) where
-      pub read-size : Fits bits64 (size + f.size)
-      read-size = let h = k.fits in record { fits = omega (arith, run-sum, x.inside) }
+      pub read-wrong : ByteRead s stop f.next Wrong → DecodesInto b b₁ pos None (hex_content (take (end - at) (drop at s)))
+      unfolding byte_read
+      read-wrong z = decodes-bad _ e (progress_append inv x) z.by
 
-      pub read-sum : {m : HexByte} → ByteRead s stop f.next m → m.missing ≡ false → Fits bits64 (size + f.size + 1)
-      read-sum z q = let h = k.fits in record { fits = omega (arith, run-sum, (z.some q).short, z.inside) }
+    module _ {v n t : ℕ} (z : ByteRead s stop f.next (Byte v n)) (w : Blank s stop n t) where
+      pub read_less : i < stop → stop - t < stop - i
+      unfolding byte_read
+      read_less l = omega (arith, x.ahead, z.by.0.short, w.ahead)
 
-    module _ {m : HexByte} (z : ByteRead s stop f.next m) where
-      pub read_out : {end : ℕ} → stop ≡ min end (length s) → m.missing ≡ true
-          → DecodesInto b b₁ pos (record { good = leb stop m.next; next = end; size = size + f.size }) (hex_content (take (end - at) (drop at s)))
-      read_out {end} e h = go (leb stop m.next) refl
-        where
-          go : (t : Bool) → leb stop m.next ≡ t → DecodesInto b b₁ pos (record { good = t; next = end; size = size + f.size }) (hex_content (take (end - at) (drop at s)))
-          go true q = decodes-good e (progress_append inv x) (z.whole h (leb-true stop m.next q))
-          go false q = decodes-bad e (progress_append inv x) (z.wrong h (leb-false stop m.next q))
-
-      module _ {t : ℕ} (h : m.missing ≡ false) (w : Blank s stop m.next t) where
-        pub read_less : i < stop → stop - t < stop - i
-        read_less l = omega (arith, x.ahead, (z.some h).short, w.ahead)
-
-        pub read-on : {b₂ : List ℕ} {p' : ℕ} → Put b₁ b₂ f.pos p' (m.byte ∷ []) → Progressed hex_content s stop at b b₂ pos (record { next = t; pos = p'; size = size + f.size + 1 })
-        read-on k = progress_more (progress_append inv x) (yields-blank (z.some h) w) k refl
+      pub read-on : {b₂ : List ℕ} {p' : ℕ} → Put b₁ b₂ f.pos p' (v ∷ []) → Progressed hex_content s stop at b b₂ pos (record { next = t; pos = p'; size = size + f.size + 1 })
+      unfolding byte_read
+      read-on k = progress_more (progress_append inv x) (yields-blank z.by.0 w) k refl

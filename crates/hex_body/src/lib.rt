@@ -1,7 +1,7 @@
 // Hexadecimal text: what stands between the quotes of h'..'.
 #![tactic(auto)]
 
-ghost use Rattle.std.specs.Prelude.{◌≡◌, true, false, ◌+◌, ◌-◌, ◌<◌, take, drop};
+ghost use Rattle.std.specs.Prelude.{◌-◌, take, drop};
 ghost use Rattle.notation.specs.Literals.{hex_content};
 ghost use Rattle.literal_body.specs.LiteralAnswers.{Decodes};
 ghost use Rattle.literal_body.specs.LiteralReading.{Before, Within, Progressed, DecodesInto};
@@ -10,7 +10,7 @@ ghost use Rattle.hex_body.specs.HexAnswers.{ByteRead};
 use hex_gaps::{after_blank, past_gap, past_gaps};
 use hex_pairs::{hex_run, put_pairs};
 use hex_weight::{NO_PAIR, pair};
-use literal_body::{LiteralScan, Progress, hex_value, least, put};
+use literal_body::{LiteralScan, Progress, hex_value, put};
 
 // Writes pairs that stand side by side or with blanks and comments between.
 fn put_close(text: &[u8], from: usize, stop: usize, out: &mut [u8], pos: usize) -> Progress
@@ -29,11 +29,7 @@ fn put_close(text: &[u8], from: usize, stop: usize, out: &mut [u8], pos: usize) 
         } else {
             let next = past_gap(text, at, stop);
             if next == at {
-                return Progress {
-                    next: at,
-                    pos: p,
-                    size,
-                };
+                break;
             }
             at = next;
         }
@@ -45,48 +41,37 @@ fn put_close(text: &[u8], from: usize, stop: usize, out: &mut [u8], pos: usize) 
     }
 }
 
-// A byte, and the place behind it. Where there is none: the end if nothing but blanks and comments is left, else what is wrong.
-#[derive(Drop)]
-struct HexByte {
-    missing: bool,
-    byte: u8,
-    next: usize,
-}
-
-fn no_byte(next: usize) -> HexByte
-    ensures { result ≡ record { missing = true; byte = 0; next = next } }
-{
-    HexByte {
-        missing: true,
-        byte: 0,
-        next,
-    }
+// What comes next: a byte, and the place behind it; nothing but blanks and comments up to the end; or what stands for no byte.
+#[derive(Clone, Copy)]
+enum NextByte {
+    Byte { value: u8, next: usize },
+    End,
+    Wrong,
 }
 
 // The next byte, whatever stands before and between its digits.
-fn next_byte(text: &[u8], from: usize, stop: usize) -> HexByte
+fn next_byte(text: &[u8], from: usize, stop: usize) -> NextByte
     requires { Within text.now from stop }
     ensures { ByteRead text.now stop from result }
 {
     let i = past_gaps(text, from, stop);
     if stop <= i {
-        return no_byte(i);
+        return NextByte::End;
     }
     let high = hex_value(text[i]);
     if 16 <= high {
-        return no_byte(i);
+        return NextByte::Wrong;
     }
     let j = past_gaps(text, i + 1, stop);
     if stop <= j {
-        return no_byte(i);
+        return NextByte::Wrong;
     }
     let low = hex_value(text[j]);
     if 16 <= low {
-        return no_byte(i);
+        return NextByte::Wrong;
     }
-    HexByte {
-        missing: false,
-        byte: high * 16 + low,
+    NextByte::Byte {
+        value: high * 16 + low,
         next: j + 1,
     }
 }
@@ -95,13 +80,7 @@ fn next_byte(text: &[u8], from: usize, stop: usize) -> HexByte
 fn few(text: &[u8], at: usize, stop: usize) -> bool
     requires { Before text.now at stop }
 {
-    if stop - at < 32 {
-        return true;
-    }
-    if 16 <= hex_value(text[at + 1]) {
-        return true;
-    }
-    16 <= hex_value(text[at + 2])
+    stop - at < 32 || 16 <= hex_value(text[at + 1]) || 16 <= hex_value(text[at + 2])
 }
 
 // Writes the digits at the front, if they are many, and passes a blank behind them.
@@ -116,7 +95,7 @@ fn put_front(text: &[u8], at: usize, stop: usize, out: &mut [u8], pos: usize) ->
             size: 0,
         };
     }
-    let n = (least(hex_run(text, at), stop) - at) / 2;
+    let n = (hex_run(text, at).min(stop) - at) / 2;
     let p = put_pairs(text, at, n, out, pos);
     Progress {
         next: after_blank(text, at + 2 * n, stop),
@@ -140,39 +119,38 @@ fn put_stretch(text: &[u8], at: usize, stop: usize, out: &mut [u8], pos: usize) 
 }
 
 // Whether the text from `at` to `end` stands for bytes, and for how many; these are written from `pos` on, if they all fit.
-pub fn read_hex(text: &[u8], at: usize, end: usize, out: &mut [u8], pos: usize) -> LiteralScan
+pub fn read_hex(
+    text: &[u8],
+    at: usize,
+    end: usize,
+    out: &mut [u8],
+    pos: usize,
+) -> Option<LiteralScan>
     ensures { DecodesInto out.old out.new pos result (hex_content (take (end - at) (drop at text.now))) }
 {
-    let stop = least(end, text.len());
+    let stop = end.min(text.len());
     let mut i = at;
     let mut p = pos;
     let mut size: usize = 0;
     while i < stop {
         let run = put_stretch(text, i, stop, out, p);
         size += run.size;
-        let m = next_byte(text, run.next, stop);
-        if m.missing {
-            return LiteralScan {
-                good: stop <= m.next,
-                next: end,
-                size,
-            };
+        match next_byte(text, run.next, stop) {
+            NextByte::Byte { value, next } => {
+                p = put(out, run.pos, value);
+                size += 1;
+                i = after_blank(text, next, stop);
+            }
+            NextByte::End => break,
+            NextByte::Wrong => return None,
         }
-        p = put(out, run.pos, m.byte);
-        size += 1;
-        i = after_blank(text, m.next, stop);
     }
-    LiteralScan {
-        good: true,
-        next: end,
-        size,
-    }
+    Some(LiteralScan { next: end, size })
 }
 
 // The same, and nothing is written.
-pub fn scan_hex(text: &[u8], at: usize, end: usize) -> LiteralScan
+pub fn scan_hex(text: &[u8], at: usize, end: usize) -> Option<LiteralScan>
     ensures { Decodes result (hex_content (take (end - at) (drop at text.now))) }
 {
-    let mut none = [0u8; 1];
-    read_hex(text, at, end, &mut none, 1)
+    read_hex(text, at, end, &mut [], 0)
 }

@@ -8,11 +8,13 @@ use native.Mathlib.Omega.{arith}
 use lib.Dec.{eqb}
 use lib.ListN.{length, get_or}
 use borrow.Author.Tests.{eq-eqb, ne_eqb, eqb-true, eqb-false}
+use Rattle.std.specs.Prelude.{Option, None, Some}
+use Rattle.std.specs.Option.{unwrap_or}
 use Rattle.notation.specs.Classes.{blank, is}
 use Rattle.notation.specs.Literals.{Content, bad, no_comment, in_slash, in_hash, Half, hex_from}
 use Rattle.scanning.specs.Stands.{span}
 use Rattle.literal_body.specs.LiteralReading.{Before}
-use Rattle.hex_gaps.specs.GapAnswers.{comment_by, Closing, Commented, Blank, Gap, Gaps}
+use Rattle.hex_gaps.specs.GapAnswers.{comment_by, Closing, Ended, Unended, Commented, Blank, Gap, Gaps}
 use Rattle.literal_body.proofs.LiteralCode.{slash-is, hash-is}
 use Rattle.literal_body.proofs.ReadingCode.{span-step, span-over}
 
@@ -51,27 +53,15 @@ module _ {s : List ℕ} {stop at last i : ℕ} (inv : InComment s stop at last i
     here : (h : Half) → hex_from (comment_by last) h (span (at + 1) stop s) ≡ elim (eqb (get_or s i 0) last) [ true ↦ hex_from no_comment h (span (i + 1) stop s) | false ↦ hex_from (comment_by last) h (span (i + 1) stop s) ]
     here h = inv.is h ∙ ap (hex_from (comment_by last) h) (span-step s i stop l p.inside) ∙ comment_step x (get_or s i 0) u h (span (i + 1) stop s)
 
-    pub comment_ends : get_or s i 0 ≡ last → Commented s stop at last (i + 1)
-    comment_ends e =
-        record {
-          ended = λ g h. rw (eq-eqb (get_or s i 0) last e) at (here h);
-          unended = λ z. absurd (omega (arith, inv.ahead));
-          ahead = omega (arith, inv.ahead);
-          inside = omega arith;
-        }
+    pub comment_ends : get_or s i 0 ≡ last → Ended s stop at last (i + 1)
+    comment_ends e = record { is = λ h. rw (eq-eqb (get_or s i 0) last e) at (here h); ahead = omega (arith, inv.ahead); inside = omega arith }
 
     pub comment_goes : (get_or s i 0 ≡ last → ⊥) → InComment s stop at last (i + 1)
     comment_goes n = record { is = λ h. rw (ne_eqb (get_or s i 0) last n) at (here h); ahead = omega (arith, inv.ahead); inside = omega arith }
 
-  pub comment_none : stop ≤ i → Commented s stop at last at
+  pub comment_none : stop ≤ i → Unended s stop at last
   unfolding comment_by hex_from
-  comment_none l =
-      record {
-        ended = λ g. absurd (omega arith);
-        unended = λ z h. inv.is h ∙ ap (hex_from (comment_by last) h) (span-over s i stop l) ∙ go (eqb last 0x2f) h;
-        ahead = omega arith;
-        inside = omega (arith, p.before);
-      }
+  comment_none l = record { is = λ h. inv.is h ∙ ap (hex_from (comment_by last) h) (span-over s i stop l) ∙ go (eqb last 0x2f) h }
     where
       go : (v : Bool) (h : Half) → hex_from (elim v [ true ↦ in_slash | false ↦ in_hash ]) h [] ≡ bad
       go true h = refl
@@ -114,28 +104,22 @@ module _ {s : List ℕ} {stop at : ℕ} (p : Before s at stop) {t : Bool} (x : t
         }
 
 -- a comment, by what it opens
-gap_by : {s : List ℕ} {stop at last r : ℕ} → ((h : Half) → hex_from no_comment h (span at stop s) ≡ hex_from (comment_by last) h (span (at + 1) stop s)) → Commented s stop at last r → Gap s stop at r
-gap_by {s} {stop} {at} {last} {r} f y =
-    record {
-      blank = record { is = is; ahead = y.ahead; inside = omega (arith, y.inside) };
-      none = λ z d h. f h ∙ y.unended z h;
-    }
-  where
-    is : (h : Half) → hex_from no_comment h (span at stop s) ≡ hex_from no_comment h (span r stop s)
-    is h = go (eqb r at) refl
-      where
-        go : (t : Bool) → eqb r at ≡ t → hex_from no_comment h (span at stop s) ≡ hex_from no_comment h (span r stop s)
-        go true e = let z = eqb-true r at e in rw z refl
-        go false e = let n = eqb-false r at e in f h ∙ y.ended (omega (arith, y.ahead)) h
+gap_by : {s : List ℕ} {stop at r : ℕ} (last : ℕ) → ((h : Half) → hex_from no_comment h (span at stop s) ≡ hex_from (comment_by last) h (span (at + 1) stop s)) → (o : Option ℕ) → Commented s stop at last o → r ≡ unwrap_or o at → Gap s stop at r
+gap_by last f None y e = rw e (record { blank = blank_none; none = λ z d h. f h ∙ y.is h })
+gap_by last f (Some r) y e =
+    rw e (record {
+      blank = record { is = λ h. f h ∙ y.is h; ahead = omega (arith, y.ahead); inside = omega (arith, y.inside) };
+      none = λ z. absurd (omega (arith, y.ahead));
+    })
 
 module _ {s : List ℕ} {stop at : ℕ} (p : Before s at stop) {t : Bool} (x : t ≡ is blank (get_or s at 0)) (q : t ≡ false) (u : get_or s at 0 < 256) where
-  pub gap_slash : {r : ℕ} → get_or s at 0 ≡ 0x2f → Commented s stop at 0x2f r → Gap s stop at r
+  pub gap_slash : {r : ℕ} (o : Option ℕ) → get_or s at 0 ≡ 0x2f → Commented s stop at 0x2f o → r ≡ unwrap_or o at → Gap s stop at r
   unfolding comment_by
-  gap_slash e y = gap_by (λ h. opens p x q u h e) y
+  gap_slash o e y = gap_by 0x2f (λ h. opens p x q u h e) o y
 
-  pub gap_hash : {r : ℕ} → (get_or s at 0 ≡ 0x2f → ⊥) → get_or s at 0 ≡ 0x23 → Commented s stop at 0x0a r → Gap s stop at r
+  pub gap_hash : {r : ℕ} (o : Option ℕ) → (get_or s at 0 ≡ 0x2f → ⊥) → get_or s at 0 ≡ 0x23 → Commented s stop at 0x0a o → r ≡ unwrap_or o at → Gap s stop at r
   unfolding comment_by
-  gap_hash n e y = gap_by (λ h. opens' p x q u h n e) y
+  gap_hash o n e y = gap_by 0x0a (λ h. opens' p x q u h n e) o y
 
 pub ruleset gap_ways = (gap_blank, gap_slash, gap_hash, gap_none)
 
@@ -156,10 +140,5 @@ module _ {s : List ℕ} {stop from at : ℕ} (x : Blank s stop from at) where
 
 -- ONE BLANK
 
-pub after_none : {s : List ℕ} {stop at : ℕ} → Blank s stop at at
-after_none = blank_none
-
 pub after_one : {s : List ℕ} {stop at : ℕ} {t : Bool} → stop ≤ length s → at < stop → t ≡ is blank (get_or s at 0) → t ≡ true → Blank s stop at (at + 1)
 after_one l h x e = blank-one (record { before = h; inside = l }) x e
-
-pub ruleset after_ways = (after_one, after_none)

@@ -1,5 +1,5 @@
 -- Of the code: blanks and comments in hexadecimal text. s is a text, read up to `stop`.
-use Rattle.std.specs.Prelude.{ℕ, ◌+◌, ◌≤◌, ◌<◌, max, ◌≡◌, List, true, false, eqb, get_or}
+use Rattle.std.specs.Prelude.{ℕ, ◌+◌, ◌≤◌, ◌<◌, max, ◌≡◌, Option, None, Some, List, true, false, eqb, get_or}
 use Rattle.notation.specs.Numbers.{is_digit}
 use Rattle.notation.specs.Literals.{bad, Commenting, no_comment, in_slash, in_hash, Half, hex_from}
 use Rattle.scanning.specs.Stands.{span}
@@ -11,12 +11,19 @@ comment_by last = elim (eqb last 0x2f) [ true ↦ in_slash | false ↦ in_hash ]
 pub record Closing (last : ℕ) : Type 0 where
   pub is : (last ≡ 0x2f → ⊥) → last ≡ 0x0a
 
--- what follows the byte at `at` is the comment; r is `at` where nothing ends it
-pub record Commented (s : List ℕ) (stop at last r : ℕ) : Type 0 where
-  pub ended : at < r → (h : Half) → hex_from (comment_by last) h (span (at + 1) stop s) ≡ hex_from no_comment h (span r stop s)
-  pub unended : r ≡ at → (h : Half) → hex_from (comment_by last) h (span (at + 1) stop s) ≡ bad
-  pub ahead : at ≤ r
+-- what follows the byte at `at` is the comment, which ends before r
+pub record Ended (s : List ℕ) (stop at last r : ℕ) : Type 0 where
+  pub is : (h : Half) → hex_from (comment_by last) h (span (at + 1) stop s) ≡ hex_from no_comment h (span r stop s)
+  pub ahead : at < r
   pub inside : r ≤ stop
+
+-- nothing ends it
+pub record Unended (s : List ℕ) (stop at last : ℕ) : Type 0 where
+  pub is : (h : Half) → hex_from (comment_by last) h (span (at + 1) stop s) ≡ bad
+
+abbrev pub Commented : List ℕ → ℕ → ℕ → ℕ → Option ℕ → Type 0
+Commented s stop at last None = Unended s stop at last
+Commented s stop at last (Some r) = Ended s stop at last r
 
 -- nothing but blanks and whole comments stands between two places
 pub record Blank (s : List ℕ) (stop from to : ℕ) : Type 0 where

@@ -7,26 +7,18 @@ ghost use Rattle.hex_gaps.specs.GapAnswers.{Closing, Commented, Gap, Blank, Gaps
 
 use literal_body::is_blank;
 
-const SLASH: u8 = 0x2f;
-
-const HASH: u8 = 0x23;
-
-const NEWLINE: u8 = 0x0a;
-
-// Behind the comment at a place, which `last` ends; the place itself where nothing ends it.
-fn past_comment(text: &[u8], at: usize, stop: usize, last: u8) -> usize
+// Behind the comment at a place, if `last` ends it.
+fn past_comment(text: &[u8], at: usize, stop: usize, last: u8) -> Option<usize>
     requires before { Before text.now at stop }
     requires closing { Closing last }
     ensures { Commented text.now stop at last result }
 {
-    let mut i = at + 1;
-    while i < stop {
+    for i in at + 1..stop {
         if text[i] == last {
-            return i + 1;
+            return Some(i + 1);
         }
-        i += 1;
     }
-    at
+    None
 }
 
 // Behind a blank or a comment; the place itself where neither stands whole.
@@ -38,13 +30,11 @@ pub fn past_gap(text: &[u8], at: usize, stop: usize) -> usize
     if is_blank(b) {
         return at + 1;
     }
-    if b == SLASH {
-        return past_comment(text, at, stop, SLASH);
+    match b {
+        b'/' => past_comment(text, at, stop, b'/').unwrap_or(at),
+        b'#' => past_comment(text, at, stop, b'\n').unwrap_or(at),
+        _ => at,
     }
-    if b == HASH {
-        return past_comment(text, at, stop, NEWLINE);
-    }
-    at
 }
 
 // Behind all of them.
@@ -68,10 +58,7 @@ pub fn after_blank(text: &[u8], at: usize, stop: usize) -> usize
     requires { stop ≤ length text.now }
     ensures { Blank text.now stop at result }
 {
-    if stop <= at {
-        return at;
-    }
-    if is_blank(text[at]) {
+    if at < stop && is_blank(text[at]) {
         return at + 1;
     }
     at

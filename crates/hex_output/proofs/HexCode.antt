@@ -3,29 +3,18 @@
 use mathlib.Core.Path.{◌≡◌, refl, sym, ap, ◌∙◌, subst}
 use mathlib.Core.Bool.{Bool, true, false}
 use mathlib.Core.List.{List, [], ◌∷◌, ◌++◌, append_assoc, append-nil}
-use Prim.Native.Nat.{ℕ, ◌+◌, ◌-◌, ◌*◌, ◌/◌, ◌%◌, ◌^◌, ◌≤◌, ◌<◌}
+use Prim.Native.Nat.{ℕ, ◌+◌, ◌*◌, ◌/◌, ◌%◌, ◌^◌, ◌≤◌, ◌<◌}
 use native.Mathlib.Omega.{arith}
 use lib.Dec.{ltb}
 use lib.ListN.{length, take, set, get_or, length-set}
 use mir.Syntax.{w8 as bits8}
 use mir.Val.{Fits}
-use borrow.Author.Tests.{lt-ltb, le-ltb}
 use Rattle.notation.specs.Printing.{hex_digit_of, hex_byte_of, hex_of}
 use Rattle.text_output.specs.PrintParts.{Prints, content_of}
 use Rattle.hex_output.specs.HexLetters.{letters_at}
 use Rattle.text_output.proofs.PrintLeaves.{prints-more, prints_as, prints-none, put_in, take_next, take_whole}
 
 -- DIGITS
-
-pub letters_none : {v : ℕ} → v < 10 → 0 ≡ letters_at v
-unfolding letters_at
-letters_none {v} h = sym (rw (lt-ltb v 10 h, letters_at))
-
-pub letters_some : {v : ℕ} → 10 ≤ v → 39 ≡ letters_at v
-unfolding letters_at
-letters_some {v} h = sym (rw (le-ltb v 10 h, letters_at))
-
-pub ruleset letters_ways = (letters_none, letters_some)
 
 letters_few : (v : ℕ) → letters_at v ≤ 39
 unfolding letters_at
@@ -77,12 +66,6 @@ module _ {s b : List ℕ} {pos : ℕ} where
   pairs_start l h = let z : pos ≡ pos + 2 * 0 = omega arith in record { done = subst (Prints b b pos []) z (prints-none l (record { fits = omega arith })) }
 
   module _ {b' : List ℕ} {i : ℕ} (inv : Pairs s b pos i b') where
-    pub pairs-same : length b' ≡ length b
-    pairs-same = inv.done.same
-
-    pub pairs-second : (v : ℕ) → pos + 2 * length s ≤ length b → i < length s → pos + 2 * i + 1 < length (set b' (pos + 2 * i) v)
-    pairs-second v h k = omega (arith, inv.done.same, length-set b' (pos + 2 * i) v)
-
     pub pairs-on : {v w : ℕ} → length b * 1 < 2 ^ 63 → pos + 2 * length s ≤ length b → i < length s → v ≡ hex_digit_of (get_or s i 0 / 16) → w ≡ hex_digit_of (get_or s i 0 % 16)
         → Pairs s b pos (i + 1) (set (set b' (pos + 2 * i) v) (pos + 2 * i + 1) w)
     unfolding hex_byte_of
@@ -94,6 +77,8 @@ module _ {s b : List ℕ} {pos : ℕ} where
         = prints_as (λ j. ev j ∷ ew j ∷ []) (prints-more (put_in (omega arith) (omega arith)) (put_in (omega arith) (omega arith))) in
         record { done = rw z at (prints_as (sym (hex-next s i k)) (prints-more inv.done two)) }
 
-    pub pairs_end : length s ≤ i → Prints b b' pos (content_of false s) (pos + 2 * i)
+    pub pairs_end : i ≤ length s → length s ≤ i → Prints b b' pos (content_of false s) (pos + 2 * length s)
     unfolding content_of
-    pairs_end h = prints_as (ap hex_of (take_whole s i h)) inv.done
+    pairs_end g h =
+        let z : pos + 2 * i ≡ pos + 2 * length s = omega arith in
+        rw z at (prints_as (ap hex_of (take_whole s i h)) inv.done)

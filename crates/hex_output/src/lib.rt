@@ -11,13 +11,11 @@ use text_output::put;
 // How much further a letter stands than a digit would.
 const FURTHER: u8 = 39;
 
+#[tactic(auto, unfolding(crate::specs::HexLetters::letters_at))]
 fn to_letters(v: u8) -> u8
     ensures { result ≡ letters_at v }
 {
-    if v < 10 {
-        return 0;
-    }
-    FURTHER
+    if v < 10 { 0 } else { FURTHER }
 }
 
 // A digit that is added up, not chosen: of many the compiler makes wider steps so.
@@ -52,11 +50,9 @@ pub fn hex_pairs(bytes: &[u8], out: &mut [u8], pos: usize) -> usize
     requires { pos + 2 * length bytes.now ≤ length out.old }
     ensures { Prints out.old out.new pos (content_of false bytes.now) result }
 {
-    let mut i: usize = 0;
-    while i < bytes.len() {
-        out[pos + 2 * i] = high_digit(bytes[i]);
-        out[pos + 2 * i + 1] = low_digit(bytes[i]);
-        i += 1;
+    for (i, &b) in bytes.iter().enumerate() {
+        out[pos + 2 * i] = high_digit(b);
+        out[pos + 2 * i + 1] = low_digit(b);
     }
-    pos + 2 * i
+    pos + 2 * bytes.len()
 }

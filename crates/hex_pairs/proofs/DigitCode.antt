@@ -8,7 +8,7 @@ use native.Mathlib.Omega.{arith}
 use lib.Dec.{T, leb, ltb, eqb, eqb→eq}
 use lib.ListN.{length, get_or, replicate}
 use borrow.Author.Tests.{leb-true, leb-false, ltb-true}
-use Rattle.cbor.specs.Utf8.{◌to◌, is_in}
+use Rattle.cbor.specs.Utf8.{is_in}
 use Rattle.cbor.proofs.Table.{every, byte}
 use Rattle.notation.specs.Classes.{blank, slash, hash, class_number, class_rows, class_in, class_of, is}
 use Rattle.notation.specs.Numbers.{Digit, worth, no_digit, digit_at, is_digit, digit_value}

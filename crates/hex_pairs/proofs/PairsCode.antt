@@ -3,7 +3,7 @@
 use mathlib.Core.Path.{◌≡◌, refl, sym, ap, ◌∙◌}
 use mathlib.Core.List.{List, [], ◌∷◌, ◌++◌, append_assoc, append-nil}
 use mathlib.Core.Bool.{Bool, true, false}
-use Prim.Native.Nat.{ℕ, zero, suc, ◌+◌, ◌-◌, ◌*◌, ◌/◌, ◌%◌, ◌≤◌, ◌<◌, min}
+use Prim.Native.Nat.{ℕ, zero, suc, ◌+◌, ◌-◌, ◌*◌, ◌/◌, ◌%◌, ◌≤◌, ◌<◌}
 use native.Mathlib.Numerals.{add-one}
 use native.Mathlib.Omega.{arith}
 use lib.Dec.{leb, ltb}
@@ -26,17 +26,6 @@ use Rattle.literal_body.proofs.ReadingCode.{span-over, yields_none, yields_more}
 use Rattle.hex_pairs.proofs.DigitCode.{digit-small, pair-yields}
 
 -- A BYTE
-
-module _ (low high b : ℕ) where
-  pub range_below : b < low → false ≡ is_in (low to high) b
-  unfolding is_in
-  range_below h = sym (rw (lt-leb low b h))
-
-  pub range_from : low ≤ b → leb b high ≡ is_in (low to high) b
-  unfolding is_in
-  range_from h = sym (rw (le-leb low b h))
-
-pub ruleset range_ways = (range_below, range_from)
 
 pub stop_here : {b i : ℕ} → DigitStop b i i
 stop_here = record { is = λ h. absurd (omega arith) }
@@ -68,24 +57,7 @@ pub record Firsts (s : List ℕ) (at i f : ℕ) : Type 0 where
   pub is : (j : ℕ) → j < i → j < f → is_digit 16 (get_or s (at + j) 0) ≡ true
   pub most : f ≤ 32
 
-pub firsts_start : {s : List ℕ} {at : ℕ} → Firsts s at 0 32
-firsts_start = record { is = λ j h g. absurd (omega arith); most = omega arith }
-
-module _ {s : List ℕ} {at i f : ℕ} (inv : Firsts s at i f) where
-  pub firsts_on : {r n : ℕ} → DigitStop (get_or s (at + i) 0) i r → n ≡ min f r → Firsts s at (i + 1) n
-  firsts_on {r} {n} x e =
-      record {
-        is = below_more (λ j. j < n → is_digit 16 (get_or s (at + j) 0) ≡ true) i (λ j h g. inv.is j h (omega arith)) (λ g. x.is (omega arith));
-        most = omega (arith, inv.most);
-      }
-
-  pub firsts_end : 32 ≤ i → DigitBlock s at f
-  firsts_end l = record { is = λ j h. inv.is j (omega (arith, inv.most)) h; most = inv.most }
-
 -- A RUN
-
-pub run-start : {s : List ℕ} {at : ℕ} → at ≤ length s → HexDigits s at at
-run-start h = record { is = λ j l g. absurd (omega arith); ahead = omega arith; inside = h }
 
 module _ {s : List ℕ} {from at : ℕ} (inv : HexDigits s from at) where
   run_by : {n : ℕ} (k : ℕ) → 32 ≤ length s - at → DigitBlock s at n → k ≤ n → HexDigits s from (at + k)
@@ -127,9 +99,6 @@ pub record Values (s : List ℕ) (from i : ℕ) (t : List ℕ) : Type 0 where
   pub size : length t ≡ 32
   pub small : (j : ℕ) → j < i → get_or t j 0 < 16
 
-pub values-start : {s : List ℕ} {from : ℕ} (t : List ℕ) → length t ≡ 32 → Values s from 0 t
-values-start t e = record { is = λ j h. absurd (omega arith); size = e; small = λ j h. absurd (omega arith) }
-
 module _ {s : List ℕ} {from i : ℕ} {t : List ℕ} (inv : Values s from i t) where
   pub values-on : {v : ℕ} → HexDigits s from (from + 32) → i < 32 → v ≡ digit_value (get_or s (from + i) 0) → Values s from (i + 1) (set t i v)
   values-on {v} x h e =
@@ -143,12 +112,6 @@ module _ {s : List ℕ} {from i : ℕ} {t : List ℕ} (inv : Values s from i t) 
         size = length-set t i v ∙ inv.size;
         small = below_more (λ j. get_or (set t i v) j 0 < 16) i (λ j g. rw (get_or-set_other t i j v 0 (λ z. omega arith)) (inv.small j g)) (rw same d);
       }
-
-  pub values-digit : HexDigits s from (from + 32) → i < 32 → is_digit 16 (get_or s (from + i) 0) ≡ true
-  values-digit x h = x.is (from + i) (omega arith) (omega arith)
-
-  pub values-end : 32 ≤ i → BlockValues s from t
-  values-end h = record { is = λ j g. inv.is j (omega arith); small = λ j g. inv.small j (omega arith) }
 
 -- BYTES OF PAIRS
 
@@ -209,12 +172,6 @@ unfolding pair_bytes
 block_start s from b p g h = let z : p + 0 ≡ p = omega arith in record { put = rw z (put-none b p); most = omega arith; fits = omega arith; same = refl }
 
 module _ {s : List ℕ} {from : ℕ} {t : List ℕ} (x : BlockValues s from t) {j : ℕ} (h : j < 16) where
-  pub block-high : Fits bits8 (get_or t (2 * j) 0 * 16)
-  block-high = record { fits = omega (arith, x.small (2 * j) (omega arith)) }
-
-  pub block-byte : Fits bits8 (get_or t (2 * j) 0 * 16 + get_or t (2 * j + 1) 0)
-  block-byte = record { fits = omega (arith, x.small (2 * j) (omega arith), x.small (2 * j + 1) (omega arith)) }
-
   pub block_on : {b b' : List ℕ} {p : ℕ} → BlockPut s from b p j b' → BlockPut s from b p (j + 1) (set b' (p + j) (get_or t (2 * j) 0 * 16 + get_or t (2 * j + 1) 0))
   block_on {b} {b'} {p} y =
       let v = get_or t (2 * j) 0 * 16 + get_or t (2 * j + 1) 0 in

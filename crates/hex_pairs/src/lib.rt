@@ -2,7 +2,7 @@
 // bounds, as they have no way out and their numbers are bytes.
 #![tactic(auto)]
 
-ghost use Rattle.std.specs.Prelude.{◌≡◌, true, false, ◌+◌, ◌*◌, ◌≤◌, min, length};
+ghost use Rattle.std.specs.Prelude.{◌≡◌, true, ◌+◌, ◌*◌, ◌≤◌, length};
 ghost use Rattle.cbor.specs.Utf8.{◌to◌, is_in};
 ghost use Rattle.notation.specs.Numbers.{is_digit, digit_value};
 ghost use Rattle.literal_body.specs.LiteralAnswers.{Put};
@@ -10,35 +10,25 @@ ghost use Rattle.hex_pairs.specs.PairAnswers.{DigitStop, DigitBlock, HexDigits, 
 
 use literal_body::{hex_value, put};
 
+#[tactic(auto, unfolding(cbor::specs::Utf8::is_in))]
 fn is_between(b: u8, low: u8, high: u8) -> bool
     ensures { result ≡ is_in (low to high) b }
 {
-    if b < low {
-        return false;
-    }
-    b <= high
+    low <= b && b <= high
 }
 
-fn smaller(a: u8, b: u8) -> u8
-    ensures { result ≡ min a b }
-{
-    if a < b {
-        return a;
-    }
-    b
-}
-
-// The place of a byte if it is no digit, else 32.
+// The place of a byte if it is no digit, else 32. Tests in a row, of two bounds each: of a match on ranges the compiler makes more steps,
+// and the loop over a block then takes nearly twice as long.
 fn stop_at(b: u8, i: u8) -> u8
     ensures { DigitStop b i result }
 {
-    if is_between(b, 0x30, 0x39) {
+    if is_between(b, b'0', b'9') {
         return 32;
     }
-    if is_between(b, 0x41, 0x46) {
+    if is_between(b, b'A', b'F') {
         return 32;
     }
-    if is_between(b, 0x61, 0x66) {
+    if is_between(b, b'a', b'f') {
         return 32;
     }
     i
@@ -50,10 +40,8 @@ fn digit_block(text: &[u8], at: usize) -> u8
     ensures { DigitBlock text.now at result }
 {
     let mut first: u8 = 32;
-    let mut i: u8 = 0;
-    while i < 32 {
-        first = smaller(first, stop_at(text[at + i as usize], i));
-        i += 1;
+    for i in 0..32u8 {
+        first = first.min(stop_at(text[at + i as usize], i));
     }
     first
 }
@@ -62,6 +50,7 @@ fn digit_blocks(text: &[u8], from: usize) -> usize
     requires { from ≤ length text.now }
     ensures { HexDigits text.now from result }
 {
+    // A cursor: where it stops is the answer, so no range counts it.
     let mut at = from;
     while 32 <= text.len() - at {
         let n = digit_block(text, at);
@@ -78,14 +67,12 @@ pub fn hex_run(text: &[u8], from: usize) -> usize
     requires { from ≤ length text.now }
     ensures { HexDigits text.now from result }
 {
-    let mut at = digit_blocks(text, from);
-    while at < text.len() {
+    for at in digit_blocks(text, from)..text.len() {
         if 16 <= hex_value(text[at]) {
             return at;
         }
-        at += 1;
     }
-    at
+    text.len()
 }
 
 // The value of a byte that is a digit.
@@ -101,10 +88,8 @@ fn values(text: &[u8], from: usize) -> [u8; 32]
     ensures { BlockValues text.now from result }
 {
     let mut t = [0u8; 32];
-    let mut i: usize = 0;
-    while i < 32 {
+    for i in 0..32 {
         t[i] = digit(text[from + i]);
-        i += 1;
     }
     t
 }
@@ -114,17 +99,12 @@ fn put_block(text: &[u8], from: usize, out: &mut [u8], p: usize) -> usize
     requires { HexDigits text.now from (from + 32) }
     ensures { Put out.old out.new p result (pair_bytes text.now from 16) }
 {
-    if out.len() < p {
-        return p;
-    }
-    if out.len() - p < 16 {
+    if out.len() < p || out.len() - p < 16 {
         return p;
     }
     let t = values(text, from);
-    let mut j: usize = 0;
-    while j < 16 {
+    for j in 0..16 {
         out[p + j] = t[2 * j] * 16 + t[2 * j + 1];
-        j += 1;
     }
     p + 16
 }
@@ -134,10 +114,8 @@ fn put_blocks(text: &[u8], from: usize, k: usize, out: &mut [u8], pos: usize) ->
     ensures { Put out.old out.new pos result (pair_bytes text.now from (16 * k)) }
 {
     let mut p = pos;
-    let mut i: usize = 0;
-    while i < k {
+    for i in 0..k {
         p = put_block(text, from + 32 * i, out, p);
-        i += 1;
     }
     p
 }
@@ -154,10 +132,8 @@ fn put_singly(text: &[u8], from: usize, n: usize, out: &mut [u8], pos: usize) ->
     ensures { Put out.old out.new pos result (pair_bytes text.now from n) }
 {
     let mut p = pos;
-    let mut i: usize = 0;
-    while i < n {
+    for i in 0..n {
         p = put_pair(text, from + 2 * i, out, p);
-        i += 1;
     }
     p
 }

@@ -6,28 +6,9 @@ use mathlib.Core.Bool.{Bool, true, false}
 use Prim.Native.Nat.{ℕ, zero, suc, ◌+◌, ◌*◌, ◌≤◌, ◌<◌}
 use native.Mathlib.Numerals.{add-one}
 use native.Mathlib.Omega.{arith}
-use lib.Dec.{T, leb, eqb, leb→le}
 use lib.ListN.{get_or}
-use mir.Syntax.{w32 as bits32}
-use mir.Val.{Fits}
 use Rattle.notation.specs.Numbers.{is_digit, digit_value}
 use Rattle.hex_weight.specs.Weights.{pair_weight, Weighs, PairThere}
-use Rattle.literal_body.proofs.MatchCode.{arm}
-
-unfoldable pub weighs : ℕ → ℕ → Bool
-weighs k x = eqb x (pair_weight k)
-
-pub weight_key : {b r k : ℕ} → b ≡ k → T (weighs k r) → T (leb r 15) → Weighs b r
-unfolding weighs
-weight_key {r = r} e t l = let m = leb→le r 15 l in record { is = λ h. arm pair_weight e t; most = omega arith }
-
-pub weight_none : {b : ℕ} → Weighs b 512
-weight_none = record { is = λ h. absurd (omega arith); most = omega arith }
-
-pub weight_rest : {b : ℕ} → Weighs b 256
-weight_rest = record { is = λ h. absurd (omega arith); most = omega arith }
-
-pub ruleset weight_ways = (weight_key, weight_none, weight_rest)
 
 pub weight_digit : (b : ℕ) → pair_weight b < 256 → (is_digit 16 b ≡ true) × (pair_weight b ≡ digit_value b)
 unfolding pair_weight
@@ -52,16 +33,7 @@ weighed_start s at = record { is = λ h. refl; most = omega arith; small = λ h.
 
 module _ {s : List ℕ} {at k w : ℕ} (inv : Weighed s at k w) where
   module _ (h : k < 2) where
-    weighed_most : w ≤ 512
-    weighed_most = omega (arith, inv.small h)
-
-    pub weighed_high : Fits bits32 (w * 16)
-    weighed_high = record { fits = omega (arith, weighed_most) }
-
     module _ {v : ℕ} (x : Weighs (get_or s (at + k) 0) v) where
-      pub weighed_sum : Fits bits32 (w * 16 + v)
-      weighed_sum = record { fits = omega (arith, weighed_most, x.most) }
-
       next_is : w * 16 + v < 256 → w * 16 + v ≡ weighed s at (suc k)
       unfolding weighed
       next_is l = let a = inv.is (omega arith) in let b = x.is (omega arith) in λ i. a i * 16 + b i

@@ -11,6 +11,7 @@ pub const NO_PAIR: u32 = 256;
 const NO_DIGIT: u32 = 512;
 
 // What a byte adds to a pair. It is called in one place, so that it is inlined there and becomes a table.
+#[tactic(auto, unfolding(crate::specs::Weights::pair_weight, notation::specs::Numbers::is_digit, notation::specs::Numbers::digit_value, cbor::specs::Utf8::is_in))]
 fn weight(b: u8) -> u32
     ensures { Weighs b result }
 {
@@ -130,10 +131,8 @@ pub fn pair(text: &[u8], at: usize) -> u32
     ensures { PairThere text.now at result }
 {
     let mut w: u32 = 0;
-    let mut k: usize = 0;
-    while k < 2 {
+    for k in 0..2 {
         w = w * 16 + weight(text[at + k]);
-        k += 1;
     }
     w
 }

@@ -70,14 +70,6 @@ some-head major n = head-some (major * 32 + information (shortest n) n) n
 
 -- STEPS
 
-pub above-yes : {n most : ℕ} → most < n → Above n most 1
-above-yes h = record { no = λ l. absurd (omega arith); yes = λ l. refl; small = omega arith }
-
-pub above-no : {n most : ℕ} → n ≤ most → Above n most 0
-above-no h = record { no = λ l. refl; yes = λ l. absurd (omega arith); small = omega arith }
-
-pub ruleset above_ways = (above-yes, above-no)
-
 pub step_is : (n : ℕ) {a b c d : ℕ} → Above n 23 a → Above n 0xff b → Above n 0xffff c → Above n 0xffff_ffff d → a + b + c + d ≡ steps (shortest n)
 unfolding steps shortest fits limit
 step_is n {a} {b} {c} {d} p q r t =

@@ -13,10 +13,7 @@ use encoding::heads::head_size;
 fn above(n: u64, limit: u64) -> usize
     ensures { Above n limit result }
 {
-    if limit < n {
-        return 1;
-    }
-    0
+    usize::from(limit < n)
 }
 
 // The width of an argument, by its place among the five.
@@ -30,10 +27,7 @@ fn info_of(step: usize, n: u64) -> u8
     requires { step ≡ steps (shortest n) }
     ensures { result ≡ information (shortest n) n }
 {
-    if step == 0 {
-        return n as u8;
-    }
-    23 + step as u8
+    if step == 0 { n as u8 } else { 23 + step as u8 }
 }
 
 // How many bytes hold the argument.
@@ -66,18 +60,13 @@ fn scale_of(step: usize) -> u64
 fn put_eight(buf: &mut [u8], from: usize, n: u64)
     ensures { buf.new ≡ over_if_fits buf.old from (big_endian 8 n) }
 {
-    if buf.len() < 8 {
-        return;
-    }
-    if buf.len() - 8 < from {
+    if buf.len() < 8 || buf.len() - 8 < from {
         return;
     }
     let mut m = n;
-    let mut k: usize = 8;
-    while 0 < k {
-        k -= 1;
+    for k in (0..8).rev() {
         buf[from + k] = (m % 256) as u8;
-        m = m / 256;
+        m /= 256;
     }
 }
 
@@ -96,10 +85,7 @@ pub fn put_head(buf: &mut [u8], pos: usize, major: u8, n: u64) -> usize
     requires { major ≤ 7 }
     ensures { HeadMade buf.old buf.new pos major n result }
 {
-    if buf.len() < 9 {
-        return put_exactly(buf, pos, major, n);
-    }
-    if buf.len() - 9 < pos {
+    if buf.len() < 9 || buf.len() - 9 < pos {
         return put_exactly(buf, pos, major, n);
     }
     let step = step(n);

@@ -5,10 +5,13 @@ use mathlib.Core.Bool.{Bool, true, false}
 use mathlib.Core.List.{List, [], ◌∷◌, ◌++◌, append-nil}
 use Prim.Native.Nat.{ℕ, zero, suc, ◌+◌, ◌*◌, ◌/◌, ◌%◌, ◌^◌, ◌≤◌, ◌<◌}
 use native.Mathlib.Nat.{pow-suc, add-zero}
+use native.Mathlib.Numerals.{add-one}
 use native.Mathlib.Omega.{arith}
 use lib.Dec.{eqb}
 use lib.ListN.{length, take, drop, set, get_or, length-drop}
 use lib.Seq.{take-suc, get_or-drop}
+use mir.Syntax.{w64 as bits64}
+use mir.Val.{Fits}
 use borrow.Author.Tests.{eqb-true, eqb-false}
 use Rattle.cbor.specs.Refusals.{ok}
 use Rattle.cbor.specs.Widths.{Width, w0, w1, w2, w4, argument_bytes, shortest, value_from}
@@ -24,12 +27,12 @@ use Rattle.leaf_kind.specs.declared.Kind.TheVariants.{Small, One, Two, Four}
 use Rattle.leaf_kind.proofs.KindCode.{small_is, one-is, two_is, four_is}
 use Rattle.leaf_written.specs.Laying.{Laid}
 use Rattle.leaf_written.specs.LeafTexts.{Room, LeafTold}
-use Rattle.leaf_written.specs.declared.Written.{Written}
+use Rattle.std.specs.declared.option.Option.TheVariants.{Some}
 use Rattle.leaf_written.proofs.LayCode.{laid-set, laid_more, laid_as, laid-drop}
 use Rattle.leaf_written.proofs.LeafCode.{low-information, indicator-none, shortest_0, shortest_1, shortest_2, shortest_4, argument_in, item_plain, told-leaf}
 use Rattle.leaf_integer.specs.Digits.{tail_of}
 use Rattle.leaf_integer.proofs.DigitCode.{decimal_tail}
-use Rattle.leaf_integer.specs.IntegerParts.{minus_of, More, Valued}
+use Rattle.leaf_integer.specs.IntegerParts.{minus_of, More, Valued, Signed}
 
 -- THE SIGN
 
@@ -44,25 +47,36 @@ module _ (b : List ℕ) (pos major : ℕ) (h : pos < length b) (l : major ≤ 1)
 
 -- NUMBERS IN BYTES
 
-value_none : {s : List ℕ} {from : ℕ} → Valued s from 0 0
+pub value-none : {s : List ℕ} {from : ℕ} → Valued s from 0 0
 unfolding value_from
-value_none = record { is = refl; small = omega arith }
+value-none = record { is = refl; small = omega arith }
 
-pub value-more : (k : ℕ) {s : List ℕ} {from n r : ℕ} → from + suc k ≤ length s → Valued s from k n → More n (get_or s (from + k) 0) r → Valued s from (suc k) r
-value-more k {s} {from} {n} {r} h v m =
+pub value-more : {s : List ℕ} {from k n r : ℕ} → from + k < length s → Valued s from k n → More n (get_or s (from + k) 0) r → Valued s from (k + 1) r
+value-more {s} {from} {k} {n} {r} h v m =
     let t = drop from s in
     let b = get_or s (from + k) 0 in
     let l : k < length t = omega (arith, length-drop from s) in
-    let e : take (suc k) t ≡ take k t ++ b ∷ [] = take-suc t k 0 l ∙ ap (λ (x : ℕ). take k t ++ x ∷ []) (get_or-drop from s k 0) in
+    let e : take (k + 1) t ≡ take k t ++ b ∷ [] = rw add-one (take-suc t k 0 l ∙ ap (λ (x : ℕ). take k t ++ x ∷ []) (get_or-drop from s k 0)) in
+    let p : 256 ^ (k + 1) ≡ 256 ^ k * 256 = rw add-one (pow-suc 256 k) in
     record {
       is = m.is ∙ ap (λ (x : ℕ). x * 256 + b) v.is ∙ sym (value_snoc 0 (take k t) b) ∙ ap (value_from 0) (sym e);
-      small = let p = pow-suc 256 k in omega (arith, m.is, m.byte, v.small);
+      small = omega (arith, m.is, m.byte, v.small);
     }
 
-pub value-one : {s : List ℕ} {from r : ℕ} → from + 1 ≤ length s → More 0 (get_or s from 0) r → Valued s from 1 r
-value-one {s} {from} {r} h m =
-    let z : from ≡ from + 0 = omega arith in
-    value-more 0 (omega arith) value_none (rw (← z) m)
+-- of few bytes
+value-few : {s : List ℕ} {from k n : ℕ} → Valued s from k n → k ≤ 4 → n < 0x1_0000_0000
+value-few {k = zero} v h = omega (arith, v.small)
+value-few {k = suc zero} v h = omega (arith, v.small)
+value-few {k = suc (suc zero)} v h = omega (arith, v.small)
+value-few {k = suc (suc (suc zero))} v h = omega (arith, v.small)
+value-few {k = suc (suc (suc (suc zero)))} v h = omega (arith, v.small)
+value-few {k = suc (suc (suc (suc (suc k))))} v h = absurd (omega arith)
+
+pub value-few-more : {s : List ℕ} {from k m n : ℕ} → Valued s from k n → k < m → m ≤ 4 → n < 256 ^ 7
+value-few-more v h l = omega (arith, value-few v (omega arith))
+
+pub sum-fits : {s : List ℕ} {from k n m : ℕ} → Valued s from k n → k ≤ 4 → m ≤ 1 → Fits bits64 (n + m)
+sum-fits v h l = record { fits = omega (arith, value-few v h) }
 
 -- ITEMS
 
@@ -82,7 +96,7 @@ int-text (suc (suc m)) h w n e = absurd (omega arith)
 
 module _ {s : List ℕ} {at : ℕ} {b b₁ b₂ : List ℕ} {pos p q : ℕ} where
   int-told : (w : Width) (k n e : ℕ) → get_or s at 0 / 64 ≡ 0 → information_of (get_or s at 0 % 32) ≡ argument w → n ≡ argument_in w (get_or s at 0) (drop (at + 1) s) → shortest n ≡ w → e ≡ at + 1 + argument_bytes w → e ≤ length s
-      → k ≤ 9 → (n + get_or s at 0 / 32) / 10 ^ suc k ≡ 0 → Laid b b₁ pos (minus_of (get_or s at 0 / 32)) p → Laid b₁ b₂ p (tail_of k (n + get_or s at 0 / 32)) q → LeafTold s at b b₂ pos (record { end = e; pos = q })
+      → k ≤ 9 → (n + get_or s at 0 / 32) / 10 ^ suc k ≡ 0 → Laid b b₁ pos (minus_of (get_or s at 0 / 32)) p → Laid b₁ b₂ p (tail_of k (n + get_or s at 0 / 32)) q → LeafTold s at b b₂ pos (Some (record { end = e; pos = q }))
   unfolding item_by is_float is_allowed print_item
   int-told w k n e h i a sh ee l kk dd x y =
       let m = get_or s at 0 / 32 in
@@ -108,36 +122,37 @@ module _ {b : ℕ} where
   pub four-most : KindOf b Four → b / 32 ≤ 1
   four-most k = let f = (four_is k).0 in omega arith
 
+pub ruleset major_most = (small-most, one-most, two_most, four-most)
+
 module _ {s : List ℕ} {at : ℕ} {b b₁ b₂ : List ℕ} {pos p q : ℕ} (rm : Room s at b pos) where
-  pub small-told : KindOf (get_or s at 0) Small → Laid b b₁ pos (minus_of (get_or s at 0 / 32)) p → Laid b₁ b₂ p (tail_of 1 (get_or s at 0 % 32 + get_or s at 0 / 32)) q → {r : Written} → r ≡ record { end = at + 1; pos = q }
-      → LeafTold s at b b₂ pos r
+  pub small-told : KindOf (get_or s at 0) Small → Laid b b₁ pos (minus_of (get_or s at 0 / 32)) p → Laid b₁ b₂ p (tail_of 1 (get_or s at 0 % 32 + get_or s at 0 / 32)) q → LeafTold s at b b₂ pos (Some (record { end = at + 1; pos = q }))
   unfolding argument_bytes started value_from
-  small-told k x y e =
+  small-told k x y =
       let f = small_is k in
       let n = get_or s at 0 % 32 in
-      rw e (int-told w0 1 n (at + 1) f.0 (low-information n f.1) refl (shortest_0 n f.1) (omega arith) (omega (arith, rm.block)) (omega arith) (omega arith) x y)
+      int-told w0 1 n (at + 1) f.0 (low-information n f.1) refl (shortest_0 n f.1) (omega arith) (omega (arith, rm.block)) (omega arith) (omega arith) x y
 
   module _ {n : ℕ} where
-    pub one_told : KindOf (get_or s at 0) One → Valued s (at + 1) 1 n → 24 ≤ n → Laid b b₁ pos (minus_of (get_or s at 0 / 32)) p → Laid b₁ b₂ p (tail_of 2 (n + get_or s at 0 / 32)) q → {r : Written}
-        → r ≡ record { end = at + 2; pos = q } → LeafTold s at b b₂ pos r
+    pub one_told : KindOf (get_or s at 0) One → Signed s at 1 24 b b₁ pos n p → Laid b₁ b₂ p (tail_of 2 n) q → LeafTold s at b b₂ pos (Some (record { end = at + 2; pos = q }))
     unfolding argument_bytes started information_of
-    one_told k v h x y e =
+    one_told k x y =
         let f = one-is k in
-        let l = v.small in
-        rw e (int-told w1 2 n (at + 2) f.0 (ap information_of f.1) v.is (shortest_1 n h (omega arith)) (omega arith) (omega (arith, rm.block)) (omega arith) (omega arith) x y)
+        let v = x.valued in
+        int-told w1 2 x.argument (at + 2) f.0 (ap information_of f.1) v.is (shortest_1 x.argument x.enough (omega (arith, v.small))) (omega arith) (omega (arith, rm.block)) (omega arith) (omega (arith, v.small)) x.laid
+        (rw x.is at y)
 
-    pub two_told : KindOf (get_or s at 0) Two → Valued s (at + 1) 2 n → 0x100 ≤ n → Laid b b₁ pos (minus_of (get_or s at 0 / 32)) p → Laid b₁ b₂ p (tail_of 4 (n + get_or s at 0 / 32)) q → {r : Written}
-        → r ≡ record { end = at + 3; pos = q } → LeafTold s at b b₂ pos r
+    pub two_told : KindOf (get_or s at 0) Two → Signed s at 2 0x100 b b₁ pos n p → Laid b₁ b₂ p (tail_of 4 n) q → LeafTold s at b b₂ pos (Some (record { end = at + 3; pos = q }))
     unfolding argument_bytes started information_of
-    two_told k v h x y e =
+    two_told k x y =
         let f = two_is k in
-        let l = v.small in
-        rw e (int-told w2 4 n (at + 3) f.0 (ap information_of f.1) v.is (shortest_2 n h (omega arith)) (omega arith) (omega (arith, rm.block)) (omega arith) (omega arith) x y)
+        let v = x.valued in
+        int-told w2 4 x.argument (at + 3) f.0 (ap information_of f.1) v.is (shortest_2 x.argument x.enough (omega (arith, v.small))) (omega arith) (omega (arith, rm.block)) (omega arith) (omega (arith, v.small)) x.laid
+        (rw x.is at y)
 
-    pub four-told : KindOf (get_or s at 0) Four → Valued s (at + 1) 4 n → 0x1_0000 ≤ n → Laid b b₁ pos (minus_of (get_or s at 0 / 32)) p → Laid b₁ b₂ p (tail_of 9 (n + get_or s at 0 / 32)) q → {r : Written}
-        → r ≡ record { end = at + 5; pos = q } → LeafTold s at b b₂ pos r
+    pub four-told : KindOf (get_or s at 0) Four → Signed s at 4 0x1_0000 b b₁ pos n p → Laid b₁ b₂ p (tail_of 9 n) q → LeafTold s at b b₂ pos (Some (record { end = at + 5; pos = q }))
     unfolding argument_bytes started information_of
-    four-told k v h x y e =
+    four-told k x y =
         let f = four_is k in
-        let l = v.small in
-        rw e (int-told w4 9 n (at + 5) f.0 (ap information_of f.1) v.is (shortest_4 n h (omega arith)) (omega arith) (omega (arith, rm.block)) (omega arith) (omega arith) x y)
+        let v = x.valued in
+        int-told w4 9 x.argument (at + 5) f.0 (ap information_of f.1) v.is (shortest_4 x.argument x.enough (omega (arith, v.small))) (omega arith) (omega (arith, rm.block)) (omega arith) (omega (arith, v.small)) x.laid
+        (rw x.is at y)

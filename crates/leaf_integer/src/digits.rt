@@ -1,4 +1,5 @@
-// Decimal digits with no branch: each place of a number is written, and moved behind only where a digit stands before it or in it.
+// Decimal digits with no branch: each place of a number is written, and moved behind only where a digit stands before it or in it. A function for each count of
+// places, and no loop over a table of powers: of a literal the compiler makes a product, and no division.
 ghost use Rattle.std.specs.Prelude.{◌+◌, ◌≤◌, ◌<◌, length};
 ghost use Rattle.leaf_written.specs.Laying.{Laid};
 ghost use Rattle.leaf_integer.specs.Digits.{digit_of, tail_of};

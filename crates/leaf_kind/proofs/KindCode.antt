@@ -2,22 +2,12 @@
 -- Assumes nothing.
 use mathlib.Core.Path.{◌≡◌, refl}
 use mathlib.Core.Bool.{Bool, true, false, ◌&&◌, false≢true}
-use mathlib.Core.List.{List}
 use Prim.Native.Nat.{ℕ, ◌/◌, ◌%◌, ◌<◌}
-use lib.Dec.{T, ltb, eqb}
-use types.Run.{OneOf}
+use lib.Dec.{ltb, eqb}
 use borrow.Author.Tests.{eqb-true, ltb-true}
-use Rattle.cbor.proofs.Table.{all, each, yes}
 use Rattle.leaf_kind.specs.LeafKinds.{begins, KindOf}
 use Rattle.leaf_kind.specs.declared.Kind.{Kind}
-use Rattle.leaf_kind.specs.declared.Kind.TheVariants.{Small, One, Two, Four, Bytes, Text, False, True, Null, Other}
-
-pub kind_keys : (ks : List ℕ) (k : Kind) {b : ℕ} → OneOf ks b → T (all (λ j. begins j k) ks) → b < 256 → KindOf b k
-kind_keys ks k {b} o t h = record { is = yes (begins b k) (each (λ j. begins j k) ks b o t); byte = h }
-
-pub kind-other : {b : ℕ} → b < 256 → KindOf b Other
-unfolding begins
-kind-other h = record { is = refl; byte = h }
+use Rattle.leaf_kind.specs.declared.Kind.TheVariants.{Small, One, Two, Four, Bytes, Text, False, True, Null}
 
 -- WHAT A KIND SAYS
 

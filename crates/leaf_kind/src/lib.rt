@@ -19,6 +19,7 @@ pub enum Kind {
 }
 
 // Two rows for a kind of many bytes, every other one in each: of such the compiler makes one jump, and of a range a chain of tests.
+#[tactic(auto, unfolding(crate::specs::LeafKinds::begins))]
 pub fn kind_of(initial: u8) -> Kind
     ensures { KindOf initial result }
 {
@@ -31,12 +32,9 @@ pub fn kind_of(initial: u8) -> Kind
             Kind::Small,
         0x21 | 0x23 | 0x25 | 0x27 | 0x29 | 0x2b | 0x2d | 0x2f | 0x31 | 0x33 | 0x35 | 0x37 =>
             Kind::Small,
-        0x18 => Kind::One,
-        0x38 => Kind::One,
-        0x19 => Kind::Two,
-        0x39 => Kind::Two,
-        0x1a => Kind::Four,
-        0x3a => Kind::Four,
+        0x18 | 0x38 => Kind::One,
+        0x19 | 0x39 => Kind::Two,
+        0x1a | 0x3a => Kind::Four,
         0x40 | 0x42 | 0x44 | 0x46 | 0x48 | 0x4a | 0x4c | 0x4e | 0x50 | 0x52 | 0x54 | 0x56 =>
             Kind::Bytes,
         0x41 | 0x43 | 0x45 | 0x47 | 0x49 | 0x4b | 0x4d | 0x4f | 0x51 | 0x53 | 0x55 | 0x57 =>

@@ -3,7 +3,7 @@
 use mathlib.Core.Path.{◌≡◌, refl, sym, ap, ◌∙◌}
 use mathlib.Core.Bool.{Bool, true, false}
 use mathlib.Core.List.{List, [], ◌∷◌, ◌++◌}
-use Prim.Native.Nat.{ℕ, suc, ◌+◌, ◌-◌, ◌*◌, ◌^◌, ◌≤◌, ◌<◌}
+use Prim.Native.Nat.{ℕ, suc, ◌*◌, ◌^◌, ◌≤◌, ◌<◌}
 use native.Mathlib.Omega.{arith}
 use lib.Dec.{leb, eqb}
 use lib.ListN.{length}
@@ -14,7 +14,7 @@ use Rattle.cbor.specs.Ascii.{ascii}
 use Rattle.cbor.specs.Widths.{Width, w0, w1, w2, w4, w8, argument_bytes, limit, fits, shortest, information}
 use Rattle.cbor.specs.Items.{Size, definite}
 use Rattle.head.specs.HeadAnswers.{argument_size}
-use Rattle.notation.specs.Printing.{decimal_of, width_name, indicator_of, blank_behind, size_of, print_simple, print_int, print_string, print_chunked}
+use Rattle.notation.specs.Printing.{decimal_of, width_name, indicator_of, blank_behind, size_of, print_int, print_string}
 use Rattle.cbor.specs.Flags.{kind_of, sign_of}
 use Rattle.text_output.specs.PrintParts.{Prints, content_of, width_by, size_by, quote_of, open_quote, other_simple}
 use Rattle.text_output.proofs.PrintLeaves.{prints-more, prints_as, prints-none}
@@ -70,31 +70,6 @@ shortest_test i n {x} {y} {z} e f g =
     let a : x ≡ argument_bytes (width_by i) = e ∙ size-by i in
     let b : z ≡ argument_bytes (shortest n) = g ∙ size-by y ∙ ap (λ (k : ℕ). argument_bytes (width_by k)) f ∙ ap argument_bytes (shortest-back n) in
     λ j. eqb (a j) (b j)
-
-module _ (i : ℕ) where
-  pub name_one : i ≡ 24 → 0x30 ≡ width_name (width_by i)
-  unfolding width_name width_by
-  name_one e = rw e
-
-  pub name_two : i ≡ 25 → 0x31 ≡ width_name (width_by i)
-  unfolding width_name width_by
-  name_two e = rw e
-
-  pub name_four : i ≡ 26 → 0x32 ≡ width_name (width_by i)
-  unfolding width_name width_by
-  name_four e = rw e
-
-  pub name_eight : i ≡ 27 → 0x33 ≡ width_name (width_by i)
-  unfolding width_name width_by
-  name_eight e = rw e
-
-  pub name_none : (i ≡ 24 → ⊥) → (i ≡ 25 → ⊥) → (i ≡ 26 → ⊥) → (i ≡ 27 → ⊥) → 0x69 ≡ width_name (width_by i)
-  unfolding width_name width_by
-  name_none a b c d =
-      let e : width_by i ≡ w0 = simp (width_by, ne_eqb i 24 a, ne_eqb i 25 b, ne_eqb i 26 c, ne_eqb i 27 d) in
-      sym (ap width_name e)
-
-pub ruleset name_ways = (name_one, name_two, name_four, name_eight, name_none)
 
 -- INDICATORS
 
@@ -155,62 +130,7 @@ pub simple-other : (n : ℕ) {b b₁ b₂ b₃ : List ℕ} {pos p q r : ℕ} →
 unfolding other_simple
 simple-other n x y z = prints-more x (prints-more y z)
 
-module _ (n : ℕ) {b b₁ : List ℕ} {pos p : ℕ} where
-  pub simple_false : n ≡ 20 → Prints b b₁ pos (ascii "false") p → Prints b b₁ pos (print_simple n) p
-  unfolding print_simple
-  simple_false e f = rw e f
-
-  pub simple_true : n ≡ 21 → Prints b b₁ pos (ascii "true") p → Prints b b₁ pos (print_simple n) p
-  unfolding print_simple
-  simple_true e f = rw e f
-
-  pub simple_null : n ≡ 22 → Prints b b₁ pos (ascii "null") p → Prints b b₁ pos (print_simple n) p
-  unfolding print_simple
-  simple_null e f = rw e f
-
-  pub simple_undefined : n ≡ 23 → Prints b b₁ pos (ascii "undefined") p → Prints b b₁ pos (print_simple n) p
-  unfolding print_simple
-  simple_undefined e f = rw e f
-
-  pub simple-number : (n ≡ 20 → ⊥) → (n ≡ 21 → ⊥) → (n ≡ 22 → ⊥) → (n ≡ 23 → ⊥) → Prints b b₁ pos (other_simple n) p → Prints b b₁ pos (print_simple n) p
-  unfolding print_simple other_simple
-  simple-number x y z u f = prints_as (sym (simp (print_simple, ne_eqb n 20 x, ne_eqb n 21 y, ne_eqb n 22 z, ne_eqb n 23 u))) f
-
-pub ruleset simple_ways = (simple_false, simple_true, simple_null, simple_undefined, simple-number)
-
 -- STRINGS
-
-module _ (t : Bool) where
-  pub quote-text : t ≡ true → 0x22 ≡ quote_of t
-  unfolding quote_of
-  quote-text e = rw e
-
-  pub quote-bytes : t ≡ false → 0x27 ≡ quote_of t
-  unfolding quote_of
-  quote-bytes e = rw e
-
-  module _ {b b₁ : List ℕ} {pos p : ℕ} where
-    pub open_text : t ≡ true → Prints b b₁ pos (0x22 ∷ []) p → Prints b b₁ pos (open_quote t) p
-    unfolding open_quote
-    open_text e f = rw e f
-
-    pub open_bytes : t ≡ false → Prints b b₁ pos (ascii "h'") p → Prints b b₁ pos (open_quote t) p
-    unfolding open_quote
-    open_bytes e f = rw e f
-
-    pub empty-text : t ≡ true → Prints b b₁ pos (ascii "\"\"_") p → Prints b b₁ pos (print_chunked (kind_of t) []) p
-    unfolding print_chunked kind_of
-    empty-text e f = rw e f
-
-    pub empty-bytes : t ≡ false → Prints b b₁ pos (ascii "''_") p → Prints b b₁ pos (print_chunked (kind_of t) []) p
-    unfolding print_chunked kind_of
-    empty-bytes e f = rw e f
-
-pub ruleset quote_ways = (quote-text, quote-bytes)
-
-pub ruleset open_ways = (open_text, open_bytes)
-
-pub ruleset empty_ways = (empty-text, empty-bytes)
 
 pub string-is : (t : Bool) (w : Width) (s : List ℕ) → open_quote t ++ (content_of t s ++ (quote_of t ∷ indicator_of w (length s))) ≡ print_string (kind_of t) w s
 unfolding open_quote content_of quote_of kind_of print_string

@@ -16,6 +16,7 @@ fn is_shortest(info: u8, n: u64) -> bool
     head::argument_size(info) == head::argument_size(head::shortest_info(n))
 }
 
+#[tactic(auto, unfolding(text_output::specs::PrintParts::width_by, notation::specs::Printing::width_name))]
 fn width_name(info: u8) -> u8
     ensures { result ≡ width_name (width_by info) }
 {
@@ -59,10 +60,11 @@ pub fn integer(negative: bool, info: u8, n: u64, out: &mut [u8], pos: usize) -> 
     if negative {
         let p = text_output::put(out, pos, b'-');
         let q = decimal_output::successor(n, out, p);
-        return indicator(info, n, out, q);
+        indicator(info, n, out, q)
+    } else {
+        let p = decimal_output::decimal(n, out, pos);
+        indicator(info, n, out, p)
     }
-    let p = decimal_output::decimal(n, out, pos);
-    indicator(info, n, out, p)
 }
 
 fn other_simple(n: u64, out: &mut [u8], pos: usize) -> usize
@@ -73,6 +75,7 @@ fn other_simple(n: u64, out: &mut [u8], pos: usize) -> usize
     text_output::put(out, q, b')')
 }
 
+#[tactic(auto, unfolding(notation::specs::Printing::print_simple, text_output::specs::PrintParts::other_simple))]
 pub fn simple(n: u64, out: &mut [u8], pos: usize) -> usize
     ensures { Prints out.old out.new pos (print_simple n) result }
 {
@@ -85,19 +88,22 @@ pub fn simple(n: u64, out: &mut [u8], pos: usize) -> usize
     }
 }
 
+#[tactic(auto, unfolding(text_output::specs::PrintParts::quote_of))]
 fn quote(text: bool) -> u8
     ensures { result ≡ quote_of text }
 {
     if text { b'"' } else { b'\'' }
 }
 
+#[tactic(auto, unfolding(text_output::specs::PrintParts::open_quote))]
 fn open_quote(text: bool, out: &mut [u8], pos: usize) -> usize
     ensures { Prints out.old out.new pos (open_quote text) result }
 {
     if text {
-        return text_output::put(out, pos, b'"');
+        text_output::put(out, pos, b'"')
+    } else {
+        text_output::put_all(b"h'", out, pos)
     }
-    text_output::put_all(b"h'", out, pos)
 }
 
 // A string with this content.
@@ -111,11 +117,13 @@ pub fn string(bytes: &[u8], info: u8, text: bool, out: &mut [u8], pos: usize) ->
 }
 
 // A chunked string without a chunk.
+#[tactic(auto, unfolding(notation::specs::Printing::print_chunked, cbor::specs::Flags::kind_of))]
 pub fn no_chunks(text: bool, out: &mut [u8], pos: usize) -> usize
     ensures { Prints out.old out.new pos (print_chunked (kind_of text) []) result }
 {
     if text {
-        return text_output::put_all(b"\"\"_", out, pos);
+        text_output::put_all(b"\"\"_", out, pos)
+    } else {
+        text_output::put_all(b"''_", out, pos)
     }
-    text_output::put_all(b"''_", out, pos)
 }

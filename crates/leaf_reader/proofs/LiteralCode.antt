@@ -2,20 +2,21 @@
 -- Assumes nothing.
 use mathlib.Core.Path.{◌≡◌, refl, sym, ap, ◌∙◌}
 use mathlib.Core.List.{List, [], ◌∷◌, ◌++◌}
-use mathlib.Core.Bool.{Bool, true, false, not}
+use mathlib.Core.Bool.{Bool, true, false}
 use Prim.Native.Nat.{ℕ, ◌+◌, ◌-◌, ◌*◌, ◌≤◌, ◌<◌, min}
 use native.Mathlib.Omega.{arith}
 use lib.Dec.{eqb}
 use lib.ListN.{length, take, drop, get_or, length-append, length-drop}
 use lib.Seq.{length-take-le}
-use borrow.Author.Tests.{not-false}
-use Rattle.cbor.specs.Refusals.{Result, ok, bind}
+use Rattle.std.specs.Prelude.{Option, None, Some, ◌⊎◌}
+use Rattle.std.proofs.Common.{inl, inr}
+use Rattle.std.proofs.lemmas.Option.{none-some, same_Some}
+use Rattle.cbor.specs.Refusals.{ok, bind}
 use Rattle.cbor.specs.Widths.{Width, w8, limit}
 use Rattle.cbor.specs.Items.{Kind, byte_string, definite, string}
 use Rattle.cbor.specs.Heads.{Major, strings, major_number, initial, head}
 use Rattle.cbor.specs.Encode.{encode_string, encode}
 use Rattle.cbor.specs.Utf8.{is_in}
-use Rattle.cbor.proofs.Tests.{clash}
 use Rattle.memory.specs.Buffer.{over_if_fits, head_put}
 use Rattle.memory.proofs.Buffer.{length-written, take-written, length-closed, take-closed}
 use Rattle.notation.specs.Classes.{class_number, class_rows, class_in, class_of, is, is_word}
@@ -47,7 +48,7 @@ use Rattle.encoding.proofs.ReadWriting.{info_width}
 use Rattle.leaf_answer.specs.LeafAnswers.{LeafTold}
 use Rattle.plain_string.specs.StringParts.{quoted_kind, StringMajor, QuotedAt}
 use Rattle.leaf_reader.specs.LiteralParts.{IsQuote}
-use Rattle.leaf_reader.specs.LiteralParts.{content_by, EncodedFrom, EncodedThere, ContentTold, HeadBefore, Headed}
+use Rattle.leaf_reader.specs.LiteralParts.{content_by, EncodedFrom, EncodedThere, ContentMade, ContentTold, HeadBefore, Headed}
 use Rattle.leaf_answer.specs.declared.LeafRead.{LeafRead as LeafS}
 use Rattle.leaf_answer.specs.declared.Found.TheVariants.{Leaf, Nothing}
 use Rattle.leaf_answer.proofs.LeafCode.{leaf_still, leaf-made}
@@ -56,16 +57,9 @@ use Rattle.plain_string.proofs.StringCode.{back, lent_same, lent_kept, lent_writ
 -- WHAT STANDS THERE
 
 module _ {b : ℕ} where
-  pub is-text : b ≡ 0x22 → IsQuote b true
-  is-text e = record { is = λ t. quote-text e }
-
-  pub is-bytes : b ≡ 0x27 → IsQuote b true
-  is-bytes e = record { is = λ t. quote-bytes e }
-
-  pub is_none : IsQuote b false
-  is_none = record { is = λ t. absurd (clash (sym t)) }
-
-pub ruleset quote_ways = (is-text, is-bytes, is_none)
+  pub is-quote : (b ≡ 0x22) ⊎ (b ≡ 0x27) → IsQuote b true
+  is-quote (inl e) = record { is = λ t. quote-text e }
+  is-quote (inr e) = record { is = λ t. quote-bytes e }
 
 pub quote-at : {s : List ℕ} {place : ℕ} {t : Bool} → place < length s → IsQuote (get_or s place 0) t → t ≡ true → QuotedAt s place (get_or s place 0)
 quote-at l x e = record { here = l; is = refl; quote = x.is e }
@@ -75,30 +69,25 @@ unfolding cut cut_by word run whether bind prefixed same is_word is class_number
 cut_base64 r = refl
 
 module _ {s : List ℕ} {at : ℕ} where
-  pub there-none : {to : ℕ} {base64 : Bool} → EncodedThere s at to base64 false
-  there-none = record { is = λ t. absurd (clash (sym t)) }
-
-  pub there-hex : {t u : Bool} → Peeked s at 0x68 t → not t ≡ false → Peeked s (at + 1) 0x27 u → EncodedThere s at (at + 2) false u
+  pub there-hex : {t u : Bool} → Peeked s at 0x68 t → t ≡ true → Peeked s (at + 1) 0x27 u → EncodedThere s at (at + 2) false u
   unfolding content_by
-  there-hex {t} {u} p f q =
+  there-hex p f q =
       record {
         is = λ e.
             let z : at + 1 + 1 ≡ at + 2 = omega arith in
-            record { is = ap cut (peeked_yes p (not-false t f) ∙ rw (peeked_yes q e, z)) ∙ cut-hex (drop (at + 2) (marked s)); ahead = omega arith; inside = omega (arith, q.inside e) };
+            record { is = ap cut (peeked_yes p f ∙ rw (peeked_yes q e, z)) ∙ cut-hex (drop (at + 2) (marked s)); ahead = omega arith; inside = omega (arith, q.inside e) };
       }
 
-  pub there_base64 : {t u v w : Bool} → Peeked s at 0x62 t → not t ≡ false → Peeked s (at + 1) 0x36 u → not u ≡ false → Peeked s (at + 2) 0x34 v → not v ≡ false → Peeked s (at + 3) 0x27 w → EncodedThere s at (at + 4) true w
+  pub there_base64 : {t u v w : Bool} → Peeked s at 0x62 t → t ≡ true → Peeked s (at + 1) 0x36 u → u ≡ true → Peeked s (at + 2) 0x34 v → v ≡ true → Peeked s (at + 3) 0x27 w → EncodedThere s at (at + 4) true w
   unfolding content_by
-  there_base64 {t} {u} {v} {w} p f q g r h x =
+  there_base64 p f q g r h x =
       record {
         is = λ e.
             let z₁ : at + 1 + 1 ≡ at + 2 = omega arith in
             let z₂ : at + 2 + 1 ≡ at + 3 = omega arith in
             let z₃ : at + 3 + 1 ≡ at + 4 = omega arith in
-            record { is = ap cut (peeked_yes p (not-false t f) ∙ rw (peeked_yes q (not-false u g), z₁, peeked_yes r (not-false v h), z₂, peeked_yes x e, z₃)) ∙ cut_base64 (drop (at + 4) (marked s)); ahead = omega arith; inside = omega (arith, x.inside e) };
+            record { is = ap cut (peeked_yes p f ∙ rw (peeked_yes q g, z₁, peeked_yes r h, z₂, peeked_yes x e, z₃)) ∙ cut_base64 (drop (at + 4) (marked s)); ahead = omega arith; inside = omega (arith, x.inside e) };
       }
-
-pub ruleset there_ways = (there-none, there-hex, there_base64)
 
 pub encoded-there : {s : List ℕ} {place at : ℕ} {base64 t : Bool} → EncodedThere s place at base64 t → t ≡ true → EncodedFrom s place at base64
 encoded-there x e = x.is e
@@ -106,16 +95,14 @@ encoded-there x e = x.is e
 -- THE HEAD
 
 module _ {b b' : List ℕ} {pos first n r : ℕ} (h : HeadSize first r) where
-  pub put-short : r ≡ 1 → b' ≡ over_if_fits b pos (first ∷ []) → HeadBefore b b' pos (head_bytes first n) n 1
+  pub put-short : r ≡ 1 → b' ≡ over_if_fits b pos (first ∷ []) → HeadBefore b b' pos (head_bytes first n) n r
   put-short e f =
-      record { closes = before-short n h e f; same = ap length f ∙ length-written b pos (first ∷ []); kept = ap (take pos) f ∙ take-written b pos (first ∷ []) pos (omega arith); short = omega arith }
+      rw e (record { closes = before-short n h e f; same = ap length f ∙ length-written b pos (first ∷ []); kept = ap (take pos) f ∙ take-written b pos (first ∷ []) pos (omega arith); short = omega arith })
 
   pub put_long : b' ≡ head_put b pos (head_bytes first n) n → HeadBefore b b' pos (head_bytes first n) n r
   put_long f =
       let some = head-some first n in
       record { closes = before_long n h f; same = ap length f ∙ length-closed b pos (head_bytes first n) n some; kept = ap (take pos) f ∙ take-closed b pos (head_bytes first n) n some pos (omega arith); short = h.most }
-
-pub ruleset before_ways = (put-short, put_long)
 
 wide-head : (m : Major) (w : Width) (n : ℕ) → n ≤ limit w → head_bytes (major_number m * 32 + info_by (width_number w) n) n ≡ head m w n
 unfolding initial
@@ -137,18 +124,18 @@ fitted {n = n} {width = width} {m = m} x e z l =
     let f : Chose n (chosen y.0) = rw y.1.0 at (choose-fits x.ind n l) in
     record { ind = x.ind; wide_as = y.0; reads = x.is; chose = y.1.0; is = j ∙ y.1.1; fits = f }
 
-module _ {s b : List ℕ} {place pos major : ℕ} {binary : Bool} {r : LiteralScan} where
-  pub headed_none : {q : LeafS} → q.found ≡ Nothing → Headed s b b place pos major binary r q
+module _ {s b : List ℕ} {place pos major : ℕ} {binary : Bool} where
+  pub headed_none : {r : Option LiteralScan} {q : LeafS} → q.found ≡ Nothing → Headed s b b place pos major binary r q
   headed_none e = record { is = λ b₀ k t m x. leaf_still t.same t.kept e }
 
-  pub headed_leaf : {b' : List ℕ} {width info head' : ℕ} {m : Mark} {q : LeafS} → not r.good ≡ false → r.size ≤ 0xffff_ffff → Indicated s r.next m → width ≡ choose_by m.mark r.size → (width ≡ 0 → ⊥)
+  pub headed_leaf : {r : LiteralScan} {b' : List ℕ} {width info head' : ℕ} {m : Mark} {q : LeafS} → r.size ≤ 0xffff_ffff → Indicated s r.next m → width ≡ choose_by m.mark r.size → (width ≡ 0 → ⊥)
       → Informed width r.size info → HeadBefore b b' pos (head_bytes (major * 32 + info) r.size) r.size head'
-      → q ≡ record { found = Leaf; next = m.next; size = head' + r.size; binary = binary; length = r.size; number = 0 } → Headed s b b' place pos major binary r q
+      → q ≡ record { found = Leaf; next = m.next; size = head' + r.size; binary = binary; length = r.size; number = 0 } → Headed s b b' place pos major binary (Some r) q
   unfolding encode encode_string limit
-  headed_leaf {b'} {width} {info} {head'} {m} {q} g l x e z i h f =
+  headed_leaf {r} {b'} {width} {info} {head'} {m} {q} l x e z i h f =
       record {
         is = λ b₀ k t j u.
-            let c = t.made (not-false r.good g) in
+            let c = t.made r refl in
             let ws = c.bytes in
             let n = r.size in
             let y = fitted x e z (omega arith) in
@@ -171,8 +158,6 @@ module _ {s b : List ℕ} {place pos major : ℕ} {binary : Bool} {r : LiteralSc
             })
             (h.kept ∙ t.kept);
       }
-
-pub ruleset headed_ways = (headed_none, headed_leaf)
 
 -- WHAT A QUOTED STRING HOLDS
 
@@ -200,22 +185,22 @@ encoded_as read u raw c t r i w e d f g = rw e (rw f (rw d (literal-chosen byte_
 behind-one : (b : List ℕ) (pos : ℕ) → pos < length b → pos + 1 ≡ min (pos + 1) (length b)
 behind-one b pos h = omega arith
 
-module _ {s b m m' : List ℕ} {place pos q : ℕ} {r : LiteralScan} (x : QuotedAt s place q) (h : pos < length b) (z : m ≡ take (length b - (pos + 1)) (drop (pos + 1) b)) where
+module _ {s b m m' : List ℕ} {place pos q : ℕ} {r : Option LiteralScan} (x : QuotedAt s place q) (h : pos < length b) (z : m ≡ take (length b - (pos + 1)) (drop (pos + 1) b)) where
   pub quoted-told : Scans s (place + 1) r (unquote q character (drop (place + 1) (marked s))) → Quotes m m' 0 (unquote q character (drop (place + 1) (marked s))) → ContentTold s b (back b (pos + 1) m') place pos (quoted_kind q) r
   quoted-told y w =
       let u = behind-one b pos h in
       record {
         same = lent_same b m m' pos 1 (pos + 1) u z w.same;
         kept = lent_kept b m m' pos 1 (pos + 1) u z w.same;
-        made = λ g.
-            let a = scan_good (unquote q character (drop (place + 1) (marked s))) y g in
+        made = λ v g.
+            let a = scan_good (unquote q character (drop (place + 1) (marked s))) (rw g at y) in
             let f = a.found in
             record {
               bytes = a.all;
               is = record {
-                gives = λ i v t j c.
+                gives = λ i w t j c.
                     ap cut (at_byte s place x.here ∙ ap (λ (k : ℕ). k ∷ drop (place + 1) (marked s)) x.is)
-                    ∙ (x.quote.cuts (drop (place + 1) (marked s)) ∙ quoted_as (quoted_kind q) q (drop (place + 1) (marked s)) a.all (drop r.next (marked s)) t i v (a.is ∙ ap (ok a.all) (sym f.left)) j c);
+                    ∙ (x.quote.cuts (drop (place + 1) (marked s)) ∙ quoted_as (quoted_kind q) q (drop (place + 1) (marked s)) a.all (drop v.next (marked s)) t i w (a.is ∙ ap (ok a.all) (sym f.left)) j c);
                 short = omega (arith, f.short, f.size);
               };
               count = f.size;
@@ -225,60 +210,59 @@ module _ {s b m m' : List ℕ} {place pos q : ℕ} {r : LiteralScan} (x : Quoted
 
 -- WHAT AN ENCODED ONE HOLDS
 
-content-good : {r : LiteralScan} (base64 : Bool) (raw : List ℕ) → Decodes r (content_by base64 raw) → r.good ≡ true → Stood r (length raw) (content_by base64 raw)
+content-good : {r : LiteralScan} (base64 : Bool) (raw : List ℕ) → Decodes (Some r) (content_by base64 raw) → Stood r (length raw) (content_by base64 raw)
 unfolding content_by
-content-good true raw d g = base64_good raw d g
-content-good false raw d g = hex-good raw d g
+content-good true raw d = base64_good raw d
+content-good false raw d = hex-good raw d
 
-module _ {s b : List ℕ} {place pos at : ℕ} {base64 : Bool} {r : LiteralScan} (x : EncodedFrom s place at base64) (y : Raw s at r (body (drop at (marked s)))) where
-  pub encoded-none : {r' : LiteralScan} → r' ≡ record { good = false; next = at; size = 0 } → ContentTold s b b place pos byte_string r'
-  encoded-none e = record { same = refl; kept = refl; made = λ g. absurd (clash (sym g ∙ ap (λ (v : LiteralScan). v.good) e)) }
+module _ {b b' : List ℕ} {p : ℕ} {r : Option LiteralScan} (base64 : Bool) (l : List ℕ) where
+  pub into-hex : base64 ≡ false → DecodesInto b b' p r (hex_content l) → DecodesInto b b' p r (content_by base64 l)
+  unfolding content_by
+  into-hex e d = rw e d
 
-  module _ {m m' : List ℕ} {c : LiteralScan} (h : pos < length b) (z : m ≡ take (length b - (pos + 1)) (drop (pos + 1) b)) where
-    encoded-told : not r.good ≡ false → DecodesInto m m' 0 c (content_by base64 (take (r.next - 1 - at) (drop at s)))
-        → ContentTold s b (back b (pos + 1) m') place pos byte_string (record { good = c.good; next = r.next; size = c.size })
-    encoded-told g d =
+  pub into_base64 : base64 ≡ true → DecodesInto b b' p r (base64_content l) → DecodesInto b b' p r (content_by base64 l)
+  unfolding content_by
+  into_base64 e d = rw e d
+
+module _ {s b : List ℕ} {place pos : ℕ} where
+  pub encoded-none : ContentTold s b b place pos byte_string None
+  encoded-none = record { same = refl; kept = refl; made = λ c u. absurd (none-some c u) }
+
+  module _ {m m' : List ℕ} (h : pos < length b) (z : m ≡ take (length b - (pos + 1)) (drop (pos + 1) b)) where
+    pub encoded-wrong : {c : Option LiteralScan} {res : Content} → DecodesInto m m' 0 c res → ContentTold s b (back b (pos + 1) m') place pos byte_string None
+    encoded-wrong d =
+        let u = behind-one b pos h in
+        record { same = lent_same b m m' pos 1 (pos + 1) u z d.fills.same; kept = lent_kept b m m' pos 1 (pos + 1) u z d.fills.same; made = λ c e. absurd (none-some c e) }
+
+    pub encoded-told : {at : ℕ} {base64 : Bool} {r c : LiteralScan} → EncodedFrom s place at base64 → Raw s at (Some r) (body (drop at (marked s)))
+        → DecodesInto m m' 0 (Some c) (content_by base64 (take (r.next - 1 - at) (drop at s))) → ContentTold s b (back b (pos + 1) m') place pos byte_string (Some (record { next = r.next; size = c.size }))
+    encoded-told {at} {base64} {r} {c} x y d =
         let u = behind-one b pos h in
         let f = d.fills in
         let raw = take (r.next - 1 - at) (drop at s) in
-        let k = not-false r.good g in
+        let a = content-good base64 raw d.decodes in
+        let n = (scan_good (body (drop at (marked s))) y.scans).found in
+        let l : length raw ≡ r.next - 1 - at = length-take-le (r.next - 1 - at) (drop at s) (omega (arith, length-drop at s, n.inside)) in
+        let k : ContentMade s b (back b (pos + 1) m') place pos byte_string (record { next = r.next; size = c.size }) = record {
+          bytes = a.all;
+          is = record {
+            gives = λ i v t j o. x.is ∙ encoded_as (content_by base64) (drop at (marked s)) raw a.all (drop r.next (marked s)) t i v (raw_good y) a.is j o;
+            short = omega (arith, a.short, a.size, l, n.ahead, x.ahead);
+          };
+          count = a.size;
+          wrote = (lent_written b m m' pos 1 (pos + 1) u z f.same a.all (λ l. f.is a.all a.is (omega arith))).wrote;
+        } in
         record {
           same = lent_same b m m' pos 1 (pos + 1) u z f.same;
           kept = lent_kept b m m' pos 1 (pos + 1) u z f.same;
-          made = λ t.
-              let a = content-good base64 raw d.decodes t in
-              let n = (scan_good (body (drop at (marked s))) y.scans k).found in
-              let l : length raw ≡ r.next - 1 - at = length-take-le (r.next - 1 - at) (drop at s) (omega (arith, length-drop at s, n.inside)) in
-              record {
-                bytes = a.all;
-                is = record {
-                  gives = λ i v t j c. x.is ∙ encoded_as (content_by base64) (drop at (marked s)) raw a.all (drop r.next (marked s)) t i v (raw_good y k) a.is j c;
-                  short = omega (arith, a.short, a.size, l, n.ahead, x.ahead);
-                };
-                count = a.size;
-                wrote = (lent_written b m m' pos 1 (pos + 1) u z f.same a.all (λ l. f.is a.all a.is (omega arith))).wrote;
-              };
+          made = λ v e. rw (← same_Some _ v e) k;
         }
-
-pub raw_some : {s : List ℕ} {at : ℕ} {r : LiteralScan} {res : Result (List ℕ)} → Raw s at r res → not r.good ≡ false → 1 ≤ r.next
-raw_some {r = r} x e = omega (arith, x.next (not-false r.good e))
-
-module _ {s b m m' : List ℕ} {place pos at : ℕ} {r c : LiteralScan} (y : Raw s at r (body (drop at (marked s)))) (h : pos < length b) (z : m ≡ take (length b - (pos + 1)) (drop (pos + 1) b)) (g : not r.good ≡ false) where
-  pub hex-told : EncodedFrom s place at false → DecodesInto m m' 0 c (hex_content (take (r.next - 1 - at) (drop at s))) → ContentTold s b (back b (pos + 1) m') place pos byte_string (record { good = c.good; next = r.next; size = c.size })
-  unfolding content_by
-  hex-told x d = encoded-told x y h z g d
-
-  pub base64_told : EncodedFrom s place at true → DecodesInto m m' 0 c (base64_content (take (r.next - 1 - at) (drop at s))) → ContentTold s b (back b (pos + 1) m') place pos byte_string (record { good = c.good; next = r.next; size = c.size })
-  unfolding content_by
-  base64_told x d = encoded-told x y h z g d
-
-pub ruleset encoded_ways = (encoded-none, hex-told, base64_told)
 
 -- LITERALS
 
-pub quoted-literal : {s b₀ b b' : List ℕ} {place pos q major : ℕ} {r : LiteralScan} {v : LeafS} → QuotedAt s place q → ContentTold s b₀ b place pos (quoted_kind q) r → StringMajor q major → Headed s b b' place pos major (eqb q 0x27) r v → LeafTold s b₀ b' place pos v
+pub quoted-literal : {s b₀ b b' : List ℕ} {place pos q major : ℕ} {r : Option LiteralScan} {v : LeafS} → QuotedAt s place q → ContentTold s b₀ b place pos (quoted_kind q) r → StringMajor q major → Headed s b b' place pos major (eqb q 0x27) r v → LeafTold s b₀ b' place pos v
 quoted-literal {b₀ = b₀} {q = q} x t m h = h.is b₀ (quoted_kind q) t m.is x.quote.binary
 
-pub encoded-literal : {s b₀ b b' : List ℕ} {place pos : ℕ} {r : LiteralScan} {v : LeafS} → ContentTold s b₀ b place pos byte_string r → Headed s b b' place pos 2 true r v → LeafTold s b₀ b' place pos v
+pub encoded-literal : {s b₀ b b' : List ℕ} {place pos : ℕ} {r : Option LiteralScan} {v : LeafS} → ContentTold s b₀ b place pos byte_string r → Headed s b b' place pos 2 true r v → LeafTold s b₀ b' place pos v
 unfolding major_number Tells held_of
 encoded-literal {b₀ = b₀} t h = h.is b₀ byte_string t refl (λ w c. (refl, refl))

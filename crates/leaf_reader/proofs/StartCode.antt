@@ -13,7 +13,9 @@ use Rattle.plain_string.specs.StringParts.{Quote, QuotedAt, HexAt}
 use Rattle.plain_string.proofs.StringCode.{quote-text, quote-bytes}
 use Rattle.leaf_reader.specs.Starts.{StartsAs}
 use Rattle.leaf_reader.specs.declared.Start.{Start}
-use Rattle.leaf_reader.specs.declared.Start.TheVariants.{Integer, Quoted, Hex, Word, Odd, Other}
+use Rattle.leaf_reader.specs.declared.Start.TheVariants.{Quoted, Hex}
+use Rattle.std.specs.Prelude.{◌⊎◌}
+use Rattle.std.proofs.Common.{inl, inr}
 
 -- THE FIRST BYTE
 
@@ -21,28 +23,9 @@ module _ {b : ℕ} where
   starts-quote : Quote b → StartsAs b Quoted
   starts-quote q = record { quoted = λ e. q; hex = λ e. absurd (let z : ◌≡◌ {A = ℕ} 0 1 = cc in omega arith) }
 
-  pub starts-text : b ≡ 0x22 → StartsAs b Quoted
-  starts-text e = starts-quote (quote-text e)
-
-  pub starts-bytes : b ≡ 0x27 → StartsAs b Quoted
-  starts-bytes e = starts-quote (quote-bytes e)
-
-  pub starts-hex : b ≡ 0x68 → StartsAs b Hex
-  starts-hex e = record { quoted = λ f. absurd (let z : ◌≡◌ {A = ℕ} 0 1 = cc in omega arith); hex = λ f. e }
-
-  pub starts-integer : StartsAs b Integer
-  starts-integer = record { quoted = λ e. absurd (let z : ◌≡◌ {A = ℕ} 0 1 = cc in omega arith); hex = λ e. absurd (let z : ◌≡◌ {A = ℕ} 0 1 = cc in omega arith) }
-
-  pub starts-word : StartsAs b Word
-  starts-word = record { quoted = λ e. absurd (let z : ◌≡◌ {A = ℕ} 0 1 = cc in omega arith); hex = λ e. absurd (let z : ◌≡◌ {A = ℕ} 0 1 = cc in omega arith) }
-
-  pub starts_odd : StartsAs b Odd
-  starts_odd = record { quoted = λ e. absurd (let z : ◌≡◌ {A = ℕ} 0 1 = cc in omega arith); hex = λ e. absurd (let z : ◌≡◌ {A = ℕ} 0 1 = cc in omega arith) }
-
-  pub starts_other : StartsAs b Other
-  starts_other = record { quoted = λ e. absurd (let z : ◌≡◌ {A = ℕ} 0 1 = cc in omega arith); hex = λ e. absurd (let z : ◌≡◌ {A = ℕ} 0 1 = cc in omega arith) }
-
-pub ruleset starts_ways = (starts-text, starts-bytes, starts-hex, starts-integer, starts-word, starts_odd, starts_other)
+  pub starts-quoted : (b ≡ 0x22) ⊎ (b ≡ 0x27) → StartsAs b Quoted
+  starts-quoted (inl e) = starts-quote (quote-text e)
+  starts-quoted (inr e) = starts-quote (quote-bytes e)
 
 pub quoted-at : {s : List ℕ} {place : ℕ} {k : Start} → place < length s → StartsAs (get_or s place 0) k → k ≡ Quoted → QuotedAt s place (get_or s place 0)
 quoted-at l x e = record { here = l; is = refl; quote = x.quoted e }

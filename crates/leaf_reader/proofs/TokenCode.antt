@@ -1,7 +1,7 @@
 -- Leaves by their tokens: what the code knows at each return, and that this is what the definitions say.
 -- Assumes nothing.
 use mathlib.Core.Path.{◌≡◌, refl, sym, ap, ◌∙◌}
-use mathlib.Core.List.{List, [], ◌∷◌}
+use mathlib.Core.List.{List, ◌∷◌}
 use mathlib.Core.Bool.{Bool, true, false, not}
 use Prim.Native.Nat.{ℕ, ◌+◌, ◌-◌, ◌*◌, ◌≤◌, ◌<◌}
 use native.Mathlib.Omega.{arith}
@@ -14,7 +14,6 @@ use Rattle.cbor.specs.Heads.{Major, integers, simples, major_number, initial, he
 use Rattle.cbor.specs.Encode.{encode}
 use Rattle.cbor.specs.Flags.{sign_of}
 use Rattle.cbor.specs.Utf8.{is_in}
-use Rattle.cbor.proofs.Tests.{clash}
 use Rattle.memory.specs.Buffer.{over_if_fits}
 use Rattle.memory.proofs.Buffer.{take-written}
 use Rattle.notation.specs.Classes.{Class, class_number, class_rows, class_in, class_of, is, is_word}
@@ -140,8 +139,6 @@ module _ {t : Cut} {b : List ℕ} {place pos : ℕ} where
         go s h (ok tok r) c x = cut-made s h tok r c x
         go s h (refuse k p) c x = absurd (omega (arith, x.code))
 
-pub ruleset token_ways = (token-none, token-made)
-
 -- INTEGERS
 
 pub integer-told : {s b b' : List ℕ} {place at pos : ℕ} {minus : Bool} {t : Cut} {q : LeafS} → place < length s → NumberAt s place at minus → Says s place t (number (sign_of minus) (get_or s at 0) (drop (at + 1) (marked s))) → TokenTold t b b' place pos q
@@ -158,20 +155,15 @@ unfolding cut cut_by word run whether bind worded same is_word is class_number c
 cut-simple r = refl
 
 module _ {s : List ℕ} {at : ℕ} where
-  pub simple-no : SimpleAt s at false
-  simple-no = record { is = λ t. absurd (clash (sym t)); inside = λ t. absurd (clash (sym t)) }
-
-  pub simple-yes : {w : ℕ} {t u v : Bool} → 7 ≤ length s - at → Four s at w → w ≡ 0x7369_6d70 → Peeked s (at + 4) 0x6c t → not t ≡ false → Peeked s (at + 5) 0x65 u → not u ≡ false → Peeked s (at + 6) 0x28 v → SimpleAt s at v
-  simple-yes {w} {t} {u} {v} l f e p g q h x =
+  pub simple-yes : {w : ℕ} {t u v : Bool} → 7 ≤ length s - at → Four s at w → w ≡ 0x7369_6d70 → Peeked s (at + 4) 0x6c t → t ≡ true → Peeked s (at + 5) 0x65 u → u ≡ true → Peeked s (at + 6) 0x28 v → SimpleAt s at v
+  simple-yes l f e p g q h x =
       let d = spelled (omega arith) f 0x73 0x69 0x6d 0x70 (omega arith) (omega arith) (omega arith) (omega arith) e in
       let z₁ : at + 4 + 1 ≡ at + 5 = omega arith in
       let z₂ : at + 5 + 1 ≡ at + 6 = omega arith in
       record {
-        is = λ k. ap cut (d ∙ rw (peeked_yes p (not-false t g), z₁, peeked_yes q (not-false u h), z₂, peeked_yes x k)) ∙ (cut-simple (drop (at + 6 + 1) (marked s)) ∙ ap simple_token (sym (peeked_yes x k)));
+        is = λ k. ap cut (d ∙ rw (peeked_yes p g, z₁, peeked_yes q h, z₂, peeked_yes x k)) ∙ (cut-simple (drop (at + 6 + 1) (marked s)) ∙ ap simple_token (sym (peeked_yes x k)));
         inside = λ k. omega (arith, x.inside k);
       }
-
-pub ruleset simple_ways = (simple-no, simple-yes)
 
 pub simple-inside : {s : List ℕ} {at : ℕ} {t : Bool} → SimpleAt s at t → t ≡ true → at + 6 ≤ length s
 simple-inside x e = x.inside e

@@ -1,5 +1,5 @@
 -- Of the code: what the readers of string literals that are seldom written so say of their parts. s is a text.
-use Rattle.std.specs.Prelude.{ℕ, ◌+◌, ◌≤◌, ◌<◌, ◌≡◌, Bool, true, false, List, length, take, drop}
+use Rattle.std.specs.Prelude.{ℕ, ◌+◌, ◌≤◌, ◌<◌, ◌≡◌, Bool, true, false, List, Option, Some, length, take, drop}
 use Rattle.cbor.specs.Refusals.{ok}
 use Rattle.cbor.specs.Widths.{Width}
 use Rattle.cbor.specs.Items.{Kind, definite, string}
@@ -45,10 +45,10 @@ pub record ContentMade (s b b' : List ℕ) (place pos : ℕ) (k : Kind) (r : Lit
   pub count : r.size ≡ length bytes
   pub wrote : Wrote b b' (pos + 1) bytes
 
-pub record ContentTold (s b b' : List ℕ) (place pos : ℕ) (k : Kind) (r : LiteralScan) : Type 0 where
+pub record ContentTold (s b b' : List ℕ) (place pos : ℕ) (k : Kind) (r : Option LiteralScan) : Type 0 where
   pub same : length b' ≡ length b
   pub kept : take pos b' ≡ take pos b
-  pub made : r.good ≡ true → ContentMade s b b' place pos k r
+  pub made : (c : LiteralScan) → r ≡ Some c → ContentMade s b b' place pos k c
 
 -- a head hs, which has r bytes, was put before what stood behind one byte of room
 pub record HeadBefore (b b' : List ℕ) (pos : ℕ) (hs : List ℕ) (size r : ℕ) : Type 0 where
@@ -58,5 +58,5 @@ pub record HeadBefore (b b' : List ℕ) (pos : ℕ) (hs : List ℕ) (size r : �
   pub short : r ≤ 9
 
 -- the head that the indicator asks for was put before a content that was read
-pub record Headed (s b b' : List ℕ) (place pos major : ℕ) (binary : Bool) (r : LiteralScan) (q : LeafS) : Type 0 where
+pub record Headed (s b b' : List ℕ) (place pos major : ℕ) (binary : Bool) (r : Option LiteralScan) (q : LeafS) : Type 0 where
   pub is : (b₀ : List ℕ) (k : Kind) → ContentTold s b₀ b place pos k r → major ≡ major_number (strings k) → ((w : Width) (c : List ℕ) → Tells (held_of (string k w c)) binary (length c)) → LeafTold s b₀ b' place pos q

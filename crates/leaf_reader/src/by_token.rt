@@ -18,10 +18,7 @@ fn token_leaf(t: Token, place: usize, buf: &mut [u8], pos: usize) -> LeafRead
     ensures { TokenTold t buf.old buf.new place pos result }
 {
     let kind = t.kind;
-    if kind < UNSIGNED {
-        return nothing(place);
-    }
-    if SIMPLE < kind {
+    if kind < UNSIGNED || SIMPLE < kind {
         return nothing(place);
     }
     let first = initial(t);
@@ -55,19 +52,11 @@ fn simple_at(text: &[u8], at: usize) -> bool
     requires { at < length text.now }
     ensures { SimpleAt text.now at result }
 {
-    if text.len() - at < 7 {
-        return false;
-    }
-    if four(text, at) != SIMP {
-        return false;
-    }
-    if !next_is(text, at + 4, b'l') {
-        return false;
-    }
-    if !next_is(text, at + 5, b'e') {
-        return false;
-    }
-    next_is(text, at + 6, b'(')
+    7 <= text.len() - at
+        && four(text, at) == SIMP
+        && next_is(text, at + 4, b'l')
+        && next_is(text, at + 5, b'e')
+        && next_is(text, at + 6, b'(')
 }
 
 pub(crate) fn simple_value(text: &[u8], place: usize, buf: &mut [u8], pos: usize) -> LeafRead

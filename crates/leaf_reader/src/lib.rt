@@ -8,7 +8,7 @@ ghost use Rattle.leaf_answer.specs.LeafAnswers.{LeafTold};
 ghost use Rattle.leaf_reader.specs.Starts.{StartsAs};
 
 use crate::by_token::{other_integer, simple_value};
-use crate::literal::{base64_literal, hex_literal, is_quote, quoted_literal};
+use crate::literal::{encoded_literal, is_quote, quoted_literal};
 use leaf_answer::{Found, LeafRead, again, nothing, odd};
 use plain_leaf::integer::signed;
 use plain_leaf::word::word;
@@ -31,14 +31,9 @@ fn start_of(b: u8) -> Start
     ensures { StartsAs b result }
 {
     match b {
-        b'"' => Start::Quoted,
-        b'\'' => Start::Quoted,
-        b'-' => Start::Integer,
-        b'0' | b'2' | b'4' | b'6' | b'8' => Start::Integer,
-        b'1' | b'3' | b'5' | b'7' | b'9' => Start::Integer,
-        b'f' | b'n' => Start::Word,
-        b't' => Start::Word,
-        b'u' => Start::Word,
+        b'"' | b'\'' => Start::Quoted,
+        b'-' | b'0'..=b'9' => Start::Integer,
+        b'f' | b'n' | b't' | b'u' => Start::Word,
         b'h' => Start::Hex,
         b'b' | b's' => Start::Odd,
         _ => Start::Other,
@@ -53,18 +48,12 @@ pub fn read_leaf(text: &[u8], at: usize, buf: &mut [u8], pos: usize) -> LeafRead
         return nothing(at);
     }
     let b = text[at];
-    let start = start_of(b);
-    match start {
+    match start_of(b) {
         Start::Integer => signed(text, at, b == b'-', buf, pos),
         Start::Quoted => quoted(text, at, b, buf, pos),
         Start::Word => word(text, at, buf, pos),
-        Start::Hex => {
-            if next_is(text, at + 1, b'\'') {
-                return hexadecimal(text, at, buf, pos);
-            }
-            odd(at)
-        }
-        Start::Odd => odd(at),
+        Start::Hex if next_is(text, at + 1, b'\'') => hexadecimal(text, at, buf, pos),
+        Start::Hex | Start::Odd => odd(at),
         Start::Other => nothing(at),
     }
 }
@@ -73,19 +62,14 @@ pub fn read_leaf(text: &[u8], at: usize, buf: &mut [u8], pos: usize) -> LeafRead
 pub fn read_odd(text: &[u8], at: usize, buf: &mut [u8], pos: usize) -> LeafRead
     ensures { LeafTold text.now buf.old buf.new at pos result }
 {
-    if text.len() <= at {
-        return nothing(at);
-    }
-    if buf.len() <= pos {
+    if text.len() <= at || buf.len() <= pos {
         return nothing(at);
     }
     let b = text[at];
-    if is_quote(b) {
-        return again(quoted_literal(text, at, b, buf, pos));
-    }
     match b {
-        b'h' => again(hex_literal(text, at, buf, pos)),
-        b'b' => again(base64_literal(text, at, buf, pos)),
+        _ if is_quote(b) => again(quoted_literal(text, at, b, buf, pos)),
+        b'h' => again(encoded_literal::<false>(text, at, buf, pos)),
+        b'b' => again(encoded_literal::<true>(text, at, buf, pos)),
         b's' => again(simple_value(text, at, buf, pos)),
         _ => again(other_integer(text, at, b == b'-', buf, pos)),
     }
@@ -96,9 +80,7 @@ pub fn odd_leaf(text: &[u8], at: usize, found: Found, buf: &mut [u8], pos: usize
     ensures { LeafTold text.now buf.old buf.new at pos result }
 {
     match found {
-        Found::Leaf => nothing(at),
-        Found::Tag => nothing(at),
         Found::Odd => read_odd(text, at, buf, pos),
-        Found::Nothing => nothing(at),
+        Found::Leaf | Found::Tag | Found::Nothing => nothing(at),
     }
 }

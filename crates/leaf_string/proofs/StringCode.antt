@@ -7,8 +7,6 @@ use Prim.Native.Nat.{ℕ, ◌+◌, ◌-◌, ◌*◌, ◌/◌, ◌%◌, ◌^◌, 
 use native.Mathlib.Omega.{arith}
 use lib.ListN.{length, take, drop, get_or, length-drop, take-append-drop}
 use lib.Seq.{take_all, take-take, take-add, get_or-take, get_or-drop, drop-drop}
-use mir.Syntax.{w8 as bits8}
-use mir.Val.{Fits}
 use borrow.Author.Count.{below_more}
 use borrow.Author.Tests.{le-leb, eq-eqb}
 use Rattle.cbor.specs.Ascii.{ascii}
@@ -25,7 +23,7 @@ use Rattle.memory.proofs.Buffer.{copied-yes, length_part}
 use Rattle.notation.specs.Printing.{escape_of, hex_of, indicator_of, print_string, print_item}
 use Rattle.utf8.proofs.Runs.{ascii-good}
 use Rattle.text_output.specs.PrintParts.{Prints, content_of}
-use Rattle.plain_bytes.specs.Runs.{More, AllPlain}
+use Rattle.plain_bytes.specs.Runs.{AllPlain}
 use Rattle.hex_output.proofs.HexCode.{hex-append}
 use Rattle.hex_output.proofs.HexCode.{hex-length}
 use Rattle.plain_bytes.proofs.PlainRuns.{content_plain}
@@ -34,32 +32,12 @@ use Rattle.leaf_kind.specs.declared.Kind.TheVariants.{Bytes, Text}
 use Rattle.leaf_kind.proofs.KindCode.{bytes-is, text-is}
 use Rattle.leaf_written.specs.Laying.{Laid}
 use Rattle.leaf_written.specs.LeafTexts.{Room, LeafTold}
-use Rattle.leaf_written.specs.declared.Written.{Written}
+use Rattle.std.specs.declared.option.Option.TheVariants.{Some}
 use Rattle.leaf_written.proofs.LayCode.{laid-written, laid-prints, laid_more, laid_as, laid-front}
 use Rattle.leaf_written.proofs.LeafCode.{low-information, indicator-none, shortest_0, item_plain, told-leaf}
-use Rattle.leaf_string.specs.StringParts.{High, Stop, Stops, quoted_hex}
+use Rattle.leaf_string.specs.StringParts.{Stop, Stops, quoted_hex}
 
 -- BLOCKS
-
-pub high-no : {b : ℕ} → b < 0x80 → High b 0
-high-no h = record { is = λ e. h; small = omega arith }
-
-pub high-yes : {b : ℕ} → High b 1
-high-yes = record { is = λ e. absurd (omega arith); small = omega arith }
-
-pub ruleset high_ways = (high-no, high-yes)
-
-module _ {b x y : ℕ} (m : More b x) (h : High b y) where
-  pub stop_fits : Fits bits8 (x + y)
-  stop_fits = record { fits = omega (arith, m.small, h.small) }
-
-  pub stop_none : {i : ℕ} → x + y ≡ 0 → Stop b i 32
-  stop_none e = record { is = λ l. (h.is (omega arith), omega (arith, m.is)); most = omega arith }
-
-pub stop_some : {b i : ℕ} → i ≤ 32 → Stop b i i
-stop_some h = record { is = λ l. absurd (omega arith); most = h }
-
-pub ruleset stop_ways = (stop_none, stop_some)
 
 pub stops-start : {s : List ℕ} {from : ℕ} → Stops s from 0 32
 stops-start = record { is = λ j a b. absurd (omega arith); most = omega arith }
@@ -154,21 +132,21 @@ unfolding quoted_hex
 quoted-laid x y z u v = laid_more y (laid_more z (laid_more u v))
 
 module _ {s : List ℕ} {at : ℕ} {b b₁ : List ℕ} {pos q : ℕ} (rm : Room s at b pos) where
-  pub bytes-told : KindOf (get_or s at 0) Bytes → Laid b b₁ pos (quoted_hex (take (get_or s at 0 % 32) (drop (at + 1) s))) q → {r : Written} → r ≡ record { end = at + 1 + get_or s at 0 % 32; pos = q } → LeafTold s at b b₁ pos r
+  pub bytes-told : KindOf (get_or s at 0) Bytes → Laid b b₁ pos (quoted_hex (take (get_or s at 0 % 32) (drop (at + 1) s))) q → LeafTold s at b b₁ pos (Some (record { end = at + 1 + get_or s at 0 % 32; pos = q }))
   unfolding print_item print_string is_text major_of quoted_hex
-  bytes-told k x e =
+  bytes-told k x =
       let f = bytes-is k in
       let n = get_or s at 0 % 32 in
       let c = take n (drop (at + 1) s) in
       let l = length-content s at rm.block n (omega arith) in
       let i : indicator_of w0 (length c) ≡ [] = indicator-none w0 (length c) (shortest_0 (length c) (omega arith)) in
-      rw e (told-leaf (string byte_string w0 c) (string-item s at rm.block byte_string (ap major_of f.0) f.1 refl) (omega (arith, rm.block))
-      (laid_as x (ap (λ (t : List ℕ). ascii "h'" ++ (hex_of c ++ (0x27 ∷ t))) (sym i))))
+      told-leaf (string byte_string w0 c) (string-item s at rm.block byte_string (ap major_of f.0) f.1 refl) (omega (arith, rm.block))
+      (laid_as x (ap (λ (t : List ℕ). ascii "h'" ++ (hex_of c ++ (0x27 ∷ t))) (sym i)))
 
   pub text-told : {b₂ b₃ : List ℕ} {p : ℕ} → KindOf (get_or s at 0) Text → {x : ℕ} → Stops s (at + 1) 32 x → get_or s at 0 % 32 ≤ x → Laid b b₁ pos (0x22 ∷ []) p → b₂ ≡ copied b₁ p (take (length s - (at + 1)) (drop (at + 1) s)) 32
-      → Laid b₂ b₃ (p + get_or s at 0 % 32) (0x22 ∷ []) q → {r : Written} → r ≡ record { end = at + 1 + get_or s at 0 % 32; pos = q } → LeafTold s at b b₃ pos r
+      → Laid b₂ b₃ (p + get_or s at 0 % 32) (0x22 ∷ []) q → LeafTold s at b b₃ pos (Some (record { end = at + 1 + get_or s at 0 % 32; pos = q }))
   unfolding print_item print_string is_text is_utf8 major_of content_of
-  text-told {b₂} {b₃} {p} k {x} st hx y g v e =
+  text-told {b₂} {b₃} {p} k {x} st hx y g v =
       let f = text-is k in
       let n = get_or s at 0 % 32 in
       let t = drop (at + 1) s in
@@ -186,5 +164,5 @@ module _ {s : List ℕ} {at : ℕ} {b b₁ : List ℕ} {pos q : ℕ} (rm : Room 
       (g ∙ ap (λ (u : List ℕ). copied b₁ p u 32) tail ∙ copied-yes b₁ p t 32 (omega (arith, length-drop (at + 1) s, rm.block))) in
       let z : p + length c ≡ p + n = omega arith in
       let mid : Laid b₁ b₂ p c (p + n) = rw z at (laid-front c (drop n (take 32 t)) (laid_as whole (sym (front_of_lem n 32 t (omega arith))))) in
-      rw e (told-leaf (string text_string w0 c) (string-item s at rm.block text_string (ap major_of f.0) f.1 (eq-eqb (first_bad c) (length c) (sym good))) (omega (arith, rm.block))
-      (laid_as (laid_more y (laid_more mid v)) (λ j. 0x22 ∷ (content_plain plain j ++ (0x22 ∷ sym i j)))))
+      told-leaf (string text_string w0 c) (string-item s at rm.block text_string (ap major_of f.0) f.1 (eq-eqb (first_bad c) (length c) (sym good))) (omega (arith, rm.block))
+      (laid_as (laid_more y (laid_more mid v)) (λ j. 0x22 ∷ (content_plain plain j ++ (0x22 ∷ sym i j))))

@@ -1,7 +1,7 @@
 // Strings of at most 23 bytes, by blocks: 32 bytes are taken at once, however many of them are the string's.
 #![tactic(auto)]
 
-ghost use Rattle.std.specs.Prelude.{◌≡◌, ◌+◌, ◌*◌, ◌≤◌, min, length, take, drop, get_or};
+ghost use Rattle.std.specs.Prelude.{◌+◌, ◌*◌, ◌≤◌, length, take, drop, get_or};
 ghost use Rattle.notation.specs.Printing.{hex_of};
 ghost use Rattle.leaf_kind.specs.LeafKinds.{KindOf};
 ghost use Rattle.leaf_kind.specs.declared.Kind.TheVariants.{Bytes, Text};
@@ -9,7 +9,7 @@ ghost use Rattle.leaf_written.specs.Laying.{Laid};
 ghost use Rattle.leaf_written.specs.LeafTexts.{Room, LeafTold};
 ghost use Rattle.leaf_string.specs.StringParts.{High, Stop, Stops, quoted_hex};
 
-use leaf_written::{Written, none, put, up_to};
+use leaf_written::{Written, put};
 
 const BLOCK: usize = 32;
 
@@ -18,23 +18,11 @@ const HALF: usize = 16;
 
 const QUARTER: usize = 8;
 
-fn smaller(a: u8, b: u8) -> u8
-    ensures { result ≡ min a b }
-{
-    if a < b {
-        return a;
-    }
-    b
-}
-
 // 1 for a byte that is not ASCII.
 fn high(b: u8) -> u8
     ensures { High b result }
 {
-    if b < 0x80 {
-        return 0;
-    }
-    1
+    if b.is_ascii() { 0 } else { 1 }
 }
 
 // The place i of a byte that is not ASCII or does not stand for itself, else the end of a block.
@@ -43,9 +31,10 @@ fn stop_at(b: u8, i: u8) -> u8
     ensures { Stop b i result }
 {
     if plain_bytes::more(b) + high(b) == 0 {
-        return 32;
+        32
+    } else {
+        i
     }
-    i
 }
 
 // How many bytes of a block are ASCII and stand for themselves, before the first that does not. The loop has no way out, so the compiler makes wide steps of it.
@@ -54,15 +43,13 @@ fn first_stop(bytes: &[u8], from: usize) -> u8
     ensures { Stops bytes.now from 32 result }
 {
     let mut first: u8 = 32;
-    let mut i: u8 = 0;
-    while i < 32 {
-        first = smaller(first, stop_at(bytes[from + i as usize], i));
-        i += 1;
+    for i in 0..32 {
+        first = first.min(stop_at(bytes[from + i as usize], i));
     }
     first
 }
 
-pub fn short_text(bytes: &[u8], at: usize, out: &mut [u8], pos: usize) -> Written
+pub fn short_text(bytes: &[u8], at: usize, out: &mut [u8], pos: usize) -> Option<Written>
     requires room { Room bytes.now at out.old pos }
     requires kind_of { KindOf (get_or bytes.now at 0) Text }
     ensures { LeafTold bytes.now at out.old out.new pos result }
@@ -70,11 +57,14 @@ pub fn short_text(bytes: &[u8], at: usize, out: &mut [u8], pos: usize) -> Writte
     let n = bytes[at] % 32;
     let from = at + 1;
     if first_stop(bytes, from) < n {
-        return none();
+        return None;
     }
     let p = put(b'"', out, pos);
     buffer::copy_at(&bytes[from..], BLOCK, out, p);
-    up_to(from + n as usize, put(b'"', out, p + n as usize))
+    Some(Written {
+        end: from + n as usize,
+        pos: put(b'"', out, p + n as usize),
+    })
 }
 
 // The digits of a quarter of a block, of the next one where it is reached, and so of the other half: most strings are short.
@@ -108,12 +98,15 @@ fn quoted_digits(bytes: &[u8], from: usize, n: usize, out: &mut [u8], pos: usize
     put(b'\'', out, q + 2 * n)
 }
 
-pub fn short_bytes(bytes: &[u8], at: usize, out: &mut [u8], pos: usize) -> Written
+pub fn short_bytes(bytes: &[u8], at: usize, out: &mut [u8], pos: usize) -> Option<Written>
     requires room { Room bytes.now at out.old pos }
     requires kind_of { KindOf (get_or bytes.now at 0) Bytes }
     ensures { LeafTold bytes.now at out.old out.new pos result }
 {
     let n = (bytes[at] % 32) as usize;
     let from = at + 1;
-    up_to(from + n, quoted_digits(bytes, from, n, out, pos))
+    Some(Written {
+        end: from + n,
+        pos: quoted_digits(bytes, from, n, out, pos),
+    })
 }

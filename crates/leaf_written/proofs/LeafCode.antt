@@ -1,14 +1,13 @@
 -- Leaves: what the definitions read behind an initial byte.
 -- Assumes nothing.
 use mathlib.Core.Path.{◌≡◌, refl, ap, ◌∙◌}
-use mathlib.Core.Bool.{true, false, false≢true}
+use mathlib.Core.Bool.{true, false}
 use mathlib.Core.List.{List, [], ◌∷◌}
-use Prim.Native.Nat.{ℕ, ◌+◌, ◌-◌, ◌/◌, ◌%◌, ◌≤◌, ◌<◌}
+use Prim.Native.Nat.{ℕ, ◌+◌, ◌/◌, ◌%◌, ◌≤◌, ◌<◌}
 use native.Mathlib.Omega.{arith}
-use lib.Dec.{leb}
 use lib.ListN.{length, take, drop, get_or, length-drop}
 use lib.Seq.{drop-drop}
-use borrow.Author.Tests.{leb-true, le-leb, lt-leb, eq-eqb}
+use borrow.Author.Tests.{le-leb, lt-leb, eq-eqb}
 use Rattle.cbor.specs.Refusals.{ok, bind}
 use Rattle.cbor.specs.Widths.{Width, w0, w1, w2, w4, argument_bytes, limit, fits, shortest, value_from}
 use Rattle.cbor.specs.Items.{Item, definite}
@@ -18,26 +17,9 @@ use Rattle.cbor.proofs.DecodeEncode.{enter_at, by-head}
 use Rattle.memory.proofs.Lists.{front}
 use Rattle.notation.specs.Printing.{indicator_of, print_item}
 use Rattle.leaf_written.specs.Laying.{Laid}
-use Rattle.leaf_written.specs.LeafTexts.{HasBlock, HasSpace, LeafTold}
-use Rattle.leaf_written.specs.declared.Written.{Written}
+use Rattle.leaf_written.specs.LeafTexts.{LeafTold}
+use Rattle.std.specs.declared.option.Option.TheVariants.{None, Some}
 use Rattle.leaf_written.proofs.LayCode.{laid_kept}
-
--- ROOM
-
-module _ {s : List ℕ} {at : ℕ} where
-  pub block_no : HasBlock s at false
-  block_no = record { is = λ e. absurd (false≢true e) }
-
-  pub block-is : 33 ≤ length s → HasBlock s at (leb at (length s - 33))
-  block-is h = record { is = λ e. omega (arith, leb-true at (length s - 33) e) }
-
-  pub space-no : HasSpace s at false
-  space-no = record { is = λ e. absurd (false≢true e) }
-
-  pub space-is : 82 ≤ length s → HasSpace s at (leb at (length s - 82))
-  space-is h = record { is = λ e. omega (arith, leb-true at (length s - 82) e) }
-
-pub ruleset room_ways = (block_no, block-is, space-no, space-is)
 
 -- HEADS
 
@@ -90,8 +72,8 @@ module _ (s : List ℕ) (at : ℕ) (w : Width) (h : at + 1 + argument_bytes w �
 -- THE ANSWER
 
 module _ {s : List ℕ} {at : ℕ} {b : List ℕ} {pos : ℕ} where
-  pub told_none : {b' : List ℕ} {r : Written} → r ≡ record { end = 0; pos = 0 } → length b' ≡ length b → take pos b' ≡ take pos b → LeafTold s at b b' pos r
-  told_none {r = r} e l k = record { same = l; kept = k; told = λ h. absurd (let z : r.end ≡ 0 = ap (λ (w : Written). w.end) e in omega arith) }
+  pub told_none : {b' : List ℕ} → length b' ≡ length b → take pos b' ≡ take pos b → LeafTold s at b b' pos None
+  told_none l k = record { same = l; kept = k; told = tt }
 
-  pub told-leaf : {b' : List ℕ} (x : Item) {e q : ℕ} → ((d : ℕ) → item d (drop at s) ≡ ok x (drop e s)) → e ≤ length s → Laid b b' pos (print_item x) q → LeafTold s at b b' pos (record { end = e; pos = q })
-  told-leaf x i l y = record { same = y.same; kept = laid_kept y; told = λ h. record { value = x; is = i; inside = l; laid = y } }
+  pub told-leaf : {b' : List ℕ} (x : Item) {e q : ℕ} → ((d : ℕ) → item d (drop at s) ≡ ok x (drop e s)) → e ≤ length s → Laid b b' pos (print_item x) q → LeafTold s at b b' pos (Some (record { end = e; pos = q }))
+  told-leaf x i l y = record { same = y.same; kept = laid_kept y; told = record { value = x; is = i; inside = l; laid = y } }

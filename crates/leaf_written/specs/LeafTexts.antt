@@ -1,5 +1,6 @@
 -- Of the code: leaves that are written at a glance. What is said of them holds where they are, and no more is said.
-use Rattle.std.specs.Prelude.{ℕ, ◌+◌, ◌≤◌, ◌<◌, ◌≡◌, Bool, true, List, length, take, drop}
+use Rattle.std.specs.Prelude.{ℕ, ◌+◌, ◌≤◌, ◌≡◌, Bool, true, List, length, take, drop, IfSome}
+use Rattle.std.specs.declared.option.Option.{Option}
 use Rattle.cbor.specs.Refusals.{ok}
 use Rattle.cbor.specs.Items.{Item}
 use Rattle.cbor.specs.Decode.{item}
@@ -25,8 +26,8 @@ pub record Leaf (s : List ℕ) (at : ℕ) (b b' : List ℕ) (pos : ℕ) (r : Wri
   pub inside : r.end ≤ length s
   pub laid : Laid b b' pos (print_item value) r.pos
 
--- it is written, unless the answer's end is 0
-pub record LeafTold (s : List ℕ) (at : ℕ) (b b' : List ℕ) (pos : ℕ) (r : Written) : Type 0 where
+-- it is written, where the answer tells of it
+pub record LeafTold (s : List ℕ) (at : ℕ) (b b' : List ℕ) (pos : ℕ) (r : Option Written) : Type 0 where
   pub same : length b' ≡ length b
   pub kept : take pos b' ≡ take pos b
-  pub told : 0 < r.end → Leaf s at b b' pos r
+  pub told : IfSome r (λ w. Leaf s at b b' pos w)

@@ -5,23 +5,11 @@ ghost use Rattle.std.specs.Prelude.{◌≡◌, [], ◌∷◌, ◌<◌, length};
 ghost use Rattle.leaf_written.specs.Laying.{Laid};
 ghost use Rattle.leaf_written.specs.LeafTexts.{HasBlock, HasSpace};
 
-// An item ends before `end`, and its text before `pos`. Nothing is told where `end` is 0.
+// An item ends before `end`, and its text before `pos`.
 #[derive(Drop)]
 pub struct Written {
     pub end: usize,
     pub pos: usize,
-}
-
-pub fn none() -> Written
-    ensures { result ≡ record { end = 0; pos = 0 } }
-{
-    Written { end: 0, pos: 0 }
-}
-
-pub fn up_to(end: usize, pos: usize) -> Written
-    ensures { result ≡ record { end = end; pos = pos } }
-{
-    Written { end, pos }
 }
 
 // The initial byte of a leaf and the block behind it; the longest text of a leaf, and two bytes before it.
@@ -29,22 +17,17 @@ const BLOCK: usize = 33;
 
 const SPACE: usize = 82;
 
+// `quick_leaf` has the same test of its own: neither of the two crates stands on the other, and a third one for a line is no plainer.
 pub fn has_block(bytes: &[u8], at: usize) -> bool
     ensures { HasBlock bytes.now at result }
 {
-    if bytes.len() < BLOCK {
-        return false;
-    }
-    at <= bytes.len() - BLOCK
+    BLOCK <= bytes.len() && at <= bytes.len() - BLOCK
 }
 
 pub fn has_space(out: &[u8], pos: usize) -> bool
     ensures { HasSpace out.now pos result }
 {
-    if out.len() < SPACE {
-        return false;
-    }
-    pos <= out.len() - SPACE
+    SPACE <= out.len() && pos <= out.len() - SPACE
 }
 
 // A letter.

@@ -2,7 +2,7 @@
 -- Assumes nothing.
 use mathlib.Core.Path.{◌≡◌, refl, sym, ap, ◌∙◌, subst⁻¹}
 use mathlib.Core.List.{List, [], ◌∷◌, ◌++◌, append_assoc, append-nil}
-use mathlib.Core.Bool.{Bool, true, false, ◌||◌}
+use mathlib.Core.Bool.{Bool, true, false, ◌&&◌, ◌||◌}
 use Prim.Native.Nat.{ℕ, zero, suc, ◌+◌, ◌-◌, ◌*◌, ◌/◌, ◌%◌, ◌≤◌, ◌<◌, min}
 use native.Mathlib.Numerals.{add-one}
 use native.Mathlib.Nat.{add-zero}
@@ -12,7 +12,7 @@ use lib.ListN.{length, take, drop, set, get_or, replicate, length-append, length
 use lib.Seq.{drop-cons, drop_at, take_at}
 use borrow.Author.Tests.{le-leb, lt-leb, lt-ltb, le-ltb, eq-eqb, ne_eqb, eqb-true, leb-true, leb-false}
 use Rattle.cbor.specs.Refusals.{Result, ok, refuse, bind, no_token}
-use Rattle.cbor.specs.Utf8.{is_in}
+use Rattle.cbor.specs.Utf8.{◌to◌, is_in}
 use Rattle.memory.specs.Buffer.{over}
 use Rattle.memory.proofs.Buffer.{over_nil, over-one, over-more}
 use Rattle.cbor.proofs.Table.{every, between}
@@ -25,6 +25,10 @@ use Rattle.scanning.specs.TextRuns.{Textual, TextRun}
 use Rattle.scanning.proofs.ClassCode.{slash-at, hash_at}
 use Rattle.literal_body.specs.LiteralAnswers.{digit_number, HexThere, scanned_by, Raw, decoded_by, Decodes, Put, body_byte, BodyByte}
 use Rattle.literal_body.specs.declared.LiteralScan.{LiteralScan}
+use Rattle.literal_body.specs.declared.RawByte.{RawByte}
+use Rattle.literal_body.specs.declared.RawByte.TheVariants.{Stands, Ends, Refused}
+use Rattle.std.specs.Prelude.{Option, None, Some}
+use Rattle.std.proofs.lemmas.Option.{none-some, same_Some}
 
 -- BYTES
 
@@ -56,20 +60,37 @@ module _ {b : ℕ} where
   unfolding digit_number is_in
   digit_lower l h = a-digit 0x61 0x67 l h 0x57 tt
 
--- the value of a digit, by one rule for all of them
-unfoldable pub ruled : ℕ → Bool
-ruled k = eqb (k % 16 + k / 64 * 9) (digit_number k)
+abbrev digit_by : ℕ → Bool → Bool → Bool → Digit
+digit_by b t v w = elim t [ true ↦ worth (b - 0x30) | false ↦ elim v [ true ↦ worth (b - 0x57) | false ↦ elim w [ true ↦ worth (b - 0x37) | false ↦ no_digit ] ] ]
 
-abbrev pub hex_keys : List ℕ
-hex_keys = 0x30 ∷ 0x31 ∷ 0x32 ∷ 0x33 ∷ 0x34 ∷ 0x35 ∷ 0x36 ∷ 0x37 ∷ 0x38 ∷ 0x39 ∷ 0x41 ∷ 0x42 ∷ 0x43 ∷ 0x44 ∷ 0x45 ∷ 0x46 ∷ 0x61 ∷ 0x62 ∷ 0x63 ∷ 0x64 ∷ 0x65 ∷ 0x66 ∷ []
+range-not : (l h b : ℕ) → (l ≤ b → h < b) → is_in (l to h) b ≡ false
+unfolding is_in
+range-not l h b f = go (leb l b) refl
+  where
+    go : (t : Bool) → leb l b ≡ t → t && leb b h ≡ false
+    go true e = let g = f (leb-true l b e) in lt-leb b h g
+    go false e = refl
 
 module _ {b : ℕ} where
-  pub hex-key : {k : ℕ} → b ≡ k → T (ruled k) → HexThere b true
-  unfolding ruled
-  hex-key {k} e t = record { some = λ u. eqb→eq (b % 16 + b / 64 * 9) (digit_number b) (rw e t); none = λ u. absurd (true_false u) }
+  hex-some : b % 16 + b / 64 * 9 ≡ digit_number b → HexThere b true
+  hex-some e = record { some = λ u. e; none = λ u. absurd (true_false u) }
 
-  pub hex-none : 99 ≡ digit_number b → HexThere b false
-  hex-none e = record { some = λ u. absurd (true_false (sym u)); none = λ u. e }
+  pub hex-decimal : 0x30 ≤ b → b ≤ 0x39 → HexThere b true
+  hex-decimal l h = hex-some (omega arith ∙ digit-decimal l (omega arith))
+
+  pub hex-upper : 0x41 ≤ b → b ≤ 0x46 → HexThere b true
+  hex-upper l h = hex-some (omega arith ∙ digit_upper l (omega arith))
+
+  pub hex-lower : 0x61 ≤ b → b ≤ 0x66 → HexThere b true
+  hex-lower l h = hex-some (omega arith ∙ digit_lower l (omega arith))
+
+  pub hex-none : (0x30 ≤ b → 0x39 < b) → (0x41 ≤ b → 0x46 < b) → (0x61 ≤ b → 0x66 < b) → HexThere b false
+  unfolding digit_number
+  hex-none d u l =
+      record { some = λ z. absurd (true_false (sym z)); none = λ z. sym (go _ _ _ (range-not 0x30 0x39 b d) (range-not 0x61 0x66 b l) (range-not 0x41 0x46 b u)) }
+    where
+      go : (t v w : Bool) → t ≡ false → v ≡ false → w ≡ false → ◌≡◌ {A = ℕ} (elim (digit_by b t v w) [ worth x ↦ x | no_digit ↦ 99 ]) 99
+      go t v w e f g = rw (e, f, g)
 
   pub value-some : {t : Bool} → HexThere b t → t ≡ true → b % 16 + b / 64 * 9 ≡ digit_number b
   value-some x e = x.some e
@@ -194,20 +215,20 @@ put_two x y = put-more x y
 -- THE RAW TEXT
 
 module _ (b : ℕ) where
-  pub body-quote : b ≡ 0x27 → BodyByte b 1
+  pub body-quote : b ≡ 0x27 → BodyByte b Ends
   unfolding body_byte
   body-quote e = record { is = rw e }
 
-  pub body_backslash : (b ≡ 0x27 → ⊥) → b ≡ 0x5c → BodyByte b 2
+  pub body_backslash : b ≡ 0x5c → BodyByte b Refused
   unfolding body_byte
-  body_backslash n e = record { is = rw e }
+  body_backslash e = record { is = rw e }
 
   module _ (n : b ≡ 0x27 → ⊥) (n₂ : b ≡ 0x5c → ⊥) where
-    body_is : (t : Bool) → is_body b ≡ t → body_byte b ≡ elim t [ true ↦ 0 | false ↦ 2 ]
+    body_is : (t : Bool) → is_body b ≡ t → body_byte b ≡ elim t [ true ↦ Stands | false ↦ Refused ]
     unfolding body_byte
     body_is t e = simp (body_byte, ne_eqb b 0x27 n, ne_eqb b 0x5c n₂, e)
 
-    pub body_plain : b < 256 → 0x20 ≤ b → BodyByte b 0
+    pub body_plain : b < 256 → 0x20 ≤ b → BodyByte b Stands
     unfolding is_body
     body_plain u h =
         let l : b ≤ 0xff = omega arith in
@@ -227,10 +248,10 @@ module _ (b : ℕ) where
           or_false true = refl
           or_false false = refl
 
-      pub body-blank : t ≡ true → BodyByte b 0
+      pub body-blank : t ≡ true → BodyByte b Stands
       body-blank e = record { is = sym (body_is true (body-low ∙ e)) }
 
-      pub body-other : t ≡ false → BodyByte b 2
+      pub body-other : t ≡ false → BodyByte b Refused
       body-other e = record { is = sym (body_is false (body-low ∙ e)) }
 
 pub ruleset body_ways = (body-quote, body_backslash, body_plain, body-blank, body-other)
@@ -249,32 +270,22 @@ unfolding bind
 pre_pre u w (ok c r) = ap (λ (x : List ℕ). ok x r) (sym (append_assoc u w c))
 pre_pre u w (refuse n q) = refl
 
-body_next : ℕ → ℕ → List ℕ → Result (List ℕ)
-body_next zero b s = pre (b ∷ []) (body s)
-body_next (suc zero) b s = ok [] s
-body_next (suc (suc k)) b s = fault no_token
+body_next : RawByte → ℕ → List ℕ → Result (List ℕ)
+body_next Stands b s = pre (b ∷ []) (body s)
+body_next Ends b s = ok [] s
+body_next Refused b s = fault no_token
 
-body-next : (b k : ℕ) (s : List ℕ) → k ≡ body_byte b → body (b ∷ s) ≡ body_next k b s
+body-next : (b : ℕ) (k : RawByte) (s : List ℕ) → k ≡ body_byte b → body (b ∷ s) ≡ body_next k b s
 unfolding body body_byte body_next
-body-next b k s e = go (eqb b 0x27) (eqb b 0x5c) (is_body b) ∙ ap (λ (x : ℕ). body_next x b s) (sym e)
+body-next b k s e = go (eqb b 0x27) (eqb b 0x5c) (is_body b) ∙ ap (λ (x : RawByte). body_next x b s) (sym e)
   where
     go : (t u v : Bool) → ◌≡◌ {A = Result (List ℕ)}
         (elim t [ true ↦ ok [] s | false ↦ elim u [ true ↦ fault no_token | false ↦ elim v [ true ↦ bind (body s) (λ c r. ok (b ∷ c) r) | false ↦ fault no_token ] ] ])
-        (body_next (elim t [ true ↦ 1 | false ↦ elim u [ true ↦ 2 | false ↦ elim v [ true ↦ 0 | false ↦ 2 ] ] ]) b s)
+        (body_next (elim t [ true ↦ Ends | false ↦ elim u [ true ↦ Refused | false ↦ elim v [ true ↦ Stands | false ↦ Refused ] ] ]) b s)
     go true u v = refl
     go false true v = refl
     go false false true = refl
     go false false false = refl
-
-body-zero : (b k : ℕ) → k ≡ body_byte b → (k ≡ 1 → ⊥) → (k ≡ 2 → ⊥) → k ≡ 0
-unfolding body_byte
-body-zero b k e n₁ n₂ = go (eqb b 0x27) (eqb b 0x5c) (is_body b) e
-  where
-    go : (t u v : Bool) → k ≡ elim t [ true ↦ 1 | false ↦ elim u [ true ↦ 2 | false ↦ elim v [ true ↦ 0 | false ↦ 2 ] ] ] → k ≡ 0
-    go true u v q = absurd (n₁ q)
-    go false true v q = absurd (n₂ q)
-    go false false true q = q
-    go false false false q = absurd (n₂ q)
 
 pub ok-content : {c d r t : List ℕ} → ◌≡◌ {A = Result (List ℕ)} (ok c r) (ok d t) → c ≡ d
 ok-content e = cc
@@ -292,42 +303,42 @@ body-start {s} {at} =
     record { done = []; from = omega arith; sized = omega arith; split = refl; left = sym (pre_nil (body (drop at (marked s)))) }
 
 -- a raw text that does not end well
-raw_no : {s : List ℕ} {at : ℕ} {r : LiteralScan} {res : Result (List ℕ)} → r ≡ record { good = false; next = at; size = 0 } → res ≡ fault no_token → Raw s at r res
+raw_no : {s : List ℕ} {at : ℕ} {res : Result (List ℕ)} → res ≡ fault no_token → Raw s at None res
 unfolding scanned_by
-raw_no {s} {at} {r} {res} u e =
-    subst⁻¹ (λ (x : LiteralScan). Raw s at x res) u
-    (record {
-      scans = rw e (record { by = refl });
-      is = λ c rest q. let w : ◌≡◌ {A = ℕ} 0 1 = cc in absurd (omega arith);
-      next = λ q. absurd (true_false (sym q));
-    })
+raw_no e =
+    record {
+      scans = rw e (record { by = tt });
+      is = λ x c rest u q. absurd (none-some x u);
+      next = λ x u. absurd (none-some x u);
+    }
 
 -- a byte of it
-module _ {s : List ℕ} {at i : ℕ} (inv : Body s at i) {k : ℕ} (h : i < length s) (x : BodyByte (get_or s i 0) k) where
+module _ {s : List ℕ} {at i : ℕ} (inv : Body s at i) {k : RawByte} (h : i < length s) (x : BodyByte (get_or s i 0) k) where
   here : body (drop at (marked s)) ≡ pre inv.done (body_next k (get_or s i 0) (drop (i + 1) (marked s)))
   here =
       inv.left
       ∙ ap (λ (u : List ℕ). pre inv.done (body u)) (front-marked s i h)
       ∙ ap (pre inv.done) (body-next (get_or s i 0) k (drop (i + 1) (marked s)) x.is)
 
-  byte-closes : k ≡ 1 → Raw s at (record { good = true; next = i + 1; size = i - at }) (body (drop at (marked s)))
+  byte-closes : k ≡ Ends → Raw s at (Some (record { next = i + 1; size = i - at })) (body (drop at (marked s)))
   unfolding scanned_by body_next bind
   byte-closes e =
       let r : body (drop at (marked s)) ≡ ok (inv.done ++ []) (drop (i + 1) (marked s)) = rw e at here in
       let r' : body (drop at (marked s)) ≡ ok inv.done (drop (i + 1) (marked s)) = r ∙ ap (λ (u : List ℕ). ok u (drop (i + 1) (marked s))) (append-nil inv.done) in
       record {
-        scans = rw r' (record { by = record { good = refl; size = sym inv.sized; left = refl; inside = omega arith; ahead = omega (arith, inv.from); short = omega (arith, inv.from) } });
-        is = λ c rest q.
+        scans = rw r' (record { by = record { size = sym inv.sized; left = refl; inside = omega arith; ahead = omega (arith, inv.from); short = omega (arith, inv.from) } });
+        is = λ x c rest u q.
             let f : c ≡ inv.done = ok-content (sym q ∙ r') in
-            f ∙ sym (ap (take (i - at)) inv.split ∙ take_at inv.done (drop i s) (i - at) inv.sized);
-        next = λ q. omega (arith, inv.from);
+            let n : x.size ≡ i - at = sym (ap (λ (y : LiteralScan). y.size) (same_Some _ _ u)) in
+            rw n (f ∙ sym (ap (take (i - at)) inv.split ∙ take_at inv.done (drop i s) (i - at) inv.sized));
+        next = λ x u. rw (← same_Some _ _ u) (omega (arith, inv.from));
       }
 
-  byte-wrong : k ≡ 2 → body (drop at (marked s)) ≡ fault no_token
+  byte-wrong : k ≡ Refused → body (drop at (marked s)) ≡ fault no_token
   unfolding body_next bind
   byte-wrong e = rw e at here
 
-  byte-stands : k ≡ 0 → Body s at (i + 1)
+  byte-stands : k ≡ Stands → Body s at (i + 1)
   unfolding body_next
   byte-stands z =
       let b = get_or s i 0 in
@@ -348,11 +359,11 @@ bytes-stand {s} {at} {i} (suc n) inv f l =
     let x = body_plain (get_or s i 0) t.first t.second t.high t.low in
     rw z at (bytes-stand {i = i + 1} n (byte-stands inv (omega arith) x refl) (λ j a b. f j (omega arith) (omega arith)) (omega arith))
 
-pub body_end : {s : List ℕ} {at i : ℕ} {r : LiteralScan} → Body s at i → length s ≤ i → r ≡ record { good = false; next = at; size = 0 } → Raw s at r (body (drop at (marked s)))
+pub body_end : {s : List ℕ} {at i : ℕ} → Body s at i → length s ≤ i → Raw s at None (body (drop at (marked s)))
 unfolding body is_body is class_number class_of class_in class_rows is_in bind
-body_end {s} {at} {i} inv h u =
+body_end {s} {at} {i} inv h =
     let e : body (drop i (marked s)) ≡ fault no_token = past (λ u. body u ≡ fault no_token) s i h refl refl in
-    raw_no u (inv.left ∙ ap (pre inv.done) e)
+    raw_no (inv.left ∙ ap (pre inv.done) e)
 
 module _ {s : List ℕ} {at i stop : ℕ} (inv : Body s at i) (y : TextRun s 0x27 0x5c i stop) where
   body_run : Body s at stop
@@ -360,18 +371,18 @@ module _ {s : List ℕ} {at i stop : ℕ} (inv : Body s at i) (y : TextRun s 0x2
       let z : i + (stop - i) ≡ stop = omega (arith, y.ahead) in
       rw z at (bytes-stand (stop - i) inv (λ j a b. y.is j a (omega arith)) (omega (arith, y.inside)))
 
-  pub body_open : {r : LiteralScan} → length s ≤ stop → r ≡ record { good = false; next = at; size = 0 } → Raw s at r (body (drop at (marked s)))
-  body_open h u = body_end body_run h u
+  pub body_open : length s ≤ stop → Raw s at None (body (drop at (marked s)))
+  body_open h = body_end body_run h
 
-  module _ {k : ℕ} (h : stop < length s) (x : BodyByte (get_or s stop 0) k) where
-    pub body_close : k ≡ 1 → Raw s at (record { good = true; next = stop + 1; size = stop - at }) (body (drop at (marked s)))
-    body_close e = byte-closes body_run h x e
+  module _ (h : stop < length s) where
+    pub body_close : BodyByte (get_or s stop 0) Ends → Raw s at (Some (record { next = stop + 1; size = stop - at })) (body (drop at (marked s)))
+    body_close x = byte-closes body_run h x refl
 
-    pub body-wrong : {r : LiteralScan} → k ≡ 2 → r ≡ record { good = false; next = at; size = 0 } → Raw s at r (body (drop at (marked s)))
-    body-wrong e u = raw_no u (byte-wrong body_run h x e)
+    pub body-wrong : BodyByte (get_or s stop 0) Refused → Raw s at None (body (drop at (marked s)))
+    body-wrong x = raw_no (byte-wrong body_run h x refl)
 
-    pub body-on : (k ≡ 1 → ⊥) → (k ≡ 2 → ⊥) → Body s at (stop + 1)
-    body-on n₁ n₂ = byte-stands body_run h x (body-zero (get_or s stop 0) k x.is n₁ n₂)
+    pub body-on : BodyByte (get_or s stop 0) Stands → Body s at (stop + 1)
+    body-on x = byte-stands body_run h x refl
 
 pub ruleset raw_ways = (body_open, body_close, body-wrong, body_end)
 
@@ -390,5 +401,5 @@ after-after u w bad = refl
 pub content-is : {c d : List ℕ} → stands_for c ≡ stands_for d → c ≡ d
 content-is e = cc
 
-pub decodes : {r : LiteralScan} {res : Content} (res' : Content) → res ≡ res' → decoded_by r res' → Decodes r res
+pub decodes : {r : Option LiteralScan} {res : Content} (res' : Content) → res ≡ res' → decoded_by r res' → Decodes r res
 decodes res' e d = rw e (record { by = d })

@@ -9,6 +9,7 @@ use lib.Dec.{leb}
 use lib.ListN.{length, take, drop, get_or, length-append, length-drop}
 use lib.Seq.{take_all}
 use borrow.Author.Tests.{leb-true, leb-false}
+use Rattle.std.specs.Prelude.{Some, None}
 use Rattle.memory.specs.Buffer.{over}
 use Rattle.notation.specs.Literals.{Content, stands_for, bad, after}
 use Rattle.scanning.specs.Stands.{span}
@@ -77,13 +78,13 @@ whole : {content : List ℕ → Content} {s : List ℕ} {at stop : ℕ} (end : �
     → content (span r.next stop s) ≡ res → content (take (end - at) (drop at s)) ≡ after x.done res
 whole {content} {s} {at} {stop} end e x res f = ap content (span-least s at end stop e) ∙ x.yields.is ∙ ap (after x.done) f
 
-module _ {content : List ℕ → Content} {s : List ℕ} {at end stop : ℕ} (e : stop ≡ min end (length s)) {b b' : List ℕ} {p : ℕ} {r : Progress} (x : Progressed content s stop at b b' p r) where
-  pub decodes-good : content (span r.next stop s) ≡ stands_for [] → DecodesInto b b' p (record { good = true; next = end; size = r.size }) (content (take (end - at) (drop at s)))
+module _ {content : List ℕ → Content} {s : List ℕ} {at : ℕ} (end : ℕ) {stop : ℕ} (e : stop ≡ min end (length s)) {b b' : List ℕ} {p : ℕ} {r : Progress} (x : Progressed content s stop at b b' p r) where
+  pub decodes-good : content (span r.next stop s) ≡ stands_for [] → DecodesInto b b' p (Some (record { next = end; size = r.size })) (content (take (end - at) (drop at s)))
   unfolding after decoded_by
   decodes-good f =
       let g : content (take (end - at) (drop at s)) ≡ stands_for x.done = whole end e x (stands_for []) f ∙ ap stands_for (append-nil x.done) in
       record {
-        decodes = decodes (stands_for x.done) g (refl, x.size);
+        decodes = decodes (stands_for x.done) g x.size;
         fills = record {
           same = x.same;
           is = λ c q k.
@@ -93,8 +94,8 @@ module _ {content : List ℕ → Content} {s : List ℕ} {at end stop : ℕ} (e 
         };
       }
 
-  pub decodes-bad : {z : ℕ} → content (span r.next stop s) ≡ bad → DecodesInto b b' p (record { good = false; next = end; size = z }) (content (take (end - at) (drop at s)))
+  pub decodes-bad : content (span r.next stop s) ≡ bad → DecodesInto b b' p None (content (take (end - at) (drop at s)))
   unfolding after decoded_by
   decodes-bad f =
       let g = whole end e x bad f in
-      record { decodes = decodes bad g refl; fills = record { same = x.same; is = λ c q. let w : ◌≡◌ {A = ℕ} 0 1 = cc in absurd (omega arith) } }
+      record { decodes = decodes bad g tt; fills = record { same = x.same; is = λ c q. let w : ◌≡◌ {A = ℕ} 0 1 = cc in absurd (omega arith) } }

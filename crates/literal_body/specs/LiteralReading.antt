@@ -1,5 +1,5 @@
 -- Of the code: how far the text of an encoded literal is read, and what was made of it. `content` says what a text stands for.
-use Rattle.std.specs.Prelude.{ℕ, ◌-◌, ◌≤◌, ◌<◌, max, ◌≡◌, List, length}
+use Rattle.std.specs.Prelude.{ℕ, ◌-◌, ◌≤◌, ◌<◌, max, ◌≡◌, List, Option, length}
 use Rattle.notation.specs.Literals.{Content, after}
 use Rattle.scanning.specs.Stands.{span}
 use Rattle.literal_body.specs.LiteralAnswers.{Decodes, Put, Fills}
@@ -34,6 +34,6 @@ pub record Progressed (content : List ℕ → Content) (s : List ℕ) (stop from
   pub same : length b' ≡ length b
 
 -- a whole literal is read
-pub record DecodesInto (b b' : List ℕ) (p : ℕ) (r : LiteralScan) (res : Content) : Type 0 where
+pub record DecodesInto (b b' : List ℕ) (p : ℕ) (r : Option LiteralScan) (res : Content) : Type 0 where
   pub decodes : Decodes r res
   pub fills : Fills b b' p res

@@ -16,11 +16,7 @@ use Rattle.walk_answer.specs.WalkAnswers.{pass_told, walk_told, contents, conten
 use Rattle.refusal.specs.declared.Refusal.{Refusal}
 use Rattle.refusal.specs.declared.RefusalKind.TheVariants.{NoSuchPath}
 use Rattle.walk_answer.specs.declared.WalkedItem.{WalkedItem}
-use Rattle.walk_answer.specs.declared.Walked.{Walked}
-use Rattle.walk_answer.specs.declared.Walked.TheVariants.{Made as MadeV, Refused as WalkRefusedV}
 use Rattle.walk_answer.specs.declared.Passage.{Passage}
-use Rattle.walk_answer.specs.declared.Passed.{Passed}
-use Rattle.walk_answer.specs.declared.Passed.TheVariants.{Span as SpanV, Refused as RefusedV}
 use Rattle.cbor.proofs.DecodeEncode.{item_of_encode}
 use Rattle.cbor.proofs.EncodeDecode.{encode_of_decode}
 use Rattle.cbor.proofs.Paths.{part-at-path}
@@ -31,17 +27,14 @@ use Rattle.path.specs.Following.{at, trace}
 use Rattle.path.specs.StepAnswers.{traced_to, Still, Traced}
 use Rattle.looking.specs.GuidedAnswers.{WayThrough, IfFound, Through}
 use Rattle.looking.specs.declared.guided.Way.{Way}
-use Rattle.looking.specs.declared.guided.Guided.{Guided}
-use Rattle.looking.specs.declared.guided.Guided.TheVariants.{Found as FoundWay}
 use Rattle.part.specs.PartAnswers.{part_found, locate_refused, locate_told, locate_of, Ordered, taken}
 use Rattle.part.proofs.Taking.{taken_is}
 use Rattle.looking.specs.Answers.{Checks, Accepts, Parts}
 use Rattle.path.specs.declared.Cursor.{Cursor}
-use Rattle.part.specs.declared.Located.{Located}
-use Rattle.part.specs.declared.Located.TheVariants.{Part as PartV, Refused as PartRefused}
-use Rattle.path.specs.declared.Trace.{Trace}
-use Rattle.path.specs.declared.Trace.TheVariants.{At, Lost}
 use Rattle.path.proofs.Traces.{SoundAll, spotted, locate-place, locate_sound}
+use Rattle.std.specs.Prelude.{Ok, Err, Some}
+use Rattle.std.specs.Prelude as std
+use Rattle.part.specs.declared.Part.{Part}
 
 -- bytes that were checked, with their items
 pub record Read (s : List ℕ) : Type 0 where
@@ -50,14 +43,14 @@ pub record Read (s : List ℕ) : Type 0 where
   pub same : encode_all items ≡ s
   pub sound : SoundAll items
 
-read_of : (s : List ℕ) (m : Passage) (res : Result Items) → Bytes s → decode s ≡ res → pass_told (SpanV m) ≡ told_of (length s) (map_result contents_all res) → Read s
+read_of : (s : List ℕ) (m : Passage) (res : Result Items) → Bytes s → decode s ≡ res → pass_told (Ok m) ≡ told_of (length s) (map_result contents_all res) → Read s
 unfolding pass_told told_of map_result items_of verdict_of
 read_of s m (ok xs r) b e h =
     let d = encode_of_decode s xs r b e in
     record { items = xs; is = ap (verdict_of (length s)) e; same = d.same; sound = (d.valid, d.low) }
 read_of s m (refuse n l) b e h = let z : ◌≡◌ {A = ℕ} 0 1 = cc in absurd (omega arith)
 
-refused_of : (s path : List ℕ) (e : Refusal) (res : Result Items) → decode s ≡ res → pass_told (RefusedV e) ≡ told_of (length s) (map_result contents_all res) → locate_told (PartRefused e) ≡ locate_of (look_up s path)
+refused_of : (s path : List ℕ) (e : Refusal) (res : Result Items) → decode s ≡ res → pass_told (Err e) ≡ told_of (length s) (map_result contents_all res) → locate_told (Err e) ≡ locate_of (look_up s path)
 unfolding pass_told told_of map_result items_of verdict_of look_up and_then locate_told locate_of
 refused_of s path e (ok xs r) d h = let z : ◌≡◌ {A = ℕ} 0 1 = cc in absurd (omega arith)
 refused_of s path e (refuse k l) d h =
@@ -111,12 +104,12 @@ found_at t (nowhere j) e = let z : ◌≡◌ {A = ℕ} 0 1 = cc in absurd (omega
 
 -- THE CHECK
 
-module _ {s : List ℕ} {a : Passed} (ch : Checks s a) where
-  pub check_refused_lem : {path : List ℕ} {e : Refusal} → a ≡ RefusedV e → Parts s path (PartRefused e)
+module _ {s : List ℕ} {a : std.Result Passage Refusal} (ch : Checks s a) where
+  pub check_refused_lem : {path : List ℕ} {e : Refusal} → a ≡ Err e → Parts s path (Err e)
   unfolding walk_all_of Ordered
   check_refused_lem {path} {e} f = record { is = refused_of s path e (decode s) refl (rw f at ch.is); inside = tt }
 
-  pub check_accepted : {m : Passage} → a ≡ SpanV m → Accepts s
+  pub check_accepted : {m : Passage} → a ≡ Ok m → Accepts s
   check_accepted {m} f = record { whole = m; checks = rw f at ch }
 
 -- STEP BY STEP
@@ -126,14 +119,14 @@ unfolding walk_all_of
 read_in {s} ac = read_of s ac.whole (decode s) ac.checks.bytes refl ac.checks.is
 
 module _ {s path : List ℕ} (ac : Accepts s) where
-  module _ {tr : Trace} (told : Traced s path tr) where
-    pub part-lost : {i : ℕ} {r : Located} → tr ≡ Lost i → r ≡ PartRefused (record { kind = NoSuchPath; place = i }) → Parts s path r
+  module _ {tr : std.Result Cursor ℕ} (told : Traced s path tr) where
+    pub part-lost : {i : ℕ} {r : std.Result Part Refusal} → tr ≡ Err i → r ≡ Err (record { kind = NoSuchPath; place = i }) → Parts s path r
     unfolding traced_to locate_told locate_of Ordered kind_number
     part-lost {i} e h =
         let t : nowhere i ≡ spotted (locate path (read_in ac).items) [] = sym (ap (traced_to s) e) ∙ told.is ∙ trace-is path (read_in ac) in
         rw h (record { is = sym (ap locate_of (look_is path (read_in ac) ∙ lost-at s i (locate path (read_in ac).items) t)); inside = tt })
 
-    module _ {c : Cursor} (e : tr ≡ At c) where
+    module _ {c : Cursor} (e : tr ≡ Ok c) where
       pub part_room : c.at ≤ length s
       unfolding Still
       part_room = rw e at told.inside
@@ -145,17 +138,17 @@ module _ {s path : List ℕ} (ac : Accepts s) where
       spot-stands : Stands s c.at spot.0
       spot-stands = stands_of s path (read_in ac) c.at spot.0 part_room spot.1 spot.2
 
-      module _ (inner : Walked) (long : length s * 1 < 2 ^ 63)
-          (walked : walk_told inner ≡ walk_of (length (take (length s - c.at) (drop c.at s))) (item_at 16 (take (length s - c.at) (drop c.at s)))) (whole : Walked)
+      module _ (inner : std.Result WalkedItem Refusal) (long : length s * 1 < 2 ^ 63)
+          (walked : walk_told inner ≡ walk_of (length (take (length s - c.at) (drop c.at s))) (item_at 16 (take (length s - c.at) (drop c.at s)))) (whole : std.Result WalkedItem Refusal)
           (after : walk_told whole ≡ item_after c.at (walk_told inner)) where
         whole-told : walk_told whole ≡ walk_of (length s) (ok spot.0.item spot.0.behind)
         whole-told = item-told 16 s c.at inner whole part_room long walked after ∙ ap (walk_of (length s)) spot-stands.reads
 
-        pub part_gone : {x : Refusal} → whole ≡ WalkRefusedV x → Parts s path (PartRefused x)
+        pub part_gone : {x : Refusal} → whole ≡ Err x → Parts s path (Err x)
         unfolding walk_told walk_of
         part_gone g = let h = rw g at whole-told in let z : ◌≡◌ {A = ℕ} 0 1 = cc in absurd (omega arith)
 
-        pub part-made : {w : WalkedItem} {r : Located} → whole ≡ MadeV w → r ≡ PartV (record { start = c.at; end = w.end }) → Parts s path r
+        pub part-made : {w : WalkedItem} {r : std.Result Part Refusal} → whole ≡ Ok w → r ≡ Ok (record { start = c.at; end = w.end }) → Parts s path r
         unfolding walk_told walk_of locate_told locate_of spot_of Ordered
         part-made {w} g h =
             let k = rw g at whole-told in
@@ -182,7 +175,7 @@ module _ {s path : List ℕ} {w : Way} (v : WayThrough s path w) where
         checks = record { is = all_short s v.short (sym (ap (told_of (length s)) v.walks.is)); bytes = v.bytes };
       }
 
-  through_trace : Traced s path (At (record { at = w.start }))
+  through_trace : Traced s path (Ok (record { at = w.start }))
   unfolding traced_to Still
   through_trace = record { is = sym v.traces; inside = v.starts }
 
@@ -192,7 +185,7 @@ module _ {s path : List ℕ} {w : Way} (v : WayThrough s path w) where
   ends_alike (ok y t) x r n e f = let a : t ≡ r = cc in let b : t ≡ drop w.end s = cc in sym a ∙ b
   ends_alike (refuse k l) x r n e f = let z : ◌≡◌ {A = ℕ} 0 1 = cc in absurd (omega arith)
 
-  part_through : Parts s path (PartV (record { start = w.start; end = w.end }))
+  part_through : Parts s path (Ok (record { start = w.start; end = w.end }))
   unfolding locate_told locate_of spot_of Ordered one_of below
   part_through =
       let z = spot through_all through_trace refl in
@@ -206,17 +199,17 @@ module _ {s path : List ℕ} {w : Way} (v : WayThrough s path w) where
         inside = (omega (arith, st.begins, spot-order z.0), v.ends);
       }
 
-module _ {s path : List ℕ} {a : Guided} (t : Through s path a) where
-  pub at_once : {w : Way} {r : Located} → a ≡ FoundWay w → r ≡ PartV (record { start = w.start; end = w.end }) → Parts s path r
+module _ {s path : List ℕ} {a : std.Option Way} (t : Through s path a) where
+  pub at_once : {w : Way} {r : std.Result Part Refusal} → a ≡ Some w → r ≡ Ok (record { start = w.start; end = w.end }) → Parts s path r
   unfolding IfFound
   at_once e h = rw h (part_through (rw e at t.told))
 
 -- LOOK UP
 
-pub located : {s path : List ℕ} {r : Located} → Parts s path r → locate_told r ≡ locate_of (look_up s path)
+pub located : {s path : List ℕ} {r : std.Result Part Refusal} → Parts s path r → locate_told r ≡ locate_of (look_up s path)
 located p = p.is
 
-module _ {s path : List ℕ} {r : Located} (p : Parts s path r) where
+module _ {s path : List ℕ} {r : std.Result Part Refusal} (p : Parts s path r) where
   pub look_ordered : Ordered s r
   look_ordered = p.inside
 

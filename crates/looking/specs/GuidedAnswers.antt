@@ -7,8 +7,9 @@ use Rattle.cbor.specs.Paths.{found}
 use Rattle.walk_answer.specs.WalkAnswers.{all_of, until_by}
 use Rattle.path.specs.Following.{follow_from, trace}
 use Rattle.looking.specs.declared.guided.Way.{Way}
-use Rattle.looking.specs.declared.guided.Guided.{Guided}
-use Rattle.looking.specs.declared.guided.Guided.TheVariants.{Found, Unknown}
+use Rattle.std.specs.Prelude.{Some, None}
+use Rattle.std.specs.Prelude as std
+use Rattle.walk_answer.specs.declared.Mode.{Mode}
 
 -- items are walked over, with d levels left for each: they begin s, and r is left behind them
 pub record Walks (d : ℕ) (u : Until) (s r : List ℕ) : Type 0 where
@@ -39,7 +40,7 @@ pub record WayInside (s path : List ℕ) (from d : ℕ) (w : Way) : Type 0 where
   pub leads : Leads s path (drop from s) w
 
 -- several items from a place on: some before the one at `at`, in which the path goes on
-pub record WayAmong (s path : List ℕ) (from d mode count before : ℕ) (w : Way) : Type 0 where
+pub record WayAmong (s path : List ℕ) (from d : ℕ) (mode : Mode) (count before : ℕ) (w : Way) : Type 0 where
   pub at : ℕ
   pub front : Walks 16 (counted before) (drop from s) (drop at s)
   pub stands : step_at (until_by mode (count - before)) (drop at s) ≡ another (until_by mode (count - before - 1))
@@ -57,15 +58,15 @@ pub record WayThrough (s path : List ℕ) (w : Way) : Type 0 where
   pub ends : w.end ≤ length s
 
 -- of what is found
-unfoldable pub IfFound : (Way → Type 0) → Guided → Type 0
-IfFound P (Found w) = P w
-IfFound P Unknown = Unit
+unfoldable pub IfFound : (Way → Type 0) → std.Option Way → Type 0
+IfFound P (Some w) = P w
+IfFound P None = Unit
 
-pub record Inside (s path : List ℕ) (from d : ℕ) (r : Guided) : Type 0 where
+pub record Inside (s path : List ℕ) (from d : ℕ) (r : std.Option Way) : Type 0 where
   pub told : IfFound (WayInside s path from d) r
 
-pub record Among (s path : List ℕ) (from d mode count before : ℕ) (r : Guided) : Type 0 where
+pub record Among (s path : List ℕ) (from d : ℕ) (mode : Mode) (count before : ℕ) (r : std.Option Way) : Type 0 where
   pub told : IfFound (WayAmong s path from d mode count before) r
 
-pub record Through (s path : List ℕ) (r : Guided) : Type 0 where
+pub record Through (s path : List ℕ) (r : std.Option Way) : Type 0 where
   pub told : IfFound (WayThrough s path) r

@@ -1,6 +1,6 @@
 -- Room, and results laid into a buffer.
 -- Assumes nothing.
-use Prim.Native.Nat.{ℕ, ◌-◌, ◌≤◌, ◌<◌, min}
+use Prim.Native.Nat.{ℕ, ◌-◌, ◌≤◌, ◌<◌, min, ◌+◌, ◌*◌}
 use native.Mathlib.Omega.{arith}
 use mathlib.Core.Path.{◌≡◌, refl, sym, ◌∙◌}
 use mathlib.Core.Bool.{Bool, true, false}
@@ -16,8 +16,9 @@ use Rattle.refusal.specs.declared.RefusalKind.TheVariants.{NoRoom}
 use Rattle.operations.specs.Operations.{room, fitting, written}
 use Rattle.outcome.specs.Outcomes.{outcome_of, laid, Refuses, Roomy}
 use Rattle.operations.proofs.Verdicts.{fitting-yes, fitting-no}
-use Rattle.outcome.specs.declared.Answer.{Answer}
-use Rattle.outcome.specs.declared.Answer.TheVariants.{Written}
+use Rattle.std.specs.Prelude.{Ok}
+use Rattle.std.specs.Prelude as std
+use Rattle.refusal.specs.declared.Refusal.{Refusal}
 
 -- ROOM
 
@@ -38,14 +39,14 @@ module _ (b : List ℕ) {n : ℕ} {v : Bool} (f : v ≡ leb n (min (length b) 65
   pub laid-room : v ≡ true → n ≤ min (length b) 65535
   laid-room t = leb-true n (min (length b) 65535) (sym f ∙ t)
 
-  pub laid-yes : (w : List ℕ) → n ≡ length w → v ≡ true → outcome_of (Written n) (over b 0 w) ≡ laid b w
+  pub laid-yes : (w : List ℕ) → n ≡ length w → v ≡ true → outcome_of (Ok n) (over b 0 w) ≡ laid b w
   unfolding laid room outcome_of written
   laid-yes w e t =
       let m : length w ≤ min (length b) 65535 = rw e at (laid-room t) in
       let i : fitting b w ≡ accepted w = fitting-yes b w m in
       rw (i, e)
 
-  pub laid-no : (w : List ℕ) → n ≡ length w → v ≡ false → {r : Answer} → Refuses NoRoom 0 r → outcome_of r b ≡ laid b w
+  pub laid-no : (w : List ℕ) → n ≡ length w → v ≡ false → {r : std.Result ℕ Refusal} → Refuses NoRoom 0 r → outcome_of r b ≡ laid b w
   unfolding laid room outcome_of written kind_number
   laid-no w e t x =
       let m : min (length b) 65535 < length w = rw e at (leb-false n (min (length b) 65535) (sym f ∙ t)) in
@@ -54,13 +55,10 @@ module _ (b : List ℕ) {n : ℕ} {v : Bool} (f : v ≡ leb n (min (length b) 65
 
 -- BUFFERS for all that texts of a size can make
 module _ {s m : List ℕ} where
-  pub roomy_tiny : length s ≤ 55 → length m ≡ 504 → Roomy s m
-  roomy_tiny f l = record { room = omega arith }
-
-  pub roomy-small : length s ≤ 511 → length m ≡ 4608 → Roomy s m
+  pub roomy-small : {n : ℕ} → 9 * (length s + 1) ≤ n → length m ≡ n → Roomy s m
   roomy-small f l = record { room = omega arith }
 
   pub roomy_large : length m ≡ most_bytes → Roomy s m
   roomy_large l = record { room = omega arith }
 
-pub ruleset roomy_ways = (roomy_tiny, roomy-small, roomy_large)
+pub ruleset roomy_ways = (roomy-small, roomy_large)

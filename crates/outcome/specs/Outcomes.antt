@@ -5,16 +5,17 @@ use Rattle.cbor.specs.Decode.{most_bytes}
 use Rattle.refusal.specs.RefusalKinds.{kind_number}
 use Rattle.refusal.specs.declared.RefusalKind.{RefusalKind}
 use Rattle.operations.specs.Operations.{Outcome, fitting, written}
-use Rattle.outcome.specs.declared.Answer.{Answer}
-use Rattle.outcome.specs.declared.Answer.TheVariants.{Written, Refused}
+use Rattle.std.specs.Prelude.{Ok, Err}
+use Rattle.std.specs.Prelude as std
+use Rattle.refusal.specs.declared.Refusal.{Refusal}
 
 -- an answer, with what the buffer holds then
-unfoldable pub outcome_of : Answer → List ℕ → Outcome ℕ
-outcome_of (Written n) b = record { answer = accepted n; buffer = b }
-outcome_of (Refused e) b = record { answer = refused (kind_number e.kind) e.place; buffer = b }
+unfoldable pub outcome_of : std.Result ℕ Refusal → List ℕ → Outcome ℕ
+outcome_of (Ok n) b = record { answer = accepted n; buffer = b }
+outcome_of (Err e) b = record { answer = refused (kind_number e.kind) e.place; buffer = b }
 
-pub record Refuses (k : RefusalKind) (place : ℕ) (r : Answer) : Type 0 where
-  pub is : r ≡ Refused (record { kind = k; place = place })
+pub record Refuses (k : RefusalKind) (place : ℕ) (r : std.Result ℕ Refusal) : Type 0 where
+  pub is : r ≡ Err (record { kind = k; place = place })
 
 -- bytes that fit are laid at the front of the buffer
 unfoldable pub laid : List ℕ → List ℕ → Outcome ℕ

@@ -8,17 +8,10 @@ ghost use Rattle.outcome.specs.Outcomes.{Refuses};
 use refusal::limit::MOST_BYTES;
 use refusal::{Refusal, RefusalKind};
 
-// The result stands at the front of the buffer and has this many bytes; or the buffer is as it was.
-#[derive(Drop)]
-pub enum Answer {
-    Written(usize),
-    Refused(Refusal),
-}
-
-pub fn refuse(kind: RefusalKind, place: usize) -> Answer
+pub fn refuse(kind: RefusalKind, place: usize) -> Result<usize, Refusal>
     ensures { Refuses kind place result }
 {
-    Answer::Refused(Refusal { kind, place })
+    Err(Refusal { kind, place })
 }
 
 // Whether a result of some bytes has room in a buffer of some bytes.

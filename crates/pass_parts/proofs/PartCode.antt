@@ -5,12 +5,12 @@ use mathlib.Core.Bool.{Bool, true, false, false≢true}
 use mathlib.Core.List.{List, [], ◌∷◌, ◌++◌}
 use Prim.Native.Nat.{ℕ, ◌+◌, ◌-◌, ◌*◌, ◌/◌, ◌%◌, ◌^◌, ◌≤◌, ◌<◌}
 use native.Mathlib.Omega.{arith}
-use lib.Dec.{eqb, ltb}
+use lib.Dec.{eqb}
 use lib.ListN.{length, take, drop, get_or, length-append, length-take, length-drop}
 use mir.Syntax.{w64 as bits64}
 use mir.Val.{Fits}
 use lib.Seq.{take_all, take-take}
-use borrow.Author.Tests.{eq-eqb, ne_eqb, ltb-true}
+use borrow.Author.Tests.{ne_eqb}
 use Rattle.cbor.specs.Refusals.{Result, ok, refuse}
 use Rattle.cbor.specs.Widths.{w0, argument_bytes, value_from}
 use Rattle.cbor.specs.Items.{byte_string, Item, string, definite}
@@ -23,8 +23,6 @@ use Rattle.memory.specs.Buffer.{clipped}
 use Rattle.memory.proofs.Buffer.{take-over}
 use Rattle.notation.specs.Printing.{decimal_of, size_of, blank_behind, indicator_of, print_int, print_item}
 use Rattle.walk_answer.specs.WalkAnswers.{item_passed, walk_told, walk_of, map_result as mapped}
-use Rattle.walk_answer.specs.declared.Walked.{Walked}
-use Rattle.walk_answer.specs.declared.Walked.TheVariants.{Made as MadeV}
 use Rattle.walk_answer.specs.declared.WalkedItem.{WalkedItem}
 use Rattle.text_output.specs.PrintParts.{Prints, width_by, size_by}
 use Rattle.leaf_printer.proofs.PrintHeads.{width_low}
@@ -36,27 +34,15 @@ use Rattle.printer.specs.declared.Printed.{Printed}
 use Rattle.printer.proofs.PrintSeveral.{mapped_is}
 use Rattle.printer.proofs.PrintCycle.{taking-ok, made, content-ok}
 use Rattle.leaf_written.specs.Laying.{Laid}
-use Rattle.leaf_written.specs.declared.Written.{Written}
-use Rattle.leaf_written.proofs.LayCode.{laid_none, laid_more, laid_kept, laid_as, laid-front, laid-prints}
+use Rattle.std.specs.declared.option.Option.TheVariants.{None, Some}
+use Rattle.leaf_written.proofs.LayCode.{laid_none, laid_more, laid_as, laid-front, laid-prints}
 use Rattle.leaf_written.proofs.LeafCode.{low-information, indicator-none, shortest_0, item_plain}
-use Rattle.pass_parts.specs.PartAnswers.{comma_of, separator_of, tag_opening, IsItem, ItemTold, Closed, ShortString, MayTag}
+use Rattle.pass_parts.specs.PartAnswers.{separator_of, tag_opening, IsItem, ItemTold, ShortString, MayTag}
+use Rattle.std.specs.Prelude.{Ok}
+use Rattle.std.specs.Prelude as std
+use Rattle.refusal.specs.declared.Refusal.{Refusal}
 
 -- BETWEEN ITEMS
-
-module _ (map : Bool) (left : ℕ) where
-  pub comma_value : map ≡ true → left % 2 ≡ 1 → 0x3a ≡ comma_of map left
-  unfolding comma_of
-  comma_value e h = sym (rw e (rw (eq-eqb (left % 2) 1 h, comma_of)))
-
-  pub comma_key : map ≡ true → (left % 2 ≡ 1 → ⊥) → 0x2c ≡ comma_of map left
-  unfolding comma_of
-  comma_key e h = sym (rw e (rw (ne_eqb (left % 2) 1 h, comma_of)))
-
-  pub comma_plain : map ≡ false → 0x2c ≡ comma_of map left
-  unfolding comma_of
-  comma_plain e = sym (rw e)
-
-pub ruleset comma_ways = (comma_value, comma_key, comma_plain)
 
 module _ (first : Bool) {c k : ℕ} {b b₁ b₂ : List ℕ} {pos p q : ℕ} (x : Laid b b₁ pos (c ∷ []) p) (y : Laid b₁ b₂ p (k ∷ []) q) where
   pub separator_none : first ≡ true → Laid b b₂ pos (separator_of first c k) pos
@@ -105,49 +91,10 @@ module _ (info : ℕ) {n : ℕ} (f : Fits bits64 n) where
     unfolding print_int sign_of tag_opening
     tag-laid u y = laid_more (laid-prints u (omega (arith, x.next, number-most)) x) y
 
--- a part that is closed
-module _ {b : List ℕ} {part : Written} {c : ℕ} {r : Written} where
-  pub closed_none : r ≡ record { end = 0; pos = 0 } → Closed b b part c r
-  closed_none e =
-      let z : r.end ≡ 0 = ap (λ (w : Written). w.end) e in
-      record {
-        same = refl;
-        kept = λ k h. refl;
-        some = λ h. absurd (omega arith);
-        end = λ h. absurd (omega arith);
-        laid = λ h. absurd (omega arith);
-        none = λ h. ap (λ (w : Written). w.pos) e;
-      }
-
 pub take_less : (b b' : List ℕ) (k pos : ℕ) → k ≤ pos → take pos b' ≡ take pos b → take k b' ≡ take k b
 take_less b b' k pos h e = sym (take-take k pos b' h) ∙ ap (take k) e ∙ take-take k pos b h
 
-module _ {b b₁ : List ℕ} {part : Written} {c q : ℕ} {r : Written} where
-  pub closed_some : (part.end ≡ 0 → ⊥) → Laid b b₁ part.pos (c ∷ []) q → r ≡ record { end = part.end; pos = q } → Closed b b₁ part c r
-  closed_some n x e =
-      let z : r.end ≡ part.end = ap (λ (w : Written). w.end) e in
-      let y : r.pos ≡ q = ap (λ (w : Written). w.pos) e in
-      record {
-        same = x.same;
-        kept = λ k h. take_less b b₁ k part.pos (h (omega arith)) (laid_kept x);
-        some = λ h. omega arith;
-        end = λ h. z;
-        laid = λ h. rw y x;
-        none = λ h. absurd (n (omega arith));
-      }
-
-pub ruleset closed_ways = (closed_none, closed_some)
-
 -- TYPED ARRAYS
-
-module _ {b : ℕ} where
-  pub string_not : (b / 32 ≡ 2 → ⊥) → ShortString b false
-  string_not n = record { major = λ e. absurd (false≢true e); short = λ e. absurd (false≢true e) }
-
-  pub string-is : b / 32 ≡ 2 → ShortString b (ltb (b % 32) 24)
-  string-is h = record { major = λ e. h; short = λ e. ltb-true (b % 32) 24 e }
-
-pub ruleset string_ways = (string_not, string-is)
 
 asked_any : (n : ℕ) (v : Bool) → asked n false ≡ true → asked n v ≡ true
 asked_any n v = by (is_typed_array n) (eqb n 76)
@@ -175,12 +122,9 @@ string_of s from d x r h m l e =
     let k = taking-ok n 0 t (content-ok byte_string n (length (drop from s)) t i.read) in
     record { content = i.inner; is = i.is; size = sym (ap length k.content) ∙ omega (arith, length-take n t, k.fits) }
 
-pub may_none : {s : List ℕ} {from n : ℕ} → MayTag s from n false
-may_none = record { is = λ e. absurd (false≢true e) }
-
-pub may-by : {s : List ℕ} {from n : ℕ} {v t : Bool} → from < length s → ShortString (get_or s from 0) v → t ≡ may_tag_by n v (get_or s from 0 % 32) → MayTag s from n t
+pub may-by : {s : List ℕ} {from n b : ℕ} {v t : Bool} → from < length s → b ≡ get_or s from 0 → ShortString b v → t ≡ may_tag_by n v (b % 32) → MayTag s from n t
 unfolding may_tag_by may_tag divides
-may-by {s} {from} {n} {v} {t} h w e = record { is = by v w e }
+may-by {s} {from} {n} {b} {v} {t} h g w e = record { is = by v (rw g at w) (rw g at e) }
   where
     by : (v : Bool) → ShortString (get_or s from 0) v → t ≡ may_tag_by n v (get_or s from 0 % 32) → t ≡ true → (d : ℕ) (x : Item) (r : List ℕ) → item d (drop from s) ≡ ok x r → may_tag n x ≡ true
     by false w e y d x r g = asked_any n (divides (element_size n) x) (sym e ∙ y)
@@ -188,15 +132,13 @@ may-by {s} {from} {n} {v} {t} h w e = record { is = by v w e }
         let o = string_of s from d x r h (w.major refl) (w.short refl) g in
         ap (may_tag n) o.is ∙ ap (λ (k : ℕ). asked n (eqb (k % element_size n) 0)) o.size ∙ sym e ∙ y
 
-pub ruleset may_ways = (may_none, may-by)
-
 -- ANY ITEM
 
-pub told_none : {s : List ℕ} {at d : ℕ} {b b₁ : List ℕ} {pos : ℕ} {r : Written} → r ≡ record { end = 0; pos = 0 } → length b₁ ≡ length b → take pos b₁ ≡ take pos b → ItemTold s at d b b₁ pos r
-told_none {r = r} e l k = let z : r.end ≡ 0 = ap (λ (w : Written). w.end) e in record { same = l; kept = k; told = λ h. absurd (omega arith) }
+pub told_none : {s : List ℕ} {at d : ℕ} {b b₁ : List ℕ} {pos : ℕ} → length b₁ ≡ length b → take pos b₁ ≡ take pos b → ItemTold s at d b b₁ pos None
+told_none l k = record { same = l; kept = k; told = tt }
 
-pub told-lost : {s : List ℕ} {at d : ℕ} {b : List ℕ} {pos : ℕ} {r : Written} → r ≡ record { end = 0; pos = 0 } → ItemTold s at d b b pos r
-told-lost e = told_none e refl refl
+pub told-lost : {s : List ℕ} {at d : ℕ} {b : List ℕ} {pos : ℕ} → ItemTold s at d b b pos None
+told-lost = told_none refl refl
 
 module _ (s : List ℕ) (at d : ℕ) where
   walked_by : (res : Result Item) (m : WalkedItem) → item d (drop at s) ≡ res → (k : ℕ) → item_passed m.end m.major m.size ≡ walk_of k res → IsItem s at d
@@ -204,7 +146,7 @@ module _ (s : List ℕ) (at d : ℕ) where
   walked_by (ok x r) m e k g = record { value = x; rest = r; is = e }
   walked_by (refuse i l) m e k g = let z : ◌≡◌ {A = ℕ} 0 1 = cc in absurd (omega arith)
 
-  pub is-item : {w : Walked} {m : WalkedItem} → walk_told w ≡ walk_of (length (take (length s - at) (drop at s))) (item d (take (length s - at) (drop at s))) → w ≡ MadeV m → IsItem s at d
+  pub is-item : {w : std.Result WalkedItem Refusal} {m : WalkedItem} → walk_told w ≡ walk_of (length (take (length s - at) (drop at s))) (item d (take (length s - at) (drop at s))) → w ≡ Ok m → IsItem s at d
   unfolding walk_told
   is-item {w} {m} f e =
       let t : take (length s - at) (drop at s) ≡ drop at s = take_all (length s - at) (drop at s) (omega (arith, length-drop at s)) in
@@ -218,23 +160,16 @@ module _ {s : List ℕ} {at d : ℕ} {b b₁ : List ℕ} {pos : ℕ} {p : Printe
   unfolding clipped
   whole-kept = let g = whole-done.prints in ap (take pos) g.is ∙ take-over b pos (take (length b - pos) (print_item i.value)) l pos (omega arith)
 
-  pub whole_full : {r : Written} → r ≡ record { end = 0; pos = 0 } → ItemTold s at d b b₁ pos r
-  whole_full e = told_none e f.same whole-kept
+  pub whole_full : ItemTold s at d b b₁ pos None
+  whole_full = told_none f.same whole-kept
 
-  pub whole-made : {r : Written} → length b * 1 < 2 ^ 63 → p.pos ≤ length b₁ → r ≡ record { end = p.end; pos = p.pos } → ItemTold s at d b b₁ pos r
-  whole-made {r} u h e =
+  pub whole-made : length b * 1 < 2 ^ 63 → p.pos ≤ length b₁ → ItemTold s at d b b₁ pos (Some (record { end = p.end; pos = p.pos }))
+  whole-made u h =
       let g = whole-done in
-      let z : r.end ≡ p.end = ap (λ (w : Written). w.end) e in
-      let y : r.pos ≡ p.pos = ap (λ (w : Written). w.pos) e in
       record {
         same = f.same;
         kept = whole-kept;
-        told = λ k. record {
-          value = i.value;
-          is = i.is ∙ ap (ok i.value) (sym g.drops ∙ ap (λ (j : ℕ). drop j s) (sym z));
-          inside = omega (arith, g.inside);
-          laid = rw y (laid-prints u (omega (arith, f.same)) g.prints);
-        };
+        told = record { value = i.value; is = i.is ∙ ap (ok i.value) (sym g.drops); inside = omega (arith, g.inside); laid = laid-prints u (omega (arith, f.same)) g.prints };
       }
 
 pub ruleset whole_ways = (whole-made, whole_full)

@@ -1,7 +1,9 @@
 -- Of the code: what stands around items and between them in one pass, and what is told of an item. What is said holds where something is told, and no more is said.
-use Rattle.std.specs.Prelude.{ℕ, ◌+◌, ◌/◌, ◌%◌, ◌≤◌, ◌<◌, ◌≡◌, Bool, true, false, List, [], ◌∷◌, ◌++◌, eqb, length, take, drop}
+use Rattle.std.specs.Prelude.{ℕ, ◌/◌, ◌%◌, ◌≤◌, ◌<◌, ◌≡◌, Bool, true, false, List, [], ◌∷◌, ◌++◌, eqb, length, take, drop, IfSome}
+use Rattle.std.specs.declared.option.Option.{Option}
+use Rattle.std.specs.declared.option.Option.TheVariants.{Some}
 use Rattle.cbor.specs.Refusals.{ok}
-use Rattle.cbor.specs.Items.{Item, none}
+use Rattle.cbor.specs.Items.{Item}
 use Rattle.cbor.specs.TypedArrays.{may_tag}
 use Rattle.cbor.specs.Decode.{item}
 use Rattle.notation.specs.Printing.{decimal_of, indicator_of, print_item}
@@ -36,19 +38,22 @@ pub record ItemMade (s : List ℕ) (at d : ℕ) (b b' : List ℕ) (pos : ℕ) (r
   pub inside : r.end ≤ length s
   pub laid : Laid b b' pos (print_item value) r.pos
 
-pub record ItemTold (s : List ℕ) (at d : ℕ) (b b' : List ℕ) (pos : ℕ) (r : Written) : Type 0 where
+pub record ItemTold (s : List ℕ) (at d : ℕ) (b b' : List ℕ) (pos : ℕ) (r : Option Written) : Type 0 where
   pub same : length b' ≡ length b
   pub kept : take pos b' ≡ take pos b
-  pub told : 0 < r.end → ItemMade s at d b b' pos r
+  pub told : IfSome r (λ w. ItemMade s at d b b' pos w)
 
--- c stands behind a part, unless nothing is told of it or there is no room
-pub record Closed (b b' : List ℕ) (part : Written) (c : ℕ) (r : Written) : Type 0 where
+-- c stands behind a part whose text ends before `place`
+pub record Shut (b b' : List ℕ) (part : Option Written) (c : ℕ) (r : Written) : Type 0 where
+  pub place : ℕ
+  pub is : part ≡ Some (record { end = r.end; pos = place })
+  pub laid : Laid b b' place (c ∷ []) r.pos
+
+-- so it does, unless nothing is told of the part or there is no room
+pub record Closed (b b' : List ℕ) (part : Option Written) (c : ℕ) (r : Option Written) : Type 0 where
   pub same : length b' ≡ length b
-  pub kept : (pos : ℕ) → (0 < part.end → pos ≤ part.pos) → take pos b' ≡ take pos b
-  pub some : 0 < r.end → 0 < part.end
-  pub end : 0 < r.end → r.end ≡ part.end
-  pub laid : 0 < r.end → Laid b b' part.pos (c ∷ []) r.pos
-  pub none : r.end ≡ 0 → r.pos ≡ 0
+  pub kept : (pos : ℕ) → IfSome part (λ w. pos ≤ w.pos) → take pos b' ≡ take pos b
+  pub told : IfSome r (λ w. Shut b b' part c w)
 
 -- t: b is the initial byte of a byte string, and its whole head
 pub record ShortString (b : ℕ) (t : Bool) : Type 0 where

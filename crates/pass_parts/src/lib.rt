@@ -9,19 +9,14 @@ ghost use Rattle.leaf_written.specs.Laying.{Laid};
 ghost use Rattle.pass_parts.specs.PartAnswers.{comma_of, separator_of, tag_opening, ItemTold, IsItem, Closed, MayTag, ShortString};
 
 use head::initial::{BYTE_STRING, IN_ONE_BYTE, INDEFINITE_LENGTH};
-use leaf_written::{Written, none, put, up_to};
-use walk_answer::Walked;
+use leaf_written::{Written, put};
 
 // What stands before an item, of which `left` are left: in a map a colon before a value.
+#[tactic(auto, unfolding(crate::specs::PartAnswers::comma_of))]
 pub fn comma(map: bool, left: u64) -> u8
     ensures { result ≡ comma_of map left }
 {
-    if map {
-        if left % 2 == 1 {
-            return b':';
-        }
-    }
-    b','
+    if map && left % 2 == 1 { b':' } else { b',' }
 }
 
 // It is written before the first as well, and written over.
@@ -32,10 +27,7 @@ pub fn separator(first: bool, comma: u8, blank: u8, out: &mut [u8], pos: usize) 
 {
     let p = put(comma, out, pos);
     let q = put(blank, out, p);
-    if first {
-        return pos;
-    }
-    q
+    if first { pos } else { q }
 }
 
 // What stands behind an opening bracket.
@@ -43,10 +35,8 @@ fn mark(info: u8, n: u64, out: &mut [u8], pos: usize) -> usize
     requires { pos + 3 ≤ length out.old }
     ensures { Laid out.old out.new pos (size_of (size_by info) n) result }
 {
-    if info < IN_ONE_BYTE {
-        if n < IN_ONE_BYTE as u64 {
-            return pos;
-        }
+    if info < IN_ONE_BYTE && n < IN_ONE_BYTE as u64 {
+        return pos;
     }
     if info == INDEFINITE_LENGTH {
         let p = put(b'_', out, pos);
@@ -74,61 +64,61 @@ pub fn tag_opening(info: u8, n: u64, out: &mut [u8], pos: usize) -> usize
 }
 
 // A bracket behind what was written, if there is room.
-pub fn closed(part: Written, bracket: u8, out: &mut [u8]) -> Written
+pub fn closed(part: Option<Written>, bracket: u8, out: &mut [u8]) -> Option<Written>
     ensures { Closed out.old out.new part bracket result }
 {
-    if part.end == 0 {
-        return none();
+    let Written { end, pos } = part?;
+    if out.len() <= pos {
+        return None;
     }
-    if out.len() <= part.pos {
-        return none();
-    }
-    up_to(part.end, put(bracket, out, part.pos))
+    Some(Written {
+        end,
+        pos: put(bracket, out, pos),
+    })
 }
 
 // Whether a byte string stands there whose head is its initial byte.
 fn is_short_string(b: u8) -> bool
     ensures { ShortString b result }
 {
-    if b / 32 != BYTE_STRING {
-        return false;
-    }
-    b % 32 < IN_ONE_BYTE
+    b / 32 == BYTE_STRING && b % 32 < IN_ONE_BYTE
 }
 
 // Whether it is seen that a tag may stand before what stands behind it: whatever it is, or a short byte string.
 pub fn may_tag(bytes: &[u8], from: usize, n: u64) -> bool
     ensures { MayTag bytes.now from n result }
 {
-    if bytes.len() <= from {
+    let Some(&b) = bytes.get(from) else {
         return false;
-    }
-    let b = bytes[from];
+    };
     typed_array::may_tag(n, is_short_string(b), (b % 32) as usize)
 }
 
 // The text of an item that is right.
-fn whole(bytes: &[u8], at: usize, levels: usize, out: &mut [u8], pos: usize) -> Written
+fn whole(bytes: &[u8], at: usize, levels: usize, out: &mut [u8], pos: usize) -> Option<Written>
     requires item { IsItem bytes.now at levels }
     requires pos_in_bounds { pos ≤ length out.old }
     ensures { ItemTold bytes.now at levels out.old out.new pos result }
 {
     let p = printer::print_item(bytes, at, levels, out, pos);
     if out.len() < p.pos {
-        return none();
+        return None;
     }
-    up_to(p.end, p.pos)
+    Some(Written {
+        end: p.end,
+        pos: p.pos,
+    })
 }
 
 // Any item: checked first, and then written.
-pub fn odd(bytes: &[u8], at: usize, levels: usize, out: &mut [u8], pos: usize) -> Written
+pub fn odd(bytes: &[u8], at: usize, levels: usize, out: &mut [u8], pos: usize) -> Option<Written>
     requires within { Within bytes.now at }
     requires pos_in_bounds { pos ≤ length out.old }
     ensures { ItemTold bytes.now at levels out.old out.new pos result }
 {
     let w = walk::item(&bytes[at..], levels);
     match w {
-        Walked::Refused(_) => none(),
-        Walked::Made(_) => whole(bytes, at, levels, out, pos),
+        Err(_) => None,
+        Ok(_) => whole(bytes, at, levels, out, pos),
     }
 }

@@ -18,11 +18,7 @@ use Rattle.cbor.specs.Flags.{kind_of}
 use Rattle.walk_answer.specs.WalkAnswers.{Within, pass_told, contents, entry_contents, chunk_contents, map_result, told_of, below, one_of, all_of, until_by, mode_by, step_by, Turned, after_told}
 use Rattle.refusal.specs.declared.Refusal.{Refusal}
 use Rattle.head.specs.declared.HeadAt.{HeadAt}
-use Rattle.head.specs.declared.HeadRead.{HeadRead}
-use Rattle.head.specs.declared.HeadRead.TheVariants.{Head as HeadV, Refused as HeadRefusedV}
 use Rattle.walk_answer.specs.declared.Passage.{Passage}
-use Rattle.walk_answer.specs.declared.Passed.{Passed}
-use Rattle.walk_answer.specs.declared.Passed.TheVariants.{Span as SpanV, Refused as RefusedV}
 use Rattle.walk_answer.proofs.Leaves.{Left, Leaves, same, left_cut, left_weak, left-on}
 use Rattle.walk_answer.proofs.ItemLeaves.{HeadLeft, head-left}
 use Rattle.walk_parts.proofs.StringCode.{size-indefinite, size-definite}
@@ -31,9 +27,11 @@ use Rattle.walk_parts.proofs.WalkItems.{all_told}
 use Rattle.path.specs.Following.{Place, at, astray, onto, behind_one, past_one, step_to, standing, nth_from, child_by, child_at, child_in, numbered, follow_from, trace}
 use Rattle.path.specs.StepAnswers.{place_of, ReachedInside, ReachedAt, Step, major_by, items_before, past_items, traced_to, Still, Traced}
 use Rattle.path.specs.declared.Cursor.{Cursor}
-use Rattle.path.specs.declared.Destination.{Destination}
-use Rattle.path.specs.declared.Destination.TheVariants.{To, Nowhere}
-use Rattle.path.specs.declared.Trace.TheVariants.{At, Lost}
+use Rattle.std.specs.Prelude.{Ok, Err, Some, None}
+use Rattle.std.specs.Prelude as std
+use Rattle.std.specs.Option.{ok_or}
+use Rattle.walk_answer.specs.declared.Mode.{Mode}
+use Rattle.walk_answer.specs.declared.Mode.TheVariants.{Counted, Broken, Ended}
 
 -- PAST ONE
 
@@ -41,7 +39,7 @@ use Rattle.path.specs.declared.Trace.TheVariants.{At, Lost}
 pub left_of : (k : ℕ) (s : List ℕ) (i : ℕ) (r : List ℕ) {z : ℕ} → i ≤ length s → Left k (drop i s) r z → Left 0 s r z
 left_of k s i r h l = left_weak (omega arith) (omega arith) (left-on (left_cut 0 0 i s (omega arith) (omega arith) h) l)
 
-past-at : (s : List ℕ) (i : ℕ) (m : Passage) (res : Result ℕ) → i ≤ length s → Leaves 0 same (drop i s) res → Reached (length s) m res → ReachedAt s (To (record { at = m.end })) (behind_one res)
+past-at : (s : List ℕ) (i : ℕ) (m : Passage) (res : Result ℕ) → i ≤ length s → Leaves 0 same (drop i s) res → Reached (length s) m res → ReachedAt s (Some (record { at = m.end })) (behind_one res)
 unfolding place_of ReachedInside behind_one
 past-at s i m (ok k r) h l g =
     let e : g.rest ≡ r = cc g.is in
@@ -50,22 +48,22 @@ past-at s i m (ok k r) h l g =
     record { is = ap at (ap (λ (x : ℕ). drop x s) p ∙ sym d.drops); inside = omega arith }
 past-at s i m (refuse k q) h l g = let f = g.is in let z : ◌≡◌ {A = ℕ} 0 1 = cc in absurd (omega arith)
 
-past_not : (s : List ℕ) (e : Refusal) (res : Result ℕ) → pass_told (RefusedV e) ≡ told_of (length s) res → astray ≡ behind_one res
+past_not : (s : List ℕ) (e : Refusal) (res : Result ℕ) → pass_told (Err e) ≡ told_of (length s) res → astray ≡ behind_one res
 unfolding pass_told told_of behind_one
 past_not s e (ok k r) h = let z : ◌≡◌ {A = ℕ} 0 1 = cc in absurd (omega arith)
 past_not s e (refuse k q) h = refl
 
-module _ {s : List ℕ} {i : ℕ} (n : ℕ) (w : Within s i) (inner : Passed) (long : length s * 1 < 2 ^ 63)
-    (told : pass_told inner ≡ told_of (length (take (length s - i) (drop i s))) (all_of 4 (suc 16) (until_by 0 n) (take (length s - i) (drop i s)))) (part : Passed) (after : pass_told part ≡ after_told i 0 (pass_told inner)) where
+module _ {s : List ℕ} {i : ℕ} (n : ℕ) (w : Within s i) (inner : std.Result Passage Refusal) (long : length s * 1 < 2 ^ 63)
+    (told : pass_told inner ≡ told_of (length (take (length s - i) (drop i s))) (all_of 4 (suc 16) (until_by Counted n) (take (length s - i) (drop i s)))) (part : std.Result Passage Refusal) (after : pass_told part ≡ after_told i 0 (pass_told inner)) where
   items-told : pass_told part ≡ told_of (length s) (all_of 4 17 (counted n) (drop i s))
   unfolding until_by
   items-told = all_told 4 17 (counted n) inner part w long told after
 
-  pub past-refused : {e : Refusal} → part ≡ RefusedV e → ReachedAt s Nowhere (past_items n (drop i s))
+  pub past-refused : {e : Refusal} → part ≡ Err e → ReachedAt s None (past_items n (drop i s))
   unfolding place_of ReachedInside past_items
   past-refused f = record { is = past_not s _ (all_of 4 17 (counted n) (drop i s)) (rw f at items-told); inside = tt }
 
-  pub past_to : {m : Passage} → part ≡ SpanV m → ReachedAt s (To (record { at = m.end })) (past_items n (drop i s))
+  pub past_to : {m : Passage} → part ≡ Ok m → ReachedAt s (Some (record { at = m.end })) (past_items n (drop i s))
   unfolding past_items
   past_to {m} f = past-at s i m (all_of 4 17 (counted n) (drop i s)) w.inside (all-leaves 4 17 (counted n) (drop i s)) (reached (all_of 4 17 (counted n) (drop i s)) part items-told f)
 
@@ -177,44 +175,40 @@ skip major (suc k) broken (b ∷ s) = by (eqb b 255) refl (skip major k broken)
 skip major (suc k) ended [] = sym (skip-over major k ended [] (none-there major))
 skip major (suc k) ended (b ∷ s) = skip-on major k ended ended (b ∷ s) (skip major k ended) refl refl
 
-pub less_mode : (k mode n : ℕ) → less_by k (until_by mode n) ≡ until_by mode (n - k)
+pub less_mode : (k : ℕ) (mode : Mode) (n : ℕ) → less_by k (until_by mode n) ≡ until_by mode (n - k)
 unfolding less_by until_by
-less_mode k mode n = by (eqb mode 0) (eqb mode 1)
-  where
-    by : (a b : Bool)
-        → less_by k (elim a [ true ↦ counted n | false ↦ elim b [ true ↦ broken | false ↦ ended ] ]) ≡ elim a [ true ↦ counted (n - k) | false ↦ elim b [ true ↦ broken | false ↦ ended ] ]
-    by true b = refl
-    by false true = refl
-    by false false = refl
+less_mode k Counted n = refl
+less_mode k Broken n = refl
+less_mode k Ended n = refl
 
 before-is : (pairs : Bool) (k : ℕ) (s : List ℕ) → past_items (items_before pairs k) s ≡ past_some (major_by pairs) k s
 unfolding past_items items_before past_some major_by
 before-is true k s = ap behind_one (all_double 17 k s)
 before-is false k s = refl
 
-module _ (pairs : Bool) (k : ℕ) {s : List ℕ} (i : ℕ) {n : ℕ} (en : n ≡ items_before pairs k) {move : Destination} (mv : ReachedAt s move (past_items n (drop i s))) (mode count : ℕ) where
+module _ (pairs : Bool) (k : ℕ) {s : List ℕ} (i : ℕ) {n : ℕ} (en : n ≡ items_before pairs k) {move : std.Option Cursor} (mv : ReachedAt s move (past_items n (drop i s))) (mode : Mode) (count : ℕ) where
   on : nth_from (major_by pairs) k (until_by mode count) (drop i s) ≡ onto (place_of s move) (standing (until_by mode (count - k)))
   on =
       skip (major_by pairs) k (until_by mode count) (drop i s)
       ∙ (λ z. onto (sym (mv.is ∙ ap (λ (x : ℕ). past_items x (drop i s)) en ∙ before-is pairs k (drop i s)) z) (standing (less_mode k mode count z)))
 
-  pub nth-lost : move ≡ Nowhere → ReachedAt s Nowhere (nth_from (major_by pairs) k (until_by mode count) (drop i s))
+  pub nth-lost : move ≡ None → ReachedAt s None (nth_from (major_by pairs) k (until_by mode count) (drop i s))
   unfolding place_of ReachedInside onto
-  nth-lost e = record { is = sym (on ∙ ap (λ (m : Destination). onto (place_of s m) (standing (until_by mode (count - k)))) e); inside = tt }
+  nth-lost e = record { is = sym (on ∙ ap (λ (m : std.Option Cursor). onto (place_of s m) (standing (until_by mode (count - k)))) e); inside = tt }
 
-  module _ {c : Cursor} (e : move ≡ To c) {w x : ℕ} (st : Step k w) (ex : x ≡ count - w) {t : Bool} (tu : Turned s c.at mode x t) where
+  module _ {c : Cursor} (e : move ≡ Some c) {w x : ℕ} (st : Step k w) (ex : x ≡ count - w) {t : Bool} (tu : Turned s c.at mode x t) where
     there : nth_from (major_by pairs) k (until_by mode count) (drop i s) ≡ step_to (step_by t mode x s c.at) (λ v. at (drop c.at s))
     unfolding place_of onto standing
     there =
-        on ∙ ap (λ (m : Destination). onto (place_of s m) (standing (until_by mode (count - k)))) e
+        on ∙ ap (λ (m : std.Option Cursor). onto (place_of s m) (standing (until_by mode (count - k)))) e
         ∙ ap (λ (y : ℕ). step_to (step_at (until_by mode y) (drop c.at s)) (λ v. at (drop c.at s))) (ap (λ (y : ℕ). count - y) (sym st.is) ∙ sym ex)
         ∙ ap (λ (y : _). step_to y (λ v. at (drop c.at s))) tu.is
 
-    pub nth-over : t ≡ true → ReachedAt s Nowhere (nth_from (major_by pairs) k (until_by mode count) (drop i s))
+    pub nth-over : t ≡ true → ReachedAt s None (nth_from (major_by pairs) k (until_by mode count) (drop i s))
     unfolding place_of ReachedInside step_to step_by
     nth-over y = record { is = sym (there ∙ ap (λ (v : Bool). step_to (step_by v mode x s c.at) (λ v. at (drop c.at s))) y); inside = tt }
 
-    pub nth_here : t ≡ false → ReachedAt s (To (record { at = c.at })) (nth_from (major_by pairs) k (until_by mode count) (drop i s))
+    pub nth_here : t ≡ false → ReachedAt s (Some c) (nth_from (major_by pairs) k (until_by mode count) (drop i s))
     unfolding place_of ReachedInside step_to step_by
     nth_here y = record { is = sym (there ∙ ap (λ (v : Bool). step_to (step_by v mode x s c.at) (λ v. at (drop c.at s))) y); inside = rw e at mv.inside }
 
@@ -240,7 +234,7 @@ pub mode_is : (info n : ℕ) → until_by (mode_by info) n ≡ extent_by info n
 unfolding until_by mode_by extent_by
 mode_is info n = by (eqb info 31)
   where
-    by : (t : Bool) → until_by (elim t [ true ↦ 1 | false ↦ 0 ]) n ≡ elim t [ true ↦ broken | false ↦ counted n ]
+    by : (t : Bool) → until_by (elim t [ true ↦ Broken | false ↦ Counted ]) n ≡ elim t [ true ↦ broken | false ↦ counted n ]
     by true = refl
     by false = refl
 
@@ -267,7 +261,7 @@ extends_of h l info n e f = by (eqb info 31) refl
     by true i = open_is (eqb-true info 31 i)
     by false i = size-definite l (λ z. counted n ≡ extent z h.argument) (λ x. eqb-false info 31 i (e ∙ x)) (λ w. ap counted f)
 
-got_of : (s : List ℕ) (i : ℕ) (h : HeadAt) (res : Result Head) → next_head (drop i s) ≡ res → head_told (HeadV h) ≡ head_from (length s) res → Got s i h
+got_of : (s : List ℕ) (i : ℕ) (h : HeadAt) (res : Result Head) → next_head (drop i s) ≡ res → head_told (Ok h) ≡ head_from (length s) res → Got s i h
 unfolding head_told head_from
 got_of s i h (ok d r) e f =
     let l = head-left (drop i s) e in
@@ -291,21 +285,21 @@ got_of s i h (ok d r) e f =
     }
 got_of s i h (refuse n left) e f = let z : ◌≡◌ {A = ℕ} 0 1 = cc in absurd (omega arith)
 
-pub got : (s : List ℕ) (i : ℕ) {h : HeadAt} (a : HeadRead) → head_told a ≡ head_at s i → a ≡ HeadV h → Got s i h
+pub got : (s : List ℕ) (i : ℕ) {h : HeadAt} (a : std.Result HeadAt Refusal) → head_told a ≡ head_at s i → a ≡ Ok h → Got s i h
 unfolding head_at
 got s i {h} a e f = got_of s i h (next_head (drop i s)) refl (rw f at e)
 
-child-no : (k n : ℕ) (e : Refusal) (res : Result Head) → head_told (HeadRefusedV e) ≡ head_from n res → astray ≡ child_at k res
+child-no : (k n : ℕ) (e : Refusal) (res : Result Head) → head_told (Err e) ≡ head_from n res → astray ≡ child_at k res
 unfolding head_told head_from child_at
 child-no k n e (ok d r) h = let z : ◌≡◌ {A = ℕ} 0 1 = cc in absurd (omega arith)
 child-no k n e (refuse m left) h = refl
 
-module _ (k : ℕ) (s : List ℕ) (i : ℕ) (a : HeadRead) (told : head_told a ≡ head_at s i) where
-  pub into-refused : {e : Refusal} → a ≡ HeadRefusedV e → ReachedAt s Nowhere (child_in k (drop i s))
+module _ (k : ℕ) (s : List ℕ) (i : ℕ) (a : std.Result HeadAt Refusal) (told : head_told a ≡ head_at s i) where
+  pub into-refused : {e : Refusal} → a ≡ Err e → ReachedAt s None (child_in k (drop i s))
   unfolding place_of ReachedInside child_in head_at
   into-refused f = record { is = child-no k (length s) _ (next_head (drop i s)) (rw f at told); inside = tt }
 
-  module _ {h : HeadAt} (f : a ≡ HeadV h) where
+  module _ {h : HeadAt} (f : a ≡ Ok h) where
     pub into-room : Within s h.end
     into-room = let g = got s i a told f in record { inside = omega (arith, g.ends) }
 
@@ -315,37 +309,37 @@ module _ (k : ℕ) (s : List ℕ) (i : ℕ) (a : HeadRead) (told : head_told a �
         let g = got s i a told f in
         ap (child_at k) g.is ∙ sym ((λ j. child_by k (g.major j) (g.extends j) (g.drops j)))
 
-    pub into-other : (h.major ≡ 4 → ⊥) → (h.major ≡ 5 → ⊥) → ReachedAt s Nowhere (child_in k (drop i s))
+    pub into-other : (h.major ≡ 4 → ⊥) → (h.major ≡ 5 → ⊥) → ReachedAt s None (child_in k (drop i s))
     unfolding place_of ReachedInside child_by
     into-other p q = record { is = sym (child-is ∙ rw (ne_eqb h.major 4 p, child_by) (rw (ne_eqb h.major 5 q))); inside = tt }
 
-    module _ {mode : ℕ} (v : mode ≡ mode_by h.info) where
+    module _ {mode : Mode} (v : mode ≡ mode_by h.info) where
       until_is : until_by mode h.argument ≡ extent_by h.info h.argument
-      until_is = ap (λ (m : ℕ). until_by m h.argument) v ∙ mode_is h.info h.argument
+      until_is = ap (λ (m : Mode). until_by m h.argument) v ∙ mode_is h.info h.argument
 
-      pub into-array : {move : Destination} → h.major ≡ 4 → ReachedAt s move (nth_from (major_by false) k (until_by mode h.argument) (drop h.end s)) → ReachedAt s move (child_in k (drop i s))
+      pub into-array : {move : std.Option Cursor} → h.major ≡ 4 → ReachedAt s move (nth_from (major_by false) k (until_by mode h.argument) (drop h.end s)) → ReachedAt s move (child_in k (drop i s))
       unfolding child_by major_by
       into-array e mv =
           record { is = mv.is ∙ ap (λ (x : Until). nth_from 4 k x (drop h.end s)) until_is ∙ sym (child-is ∙ rw (eq-eqb h.major 4 e, child_by)); inside = mv.inside }
 
-      module _ {move : Destination} (p : h.major ≡ 4 → ⊥) (e : h.major ≡ 5) (mv : ReachedAt s move (nth_from (major_by true) k (until_by mode h.argument) (drop h.end s))) where
+      module _ {move : std.Option Cursor} (p : h.major ≡ 4 → ⊥) (e : h.major ≡ 5) (mv : ReachedAt s move (nth_from (major_by true) k (until_by mode h.argument) (drop h.end s))) where
         value-is : child_in k (drop i s) ≡ onto (place_of s move) (past_one 4)
         unfolding child_by major_by
         value-is = child-is ∙ rw (ne_eqb h.major 4 p, child_by) (rw (eq-eqb h.major 5 e) (ap (λ (x : Place). onto x (past_one 4)) (sym (mv.is ∙ ap (λ (x : Until). nth_from 5 k x (drop h.end s)) until_is))))
 
-        pub into-none : move ≡ Nowhere → ReachedAt s Nowhere (child_in k (drop i s))
+        pub into-none : move ≡ None → ReachedAt s None (child_in k (drop i s))
         unfolding place_of ReachedInside onto
-        into-none o = record { is = sym (value-is ∙ ap (λ (m : Destination). onto (place_of s m) (past_one 4)) o); inside = tt }
+        into-none o = record { is = sym (value-is ∙ ap (λ (m : std.Option Cursor). onto (place_of s m) (past_one 4)) o); inside = tt }
 
-        pub value_room : {c : Cursor} → move ≡ To c → Within s c.at
+        pub value_room : {c : Cursor} → move ≡ Some c → Within s c.at
         unfolding ReachedInside
         value_room o = record { inside = rw o at mv.inside }
 
-        pub into-value : {c : Cursor} {last : Destination} → move ≡ To c → ReachedAt s last (past_items 1 (drop c.at s)) → ReachedAt s last (child_in k (drop i s))
+        pub into-value : {c : Cursor} {last : std.Option Cursor} → move ≡ Some c → ReachedAt s last (past_items 1 (drop c.at s)) → ReachedAt s last (child_in k (drop i s))
         unfolding place_of onto past_items past_one
         into-value {c} o m =
             record {
-              is = m.is ∙ ap behind_one (all_one 4 17 (drop c.at s)) ∙ sym (value-is ∙ ap (λ (m : Destination). onto (place_of s m) (past_one 4)) o);
+              is = m.is ∙ ap behind_one (all_one 4 17 (drop c.at s)) ∙ sym (value-is ∙ ap (λ (m : std.Option Cursor). onto (place_of s m) (past_one 4)) o);
               inside = m.inside;
             }
 
@@ -353,7 +347,7 @@ pub ruleset into_ways = (into-refused, into-other, into-array, into-none, into-v
 
 -- A PATH
 
-pub record Tracing (s path : List ℕ) (move : Destination) (i : ℕ) : Type 0 where
+pub record Tracing (s path : List ℕ) (move : std.Option Cursor) (i : ℕ) : Type 0 where
   pub below : i < length path
   pub inside : ReachedInside s move
   pub left : trace path s ≡ numbered i (place_of s move) (follow_from (suc i) (drop (suc i) path))
@@ -361,40 +355,40 @@ pub record Tracing (s path : List ℕ) (move : Destination) (i : ℕ) : Type 0 w
 pub front-room : {s : List ℕ} → Within s 0
 front-room = record { inside = omega arith }
 
-start_of : (s path : List ℕ) {move : Destination} → (length path ≡ 0 → ⊥) → ReachedAt s move (nth_from (major_by false) (get_or path 0 0) (until_by 2 0) (drop 0 s)) → Tracing s path move 0
+start_of : (s path : List ℕ) {move : std.Option Cursor} → (length path ≡ 0 → ⊥) → ReachedAt s move (nth_from (major_by false) (get_or path 0 0) (until_by Ended 0) (drop 0 s)) → Tracing s path move 0
 unfolding trace major_by until_by
 start_of s [] n mv = absurd (n refl)
 start_of s (k ∷ p) n mv = record { below = omega arith; inside = mv.inside; left = ap (λ (x : Place). numbered 0 x (follow_from 1 p)) (sym mv.is) }
 
-pub trace-start : {s path : List ℕ} {move : Destination} → (length path ≡ 0 → ⊥) → ReachedAt s move (nth_from (major_by false) (get_or path 0 0) (until_by 2 0) (drop 0 s)) → Tracing s path move 0
+pub trace-start : {s path : List ℕ} {move : std.Option Cursor} → (length path ≡ 0 → ⊥) → ReachedAt s move (nth_from (major_by false) (get_or path 0 0) (until_by Ended 0) (drop 0 s)) → Tracing s path move 0
 trace-start n mv = start_of _ _ n mv
 
 -- a path with no steps leads nowhere
-none_of : (s path : List ℕ) → length path ≡ 0 → Traced s path (Lost 0)
+none_of : (s path : List ℕ) → length path ≡ 0 → Traced s path (Err 0)
 unfolding traced_to Still trace
 none_of s [] h = record { is = refl; inside = tt }
 none_of s (k ∷ p) h = absurd (omega arith)
 
-pub trace-none : {s path : List ℕ} → length path ≡ 0 → Traced s path (Lost 0)
+pub trace-none : {s path : List ℕ} → length path ≡ 0 → Traced s path (Err 0)
 trace-none h = none_of _ _ h
 
-module _ {s path : List ℕ} {move : Destination} {i : ℕ} (run : Tracing s path move i) where
-  pub trace-lost : move ≡ Nowhere → Traced s path (Lost i)
+module _ {s path : List ℕ} {move : std.Option Cursor} {i : ℕ} (run : Tracing s path move i) where
+  pub trace-lost : move ≡ None → Traced s path (Err i)
   unfolding traced_to Still place_of numbered
-  trace-lost e = record { is = sym (run.left ∙ ap (λ (m : Destination). numbered i (place_of s m) (follow_from (suc i) (drop (suc i) path))) e); inside = tt }
+  trace-lost e = record { is = sym (run.left ∙ ap (λ (m : std.Option Cursor). numbered i (place_of s m) (follow_from (suc i) (drop (suc i) path))) e); inside = tt }
 
-  module _ {c : Cursor} (e : move ≡ To c) where
+  module _ {c : Cursor} (e : move ≡ Some c) where
     going : trace path s ≡ follow_from (suc i) (drop (suc i) path) (drop c.at s)
     unfolding place_of numbered
-    going = run.left ∙ ap (λ (m : Destination). numbered i (place_of s m) (follow_from (suc i) (drop (suc i) path))) e
+    going = run.left ∙ ap (λ (m : std.Option Cursor). numbered i (place_of s m) (follow_from (suc i) (drop (suc i) path))) e
 
-    pub trace-at : length path ≤ i + 1 → Traced s path (At c)
+    pub trace-at : length path ≤ i + 1 → Traced s path (Ok c)
     unfolding traced_to Still ReachedInside follow_from
     trace-at h =
         let le : length path ≤ suc i = omega arith in
         record { is = sym (going ∙ ap (λ (p : List ℕ). follow_from (suc i) p (drop c.at s)) (drop_of_length-le path le)); inside = rw e at run.inside }
 
-    pub trace-on : {next : Destination} → i + 1 < length path → ReachedAt s next (child_in (get_or path (i + 1) 0) (drop c.at s)) → Tracing s path next (i + 1)
+    pub trace-on : {next : std.Option Cursor} → i + 1 < length path → ReachedAt s next (child_in (get_or path (i + 1) 0) (drop c.at s)) → Tracing s path next (i + 1)
     unfolding follow_from
     trace-on {next} h mv =
         let j : i + 1 ≡ suc i = omega arith in
@@ -406,5 +400,41 @@ module _ {s path : List ℕ} {move : Destination} {i : ℕ} (run : Tracing s pat
           left = going ∙ ap (λ (p : List ℕ). follow_from (suc i) p (drop c.at s)) (drop-cons path (suc i) 0 l)
               ∙ ap (λ (x : Place). numbered (suc i) x (follow_from (suc (suc i)) (drop (suc (suc i)) path))) (sym (mv.is ∙ ap (λ (x : ℕ). child_in x (drop c.at s)) q));
         })
+
+-- a move handed on, or the step at which there is none
+made_of : (o : std.Option Cursor) (i : ℕ) {c : Cursor} → ok_or o i ≡ Ok c → o ≡ Some c
+made_of (Some x) i e = ap (λ (r : std.Result Cursor ℕ). elim r [ Ok y ↦ Some y | Err j ↦ Some x ]) e
+made_of None i {c} e = let z : ◌≡◌ {A = ℕ} 0 1 = ap (λ (r : std.Result Cursor ℕ). elim r [ Ok y ↦ 1 | Err j ↦ 0 ]) e in absurd (omega arith)
+
+none_of_move : (o : std.Option Cursor) (i : ℕ) {x : ℕ} → ok_or o i ≡ Err x → (o ≡ None) × (x ≡ i)
+none_of_move (Some y) i {x} e = let z : ◌≡◌ {A = ℕ} 0 1 = ap (λ (r : std.Result Cursor ℕ). elim r [ Ok y ↦ 0 | Err j ↦ 1 ]) e in absurd (omega arith)
+none_of_move None i {x} e = (refl, sym (ap (λ (r : std.Result Cursor ℕ). elim r [ Ok y ↦ i | Err j ↦ j ]) e))
+
+module _ {s path : List ℕ} {o : std.Option Cursor} {r : std.Result Cursor ℕ} where
+  module _ (n : length path ≡ 0 → ⊥) (mv : ReachedAt s o (nth_from (major_by false) (get_or path 0 0) (until_by Ended 0) (drop 0 s))) (v : r ≡ ok_or o 0) where
+    pub first-made : {c : Cursor} → r ≡ Ok c → Tracing s path (Some c) 0
+    first-made w = let e = made_of o _ (sym v ∙ w) in rw e at (trace-start n mv)
+
+    pub first-lost : {x : ℕ} → r ≡ Err x → Traced s path (Err x)
+    first-lost w = let e = none_of_move o _ (sym v ∙ w) in rw e.1 (trace-lost (trace-start n mv) e.0)
+
+  module _ {i : ℕ} {here : Cursor} (l : 1 ≤ i) (h : i < length path) (run : Tracing s path (Some here) (i - 1)) (mv : ReachedAt s o (child_in (get_or path i 0) (drop here.at s))) (v : r ≡ ok_or o i) where
+    next : Tracing s path o i
+    next =
+        let j : i - 1 + 1 ≡ i = omega arith in
+        let k : i - 1 + 1 < length path = omega arith in
+        rw j at (trace-on run refl k (rw (← j) at mv))
+
+    pub next-made : {c : Cursor} → r ≡ Ok c → Tracing s path (Some c) (i + 1 - 1)
+    next-made w =
+        let e = made_of o _ (sym v ∙ w) in
+        let j : i + 1 - 1 ≡ i = omega arith in
+        rw j (rw e at next)
+
+    pub next-lost : {x : ℕ} → r ≡ Err x → Traced s path (Err x)
+    next-lost w = let e = none_of_move o _ (sym v ∙ w) in rw e.1 (trace-lost next e.0)
+
+pub trace-end : {s path : List ℕ} {here : Cursor} {i : ℕ} → Tracing s path (Some here) (i - 1) → length path ≤ i → Traced s path (Ok here)
+trace-end run h = trace-at run refl (omega arith)
 
 pub ruleset trace_ways = (trace-none, trace-lost, trace-at)

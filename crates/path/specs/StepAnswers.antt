@@ -4,22 +4,21 @@ use Rattle.cbor.specs.Decode.{counted}
 use Rattle.walk_answer.specs.WalkAnswers.{all_of}
 use Rattle.cbor.specs.Paths.{Found, found, nowhere}
 use Rattle.path.specs.Following.{Place, at, astray, behind_one, trace}
-use Rattle.path.specs.declared.Destination.{Destination}
-use Rattle.path.specs.declared.Destination.TheVariants.{To, Nowhere}
-use Rattle.path.specs.declared.Trace.{Trace}
-use Rattle.path.specs.declared.Trace.TheVariants.{At, Lost}
+use Rattle.std.specs.Prelude.{Ok, Err, Some, None}
+use Rattle.std.specs.Prelude as std
+use Rattle.path.specs.declared.Cursor.{Cursor}
 
 -- A PATH, STEP BY STEP
 
-unfoldable pub place_of : List ℕ → Destination → Place
-place_of s (To c) = at (drop c.at s)
-place_of s Nowhere = astray
+unfoldable pub place_of : List ℕ → std.Option Cursor → Place
+place_of s (Some c) = at (drop c.at s)
+place_of s None = astray
 
-unfoldable pub ReachedInside : List ℕ → Destination → Type 0
-ReachedInside s (To c) = c.at ≤ length s
-ReachedInside s Nowhere = Unit
+unfoldable pub ReachedInside : List ℕ → std.Option Cursor → Type 0
+ReachedInside s (Some c) = c.at ≤ length s
+ReachedInside s None = Unit
 
-pub record ReachedAt (s : List ℕ) (r : Destination) (p : Place) : Type 0 where
+pub record ReachedAt (s : List ℕ) (r : std.Option Cursor) (p : Place) : Type 0 where
   pub is : place_of s r ≡ p
   pub inside : ReachedInside s r
 
@@ -41,14 +40,14 @@ items_before false k = k
 unfoldable pub past_items : ℕ → List ℕ → Place
 past_items n s = behind_one (all_of 4 17 (counted n) s)
 
-unfoldable pub traced_to : List ℕ → Trace → Found (List ℕ)
-traced_to s (At c) = found (drop c.at s)
-traced_to s (Lost i) = nowhere i
+unfoldable pub traced_to : List ℕ → std.Result Cursor ℕ → Found (List ℕ)
+traced_to s (Ok c) = found (drop c.at s)
+traced_to s (Err i) = nowhere i
 
-unfoldable pub Still : List ℕ → Trace → Type 0
-Still s (At c) = c.at ≤ length s
-Still s (Lost i) = Unit
+unfoldable pub Still : List ℕ → std.Result Cursor ℕ → Type 0
+Still s (Ok c) = c.at ≤ length s
+Still s (Err i) = Unit
 
-pub record Traced (s path : List ℕ) (r : Trace) : Type 0 where
+pub record Traced (s path : List ℕ) (r : std.Result Cursor ℕ) : Type 0 where
   pub is : traced_to s r ≡ trace path s
   pub inside : Still s r

@@ -10,7 +10,7 @@ use lib.ListN.{length, take, get_or, drop, length-take, length-drop}
 use lib.Seq.{get_or-take, get_or-drop}
 use mir.Syntax.{w8 as bits8}
 use mir.Val.{Fits}
-use borrow.Author.Tests.{ltb-false, lt-ltb, le-ltb, eq-eqb, ne_eqb, ltb-true, eqb-true, not-false}
+use borrow.Author.Tests.{ltb-false, ltb-true, eqb-true, not-false}
 use Rattle.cbor.specs.Ascii.{ascii}
 use Rattle.notation.specs.Printing.{hex_byte_of, escape_of, escaped_of}
 use Rattle.text_output.specs.PrintParts.{content_of}
@@ -18,26 +18,6 @@ use Rattle.plain_bytes.specs.Runs.{more_below, more_at, More, AllPlain, Plain, P
 use borrow.Author.Count.{below_more}
 
 -- ONE BYTE
-
-pub below-yes : {b : ℕ} → b < 0x20 → 5 ≡ more_below b
-unfolding more_below
-below-yes {b} h = sym (rw (lt-ltb b 0x20 h, more_below))
-
-pub below-no : {b : ℕ} → 0x20 ≤ b → 0 ≡ more_below b
-unfolding more_below
-below-no {b} h = sym (rw (le-ltb b 0x20 h, more_below))
-
-pub ruleset below_ways = (below-yes, below-no)
-
-pub at-yes : {b c : ℕ} → b ≡ c → 1 ≡ more_at b c
-unfolding more_at
-at-yes {b} {c} h = sym (rw (eq-eqb b c h, more_at))
-
-pub at-no : {b c : ℕ} → (b ≡ c → ⊥) → 0 ≡ more_at b c
-unfolding more_at
-at-no {b} {c} h = sym (rw (ne_eqb b c h, more_at))
-
-pub ruleset at_ways = (at-yes, at-no)
 
 module _ (b : ℕ) {x y z : ℕ} (ex : x ≡ more_below b) (ey : y ≡ more_at b 0x22) (ez : z ≡ more_at b 0x5c) where
   sums : (1 + (x + y + z) ≡ length (escape_of b)) × (x + y + z ≤ 5)
@@ -141,6 +121,3 @@ module _ {s : List ℕ} where
             let q : j < at - from = omega (arith, length-take (at - from) (drop from s)) in
             rw (get_or-take (at - from) (drop from s) j 0 q, get_or-drop from s j 0) (r.is (from + j) (omega arith) (omega arith));
       }
-
-pub plain_yes : {s : List ℕ} {t : Bool} → Plain s t → t ≡ true → AllPlain s
-plain_yes p e = p.is e

@@ -1,7 +1,7 @@
 // Bytes that stand for themselves between quotes, by blocks, and how many bytes more the others take.
 #![tactic(auto)]
 
-ghost use Rattle.std.specs.Prelude.{◌≡◌, ◌≤◌, max, length};
+ghost use Rattle.std.specs.Prelude.{◌≡◌, ◌≤◌, length};
 ghost use Rattle.plain_bytes.specs.Runs.{more_below, more_at, More, Plain, PlainRun};
 
 // HOW MANY BYTES MORE
@@ -9,22 +9,18 @@ ghost use Rattle.plain_bytes.specs.Runs.{more_below, more_at, More, Plain, Plain
 // So many bytes are looked at together.
 pub const BLOCK: usize = 32;
 
+#[tactic(auto, unfolding(crate::specs::Runs::more_below))]
 fn more_below(b: u8) -> u8
     ensures { result ≡ more_below b }
 {
-    if b < b' ' {
-        return 5;
-    }
-    0
+    if b < b' ' { 5 } else { 0 }
 }
 
+#[tactic(auto, unfolding(crate::specs::Runs::more_at))]
 fn more_at(b: u8, c: u8) -> u8
     ensures { result ≡ more_at b c }
 {
-    if b == c {
-        return 1;
-    }
-    0
+    if b == c { 1 } else { 0 }
 }
 
 // How many bytes more than one a byte takes between quotes.
@@ -36,29 +32,18 @@ pub fn more(b: u8) -> u8
 
 // RUNS OF BYTES THAT STAND FOR THEMSELVES
 
-fn larger(a: u8, b: u8) -> u8
-    ensures { result ≡ max a b }
-{
-    if a < b {
-        return b;
-    }
-    a
-}
-
 // Whether each byte stands for itself between quotes. The loop has no way out, so the compiler makes wide steps of it.
 pub fn is_plain(bytes: &[u8]) -> bool
     ensures { Plain bytes.now result }
 {
     let mut most: u8 = 0;
-    let mut i: usize = 0;
-    while i < bytes.len() {
-        most = larger(most, more(bytes[i]));
-        i += 1;
+    for &b in bytes {
+        most = most.max(more(b));
     }
     most == 0
 }
 
-// Past whole blocks whose bytes stand for themselves.
+// Past whole blocks whose bytes stand for themselves. A cursor: the place is what is answered, and a loop over blocks would count it beside them.
 pub fn plain_end(bytes: &[u8], from: usize) -> usize
     requires { from ≤ length bytes.now }
     ensures { PlainRun bytes.now from result }

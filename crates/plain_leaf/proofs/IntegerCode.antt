@@ -17,7 +17,7 @@ use Rattle.cbor.specs.Encode.{encode}
 use Rattle.cbor.specs.Utf8.{is_in}
 use Rattle.cbor.specs.Flags.{sign_of}
 use Rattle.cbor.proofs.Tests.{clash}
-use Rattle.notation.specs.Classes.{digit, minus, class_number, class_rows, class_in, class_of, is}
+use Rattle.notation.specs.Classes.{digit, class_number, class_rows, class_in, class_of, is}
 use Rattle.notation.specs.Scanning.{whether}
 use Rattle.notation.specs.Indicators.{absent, indicator, choose}
 use Rattle.notation.specs.Numbers.{digit_value, is_digit, digits, is_floating, judged, integer_token, integer, other_integer, decimal, after_zero, number}
@@ -187,9 +187,6 @@ module _ {minus : Bool} where
   pub argument-unsigned : (v : ℕ) → minus ≡ false → v ≡ argument_by (sign_of minus) v
   unfolding argument_by sign_of
   argument-unsigned v e = rw e
-
-  pub argument_sub : {v : ℕ} → minus ≡ true → (minus ≡ true → 1 ≤ v) → 1 ≤ v
-  argument_sub e f = f e
 
 pub ruleset major_ways = (major_negative, major-unsigned)
 

@@ -2,21 +2,18 @@
 -- Assumes nothing.
 use mathlib.Core.Path.{◌≡◌, refl, sym, ap, ◌∙◌}
 use mathlib.Core.List.{List, [], ◌∷◌, ◌++◌}
-use mathlib.Core.Bool.{Bool, true, false, not}
+use mathlib.Core.Bool.{Bool, true, false}
 use Prim.Native.Nat.{ℕ, ◌+◌, ◌-◌, ◌*◌, ◌≤◌, ◌<◌}
 use native.Mathlib.Omega.{arith}
 use lib.Dec.{eqb}
 use lib.ListN.{length, drop, get_or}
-use mir.Syntax.{w8 as bits8}
-use mir.Val.{Fits}
-use borrow.Author.Tests.{not-true, not-false}
+use borrow.Author.Tests.{ne_eqb}
 use Rattle.cbor.specs.Refusals.{bind}
 use Rattle.cbor.specs.Widths.{limit}
 use Rattle.cbor.specs.Items.{simple, levels}
 use Rattle.cbor.specs.Heads.{simples, major_number}
 use Rattle.cbor.specs.Encode.{encode}
 use Rattle.cbor.specs.Utf8.{is_in}
-use Rattle.cbor.proofs.Tests.{clash}
 use Rattle.memory.specs.Buffer.{over_if_fits}
 use Rattle.notation.specs.Classes.{letter, class_number, class_rows, class_in, class_of, is, is_word}
 use Rattle.notation.specs.Words.{same, value, worded, word}
@@ -32,9 +29,12 @@ use Rattle.leaf_answer.specs.LeafAnswers.{LeafTold}
 use Rattle.leaf_head.specs.HeadParts.{short_head, HeadMade}
 use Rattle.plain_leaf.specs.LeafParts.{Four, NoWord, EndsWord, WordEnds, Spells, KnownWord}
 use Rattle.plain_leaf.specs.declared.word.SimpleWord.{SimpleWord}
+use Rattle.std.specs.Prelude.{Some, ◌⊎◌}
+use Rattle.std.proofs.Common.{inl, inr}
+use Rattle.std.proofs.lemmas.Option.{same_Some}
 use Rattle.leaf_answer.specs.declared.LeafRead.{LeafRead as LeafS}
 use Rattle.leaf_answer.specs.declared.Found.TheVariants.{Leaf}
-use Rattle.leaf_answer.proofs.LeafCode.{leaf_odd, leaf-made, leaf-whole}
+use Rattle.leaf_answer.proofs.LeafCode.{leaf-made, leaf-whole}
 use Rattle.leaf_head.proofs.HeadsCode.{head-single, head-is}
 
 -- THE BYTES of a text from a place on
@@ -69,35 +69,35 @@ word_at b w e h v d l i k = record { is = λ c r z m. rw (d, z) (word_cut b w c 
 
 -- WORDS
 
-pub word_none : {s : List ℕ} {at : ℕ} {r : SimpleWord} → r.known ≡ false → KnownWord s at r
-word_none e = record { is = λ f. absurd (clash (sym f ∙ e)) }
+known : {s : List ℕ} {at end n : ℕ} → Spells s at end n → KnownWord s at (Some (record { end = end; value = n }))
+known x = record { is = λ w u. rw (← same_Some _ w u) x }
 
 module _ {s : List ℕ} {at w : ℕ} (l : 4 ≤ length s - at) (f : Four s at w) where
   pub spelled : (a b c d : ℕ) → a < 256 → b < 256 → c < 256 → d < 256 → w ≡ a * 0x100_0000 + b * 0x1_0000 + c * 0x100 + d → drop at (marked s) ≡ a ∷ b ∷ c ∷ d ∷ drop (at + 4) (marked s)
   spelled a b c d la lb lc ld e = drop-four a b c d la lb lc ld (omega arith) f e
 
-  pub word_true : w ≡ 0x7472_7565 → KnownWord s at (record { known = true; end = at + 4; value = 21 })
+  pub word_true : w ≡ 0x7472_7565 → KnownWord s at (Some (record { end = at + 4; value = 21 }))
   unfolding worded same is_word is class_number class_of class_in class_rows is_in
   word_true e =
       let d = spelled 0x74 0x72 0x75 0x65 (omega arith) (omega arith) (omega arith) (omega arith) e in
-      record { is = λ k. word_at 0x74 (0x72 ∷ 0x75 ∷ 0x65 ∷ []) refl (refl, (refl, (refl, tt))) (λ r. refl) d (omega arith) (omega arith) (omega arith) }
+      known (word_at 0x74 (0x72 ∷ 0x75 ∷ 0x65 ∷ []) refl (refl, (refl, (refl, tt))) (λ r. refl) d (omega arith) (omega arith) (omega arith))
 
-  pub word_null : w ≡ 0x6e75_6c6c → KnownWord s at (record { known = true; end = at + 4; value = 22 })
+  pub word_null : w ≡ 0x6e75_6c6c → KnownWord s at (Some (record { end = at + 4; value = 22 }))
   unfolding worded same is_word is class_number class_of class_in class_rows is_in
   word_null e =
       let d = spelled 0x6e 0x75 0x6c 0x6c (omega arith) (omega arith) (omega arith) (omega arith) e in
-      record { is = λ k. word_at 0x6e (0x75 ∷ 0x6c ∷ 0x6c ∷ []) refl (refl, (refl, (refl, tt))) (λ r. refl) d (omega arith) (omega arith) (omega arith) }
+      known (word_at 0x6e (0x75 ∷ 0x6c ∷ 0x6c ∷ []) refl (refl, (refl, (refl, tt))) (λ r. refl) d (omega arith) (omega arith) (omega arith))
 
-  pub word_false : {t : Bool} → w ≡ 0x6661_6c73 → Peeked s (at + 4) 0x65 t → t ≡ true → KnownWord s at (record { known = true; end = at + 5; value = 20 })
+  pub word_false : {t : Bool} → w ≡ 0x6661_6c73 → Peeked s (at + 4) 0x65 t → t ≡ true → KnownWord s at (Some (record { end = at + 5; value = 20 }))
   unfolding worded same is_word is class_number class_of class_in class_rows is_in
   word_false e p g =
       let d = spelled 0x66 0x61 0x6c 0x73 (omega arith) (omega arith) (omega arith) (omega arith) e in
       let q : at + 4 + 1 ≡ at + 5 = omega arith in
       let h : drop (at + 4) (marked s) ≡ 0x65 ∷ drop (at + 5) (marked s) = rw q at (peeked_yes p g) in
-      record { is = λ k. word_at 0x66 (0x61 ∷ 0x6c ∷ 0x73 ∷ 0x65 ∷ []) refl (refl, (refl, (refl, (refl, tt)))) (λ r. refl) (d ∙ rw h) (omega arith) (omega (arith, p.inside g)) (omega arith) }
+      known (word_at 0x66 (0x61 ∷ 0x6c ∷ 0x73 ∷ 0x65 ∷ []) refl (refl, (refl, (refl, (refl, tt)))) (λ r. refl) (d ∙ rw h) (omega arith) (omega (arith, p.inside g)) (omega arith))
 
 pub word_undefined : {s : List ℕ} {at v w : ℕ} {t : Bool} → 9 ≤ length s - at → Four s at v → v ≡ 0x756e_6465 → Four s (at + 4) w → w ≡ 0x6669_6e65 → Peeked s (at + 8) 0x64 t → t ≡ true
-    → KnownWord s at (record { known = true; end = at + 9; value = 23 })
+    → KnownWord s at (Some (record { end = at + 9; value = 23 }))
 unfolding worded same is_word is class_number class_of class_in class_rows is_in
 word_undefined {s} {at} l f e g h p k =
     let d = spelled (omega arith) f 0x75 0x6e 0x64 0x65 (omega arith) (omega arith) (omega arith) (omega arith) e in
@@ -105,44 +105,24 @@ word_undefined {s} {at} l f e g h p k =
     let z₁ : at + 4 + 4 ≡ at + 8 = omega arith in
     let z₂ : at + 8 + 1 ≡ at + 9 = omega arith in
     let d'' = peeked_yes p k in
-    record {
-      is = λ u.
-          word_at 0x75 (0x6e ∷ 0x64 ∷ 0x65 ∷ 0x66 ∷ 0x69 ∷ 0x6e ∷ 0x65 ∷ 0x64 ∷ []) refl (refl, (refl, (refl, (refl, (refl, (refl, (refl, (refl, tt)))))))) (λ r. refl) (d ∙ rw (d', z₁, d'', z₂)) (omega arith) (omega (arith, p.inside k)) (omega arith);
-    }
-
-pub ruleset word_ways = (word_none, word_true, word_null, word_false)
-
-pub ruleset undefined_ways = (word_none, word_undefined)
+    known
+    (word_at 0x75 (0x6e ∷ 0x64 ∷ 0x65 ∷ 0x66 ∷ 0x69 ∷ 0x6e ∷ 0x65 ∷ 0x64 ∷ []) refl (refl, (refl, (refl, (refl, (refl, (refl, (refl, (refl, tt)))))))) (λ r. refl) (d ∙ rw (d', z₁, d'', z₂)) (omega arith) (omega (arith, p.inside k)) (omega arith))
 
 -- WHERE A WORD ENDS
 
 module _ {b : ℕ} where
-  pub ends_low : b < 0x30 → EndsWord b (not (eqb b 0x27))
-  ends_low h = record { is = λ e. record { word = sym (word_below h); quote = not-true (eqb b 0x27) e } }
-
-  pub ends_not : EndsWord b false
-  ends_not = record { is = λ e. absurd (clash (sym e)) }
+  pub ends_low : b < 0x30 → (b ≡ 0x27 → ⊥) → EndsWord b true
+  ends_low h n = record { is = λ e. record { word = sym (word_below h); quote = ne_eqb b 0x27 n } }
 
   ends_as : (c : ℕ) → b ≡ c → is_word c ≡ false → eqb c 0x27 ≡ false → EndsWord b true
   ends_as c e f g = record { is = λ t. record { word = rw e f; quote = rw e g } }
 
-  pub ends_colon : b ≡ 0x3a → EndsWord b true
+  pub ends_sign : (b ≡ 0x3a) ⊎ ((b ≡ 0x3e) ⊎ ((b ≡ 0x5d) ⊎ (b ≡ 0x7d))) → EndsWord b true
   unfolding is_word is class_number class_of class_in class_rows is_in
-  ends_colon e = ends_as 0x3a e refl refl
-
-  pub ends_greater : b ≡ 0x3e → EndsWord b true
-  unfolding is_word is class_number class_of class_in class_rows is_in
-  ends_greater e = ends_as 0x3e e refl refl
-
-  pub ends-bracket : b ≡ 0x5d → EndsWord b true
-  unfolding is_word is class_number class_of class_in class_rows is_in
-  ends-bracket e = ends_as 0x5d e refl refl
-
-  pub ends_brace : b ≡ 0x7d → EndsWord b true
-  unfolding is_word is class_number class_of class_in class_rows is_in
-  ends_brace e = ends_as 0x7d e refl refl
-
-pub ruleset byte_ways = (ends_low, ends_not, ends_colon, ends_greater, ends-bracket, ends_brace)
+  ends_sign (inl e) = ends_as 0x3a e refl refl
+  ends_sign (inr (inl e)) = ends_as 0x3e e refl refl
+  ends_sign (inr (inr (inl e))) = ends_as 0x5d e refl refl
+  ends_sign (inr (inr (inr e))) = ends_as 0x7d e refl refl
 
 pub ends-text : {s : List ℕ} {at : ℕ} → at ≤ length s → length s ≤ at → WordEnds s at true
 unfolding is_word is class_number class_of class_in class_rows is_in
@@ -153,21 +133,13 @@ ends-text {s} {at} h l =
 pub ends_at : {s : List ℕ} {at : ℕ} {t : Bool} → at < length s → EndsWord (get_or s at 0) t → WordEnds s at t
 ends_at {s} {at} l x = record { next = get_or s at 0; rest = drop (at + 1) (marked s); left = at_byte s at l; is = x.is }
 
-pub ruleset ends_ways = (ends-text, ends_at)
-
 -- ANSWERS
 
-module _ {s : List ℕ} {at : ℕ} {w : SimpleWord} (x : KnownWord s at w) (f : not w.known ≡ false) where
+module _ {s : List ℕ} {at : ℕ} {w : SimpleWord} (x : KnownWord s at (Some w)) where
   word_spells : Spells s at w.end w.value
-  word_spells = x.is (not-false w.known f)
+  word_spells = x.is w refl
 
-  pub word_end : w.end ≤ length s
-  word_end = word_spells.inside
-
-  pub word_byte : Fits bits8 (0xe0 + w.value)
-  word_byte = record { fits = omega (arith, word_spells.small) }
-
-  pub word-leaf : {t : Bool} {b b' : List ℕ} {pos : ℕ} {q : LeafS} → WordEnds s w.end t → not t ≡ false → b' ≡ over_if_fits b pos ((0xe0 + w.value) ∷ [])
+  pub word-leaf : {t : Bool} {b b' : List ℕ} {pos : ℕ} {q : LeafS} → WordEnds s w.end t → t ≡ true → b' ≡ over_if_fits b pos ((0xe0 + w.value) ∷ [])
       → q ≡ record { found = Leaf; next = w.end; size = 1; binary = false; length = 0; number = 0 } → LeafTold s b b' at pos q
   unfolding levels encode Tells held_of limit major_number
   word-leaf {t} {b} {b'} {pos} y g e r =
@@ -178,7 +150,7 @@ module _ {s : List ℕ} {at : ℕ} {w : SimpleWord} (x : KnownWord s at w) (f : 
       leaf-made r
       (record {
         item = simple n;
-        whole = leaf-whole refl (record { is = p.is y.next y.rest y.left (y.is (not-false t g)); inside = omega (arith, length_marked s, p.inside); ahead = p.ahead });
+        whole = leaf-whole refl (record { is = p.is y.next y.rest y.left (y.is g); inside = omega (arith, length_marked s, p.inside); ahead = p.ahead });
         sized = m.sized ∙ ap length hs;
         some = omega arith;
         short = omega (arith, p.ahead);
@@ -186,5 +158,3 @@ module _ {s : List ℕ} {at : ℕ} {w : SimpleWord} (x : KnownWord s at w) (f : 
         wrote = rw hs at m.wrote;
       })
       m.kept
-
-pub ruleset answer_ways = (word-leaf, leaf_odd)

@@ -1,5 +1,5 @@
 -- Of the code: what the readers of integers and words say of their parts. s is a text; the definitions read it with its end mark.
-use Rattle.std.specs.Prelude.{ℕ, ◌+◌, ◌-◌, ◌*◌, ◌≤◌, ◌<◌, ◌≡◌, Bool, true, false, List, ◌∷◌, eqb, length, drop, get_or}
+use Rattle.std.specs.Prelude.{ℕ, ◌+◌, ◌-◌, ◌*◌, ◌≤◌, ◌<◌, ◌≡◌, Bool, true, false, List, ◌∷◌, Option, Some, eqb, length, drop, get_or}
 use Rattle.cbor.specs.Refusals.{ok}
 use Rattle.cbor.specs.Items.{Sign, unsigned, negative, simple}
 use Rattle.cbor.specs.Heads.{integers, major_number}
@@ -60,5 +60,5 @@ pub record Spells (s : List ℕ) (at end n : ℕ) : Type 0 where
   pub ahead : at < end
   pub small : n ≤ 23
 
-pub record KnownWord (s : List ℕ) (at : ℕ) (r : SimpleWord) : Type 0 where
-  pub is : r.known ≡ true → Spells s at r.end r.value
+pub record KnownWord (s : List ℕ) (at : ℕ) (r : Option SimpleWord) : Type 0 where
+  pub is : (w : SimpleWord) → r ≡ Some w → Spells s at w.end w.value

@@ -15,9 +15,10 @@ fn major_of(minus: bool) -> u8
     ensures { IntegerMajor minus result }
 {
     if minus {
-        return NEGATIVE_INTEGER;
+        NEGATIVE_INTEGER
+    } else {
+        UNSIGNED_INTEGER
     }
-    UNSIGNED_INTEGER
 }
 
 // -n has the argument n - 1.
@@ -25,10 +26,7 @@ fn argument_of(minus: bool, value: u64) -> u64
     requires { minus ≡ true → 1 ≤ value }
     ensures { result ≡ argument_by (sign_of minus) value }
 {
-    if minus {
-        return value - 1;
-    }
-    value
+    if minus { value - 1 } else { value }
 }
 
 // The digits begin at `at`, the integer at `place`.

@@ -1,5 +1,5 @@
 // The words that are simple values: true, false, null, undefined.
-ghost use Rattle.std.specs.Prelude.{◌≡◌, false, ◌+◌, ◌≤◌, ◌<◌, length};
+ghost use Rattle.std.specs.Prelude.{◌+◌, ◌≤◌, ◌<◌, length};
 ghost use Rattle.head.specs.HeadAnswers.{Widened};
 ghost use Rattle.leaf_answer.specs.LeafAnswers.{LeafTold};
 ghost use Rattle.plain_leaf.specs.LeafParts.{Four, KnownWord, EndsWord, WordEnds};
@@ -45,121 +45,80 @@ pub fn four(text: &[u8], at: usize) -> u32
         + wide(text[at + 3])
 }
 
+// A word's end, and the simple value that it is.
 #[derive(Drop)]
 struct SimpleWord {
-    known: bool,
     end: usize,
     value: u8,
 }
 
-fn no_word(at: usize) -> SimpleWord
-    ensures { result.known ≡ false }
-{
-    SimpleWord {
-        known: false,
-        end: at,
-        value: 0,
-    }
-}
-
 // The word undefined.
-fn undefined(text: &[u8], at: usize) -> SimpleWord
+fn undefined(text: &[u8], at: usize) -> Option<SimpleWord>
     requires { at < length text.now }
     ensures { KnownWord text.now at result }
 {
-    if text.len() - at < 9 {
-        return no_word(at);
-    }
-    if four(text, at) != UNDE {
-        return no_word(at);
-    }
-    if four(text, at + 4) != FINE {
-        return no_word(at);
-    }
-    if next_is(text, at + 8, b'd') {
-        return SimpleWord {
-            known: true,
+    if 9 <= text.len() - at
+        && four(text, at) == UNDE
+        && four(text, at + 4) == FINE
+        && next_is(text, at + 8, b'd')
+    {
+        Some(SimpleWord {
             end: at + 9,
             value: UNDEFINED_VALUE,
-        };
+        })
+    } else {
+        None
     }
-    no_word(at)
 }
 
 // The word that begins at a place, if nothing goes on behind it.
-fn simple_word(text: &[u8], at: usize) -> SimpleWord
+fn simple_word(text: &[u8], at: usize) -> Option<SimpleWord>
     requires { at < length text.now }
     ensures { KnownWord text.now at result }
 {
     if text.len() - at < 4 {
-        return no_word(at);
+        return None;
     }
-    let w = four(text, at);
-    if w == TRUE {
-        return SimpleWord {
-            known: true,
+    match four(text, at) {
+        TRUE => Some(SimpleWord {
             end: at + 4,
             value: TRUE_VALUE,
-        };
-    }
-    if w == NULL {
-        return SimpleWord {
-            known: true,
+        }),
+        NULL => Some(SimpleWord {
             end: at + 4,
             value: NULL_VALUE,
-        };
+        }),
+        FALS if next_is(text, at + 4, b'e') => Some(SimpleWord {
+            end: at + 5,
+            value: FALSE_VALUE,
+        }),
+        _ => undefined(text, at),
     }
-    if w == FALS {
-        if next_is(text, at + 4, b'e') {
-            return SimpleWord {
-                known: true,
-                end: at + 5,
-                value: FALSE_VALUE,
-            };
-        }
-        return no_word(at);
-    }
-    undefined(text, at)
 }
 
 // Whether a byte ends a word, of those that mostly do.
 fn ends_word(b: u8) -> bool
     ensures { EndsWord b result }
 {
-    if b < b'0' {
-        return b != b'\'';
-    }
-    match b {
-        b':' => true,
-        b'>' => true,
-        b']' => true,
-        b'}' => true,
-        _ => false,
-    }
+    b != b'\'' && matches!(b, 0..b'0' | b':' | b'>' | b']' | b'}')
 }
 
 fn ends(text: &[u8], at: usize) -> bool
     requires { at ≤ length text.now }
     ensures { WordEnds text.now at result }
 {
-    if text.len() <= at {
-        return true;
-    }
-    ends_word(text[at])
+    text.len() <= at || ends_word(text[at])
 }
 
 pub fn word(text: &[u8], at: usize, buf: &mut [u8], pos: usize) -> LeafRead
     requires { at < length text.now }
     ensures { LeafTold text.now buf.old buf.new at pos result }
 {
-    let w = simple_word(text, at);
-    if !w.known {
-        return odd(at);
+    match simple_word(text, at) {
+        Some(w) if ends(text, w.end) => {
+            buffer::put(buf, pos, SIMPLE + w.value);
+            leaf(w.end, 1, false, 0)
+        }
+        _ => odd(at),
     }
-    let end = w.end;
-    if !ends(text, end) {
-        return odd(at);
-    }
-    buffer::put(buf, pos, SIMPLE + w.value);
-    leaf(end, 1, false, 0)
 }

@@ -2,18 +2,14 @@
 -- Assumes nothing.
 use mathlib.Core.Path.{◌≡◌, refl, sym, ap, ◌∙◌}
 use mathlib.Core.List.{List, [], ◌∷◌, ◌++◌, append_assoc, append-nil}
-use mathlib.Core.Bool.{Bool, true, false, not}
+use mathlib.Core.Bool.{true}
 use Prim.Native.Nat.{ℕ, zero, suc, ◌+◌, ◌-◌, ◌*◌, ◌/◌, ◌%◌, ◌≤◌, ◌<◌}
 use native.Mathlib.Numerals.{add-one}
 use native.Mathlib.Omega.{arith}
-use lib.Dec.{leb}
 use lib.ListN.{length, take, drop, set, get_or, length-append, length-drop, length-set, take-append-drop}
-use lib.Seq.{get_or-set_same, get_or-set_other, take-take}
+use lib.Seq.{take-take}
 use mir.Syntax.{w8 as bits8}
 use mir.Val.{Fits}
-use borrow.Author.Count.{below_more}
-use borrow.Author.Tests.{leb-true, not-false}
-use Rattle.cbor.proofs.Tests.{clash}
 use Rattle.memory.specs.Buffer.{over, over_if_fits, copied}
 use Rattle.memory.proofs.Buffer.{over_nil, over_snoc, length_part, written-fits, length-written, copied-yes, take-written, take-copied}
 use Rattle.notation.specs.Numbers.{is_digit, digit_value}
@@ -29,28 +25,8 @@ use Rattle.encoding.specs.ReadAnswers.{Wrote}
 use Rattle.encoding.proofs.Wrote.{wrote-written, wrote-more}
 use Rattle.leaf_head.specs.HeadParts.{short_head}
 use Rattle.plain_string.specs.StringParts.{StringMade, HexMade}
-use Rattle.plain_string.specs.BlockParts.{HasRoom, Short, nibble_of, pair_block, Nibbles, ShortPart, ShortPairs}
+use Rattle.plain_string.specs.BlockParts.{nibble_of, pair_block, Nibbles, ShortPart, ShortPairs}
 use Rattle.leaf_head.proofs.HeadsCode.{single, wrote-front_of}
-
--- ROOM
-
-module _ {size from n : ℕ} where
-  pub room-none : HasRoom size from n false
-  room-none = record { is = λ e. absurd (clash (sym e)) }
-
-  pub room-is : n ≤ size → HasRoom size from n (leb from (size - n))
-  room-is h = record { is = λ e. omega (arith, leb-true from (size - n) e) }
-
-pub ruleset room_ways = (room-none, room-is)
-
-module _ {n most size from room pos wanted : ℕ} where
-  pub short_none : Short n most size from room pos wanted false
-  short_none = record { few = λ e. absurd (clash (sym e)); block = λ e. absurd (clash (sym e)); fits = λ e. absurd (clash (sym e)) }
-
-  pub short-is : {t u : Bool} → n ≤ most → HasRoom size from 32 t → not t ≡ false → HasRoom room pos wanted u → Short n most size from room pos wanted u
-  short-is {t} l x f y = record { few = λ e. l; block = λ e. x.is (not-false t f); fits = y.is }
-
-pub ruleset short_ways = (short_none, short-is)
 
 -- A HEAD OF ONE BYTE, and more than the content behind it
 
@@ -99,21 +75,6 @@ pub record Nibbling (s : List ℕ) (from i : ℕ) (t : List ℕ) : Type 0 where
   pub is : (j : ℕ) → j < i → get_or t j 0 ≡ nibble_of (get_or s (from + j) 0)
   pub size : length t ≡ 32
 
-pub nibbles_start : {s : List ℕ} {from : ℕ} (t : List ℕ) → length t ≡ 32 → Nibbling s from 0 t
-nibbles_start t e = record { is = λ j l. absurd (omega arith); size = e }
-
-module _ {s : List ℕ} {from i : ℕ} {t : List ℕ} (inv : Nibbling s from i t) where
-  pub nibbles_on : {v : ℕ} → i < 32 → v ≡ nibble_of (get_or s (from + i) 0) → Nibbling s from (i + 1) (set t i v)
-  nibbles_on {v} h e =
-      let l : i < length t = omega (arith, inv.size) in
-      record {
-        is = below_more (λ j. get_or (set t i v) j 0 ≡ nibble_of (get_or s (from + j) 0)) i (λ j g. get_or-set_other t i j v 0 (λ z. omega arith) ∙ inv.is j g) (get_or-set_same t i v 0 l ∙ e);
-        size = length-set t i v ∙ inv.size;
-      }
-
-  pub nibbles_end : 32 ≤ i → Nibbles s from t
-  nibbles_end h = record { is = λ j g. inv.is j (omega arith) }
-
 -- BYTES OF A BLOCK
 
 length-block : (s : List ℕ) (from k : ℕ) → length (pair_block s from k) ≡ k
@@ -157,9 +118,6 @@ module _ {s : List ℕ} {from : ℕ} {t : List ℕ} (x : Nibbles s from t) {i : 
         same = length-set l (at + i) v ∙ y.same;
         most = omega arith;
       }
-
-pub pairing_end : {s : List ℕ} {from : ℕ} {b l : List ℕ} {at i : ℕ} → Pairing s from b at i l → 16 ≤ i → l ≡ over b at (pair_block s from 16)
-pairing_end {s} {from} {b} {l} {at} {i} y h = let e : i ≡ 16 = omega (arith, y.most) in rw e at y.is
 
 -- the first n of them
 record Fronts (s : List ℕ) (from n k : ℕ) : Type 0 where

@@ -2,13 +2,13 @@
 -- Assumes nothing.
 use mathlib.Core.Path.{◌≡◌, refl, sym, ap, ◌∙◌}
 use mathlib.Core.List.{List, [], ◌∷◌, ◌++◌, append-nil, append_assoc}
-use mathlib.Core.Bool.{Bool, true, false, ◌||◌, not}
+use mathlib.Core.Bool.{Bool, true, false, ◌||◌}
 use Prim.Native.Nat.{ℕ, zero, suc, ◌+◌, ◌-◌, ◌*◌, ◌/◌, ◌%◌, ◌≤◌, ◌<◌, min}
 use native.Mathlib.Omega.{arith}
 use lib.Dec.{leb, ltb, eqb}
 use lib.ListN.{length, take, drop, get_or, length-append, length-drop, drop_of_length-le}
 use lib.Seq.{length-take-le, take-append-le, take-take, take_all}
-use borrow.Author.Tests.{le-leb, leb-true, leb-false, eq-eqb, ne_eqb, not-false}
+use borrow.Author.Tests.{le-leb, leb-true, leb-false, eq-eqb, ne_eqb}
 use Rattle.cbor.specs.Refusals.{Result, ok, bind, no_token}
 use Rattle.cbor.specs.Widths.{Width, limit, shortest}
 use Rattle.cbor.specs.Items.{Kind, byte_string, definite, string}
@@ -22,7 +22,7 @@ use Rattle.notation.specs.Classes.{blank, class_number, class_rows, class_in, cl
 use Rattle.notation.specs.Scanning.{fault, run, whether}
 use Rattle.notation.specs.Numbers.{worth, no_digit, is_digit}
 use Rattle.notation.specs.Indicators.{absent, indicator, choose}
-use Rattle.notation.specs.Quoted.{character, gives, move_at, unquote}
+use Rattle.notation.specs.Quoted.{character, move_at, unquote}
 use Rattle.notation.specs.Literals.{literal_token, quoted_token, quoted, is_body, body, stands_for, hex_content, contained, encoded_literal}
 use Rattle.notation.specs.Words.{same, prefixed, word}
 use Rattle.notation.specs.Tokens.{literal, begins}
@@ -43,10 +43,9 @@ use Rattle.encoding.specs.Cuts.{CutAt}
 use Rattle.leaf_answer.specs.LeafAnswers.{Whole, LeafTold}
 use Rattle.leaf_head.specs.HeadParts.{short_head, HeadMade}
 use Rattle.plain_string.specs.StringParts.{TextPart, WrittenBehind, StringMade, quoted_kind, Quote, StringMajor, QuotedAt, HexPart, PairsBehind, HexMade, HexAt}
-use Rattle.plain_string.specs.BlockParts.{Short, ShortPart, ShortPairs}
 use Rattle.leaf_answer.specs.declared.LeafRead.{LeafRead as LeafS}
 use Rattle.leaf_answer.specs.declared.Found.TheVariants.{Leaf}
-use Rattle.leaf_answer.proofs.LeafCode.{leaf_odd, leaf-made}
+use Rattle.leaf_answer.proofs.LeafCode.{leaf-made}
 use Rattle.leaf_head.proofs.HeadsCode.{head-is, short-head, some-head}
 
 -- WRITING
@@ -56,22 +55,11 @@ none [] e = refl
 none (x ∷ l) e = absurd (omega arith)
 
 module _ {s b : List ℕ} {from n pos head : ℕ} (h : TextPart s from n) where
-  unwritten : length b < pos + head → WrittenBehind b b pos head (take n (drop from s))
-  unwritten l = record { wrote = record { same = refl; behind = []; is = λ f. absurd (omega arith) }; kept = refl }
-
-  pub behind-small : length b < head → WrittenBehind b b pos head (take n (drop from s))
-  behind-small l = unwritten (omega arith)
-
-  pub behind-past : head ≤ length b → length b - head < pos → WrittenBehind b b pos head (take n (drop from s))
-  behind-past g l = unwritten (omega arith)
-
   pub behind-copied : {b' : List ℕ} → b' ≡ copied b (pos + head) (take (length s - from) (drop from s)) n → WrittenBehind b b' pos head (take n (drop from s))
   behind-copied {b'} e =
       let l : n ≤ length (drop from s) = simp length-drop (omega (arith, h.inside)) in
       let f : b' ≡ copied b (pos + head) (drop from s) n = e ∙ ap (λ (y : List ℕ). copied b (pos + head) y n) (tail_is s from) in
       record { wrote = wrote-written (f ∙ copied-yes b (pos + head) (drop from s) n l); kept = ap (take pos) f ∙ take-copied b (pos + head) (drop from s) n pos (omega arith) }
-
-pub ruleset behind_ways = (behind-small, behind-past, behind-copied)
 
 -- the buffer when a part of it, lent from a place on, is given back
 abbrev pub back : List ℕ → ℕ → List ℕ → List ℕ
@@ -125,12 +113,6 @@ module _ (b m m' : List ℕ) (pos head start : ℕ) (h : start ≡ min (pos + he
         };
         kept = lent_kept;
       }
-
-pub short-part : {s b : List ℕ} {from n pos : ℕ} {t : Bool} → Short n 23 (length s) from (length b) pos 33 t → t ≡ true → ShortPart s from n b pos
-short-part x e = record { few = x.few e; block = x.block e; room = x.fits e }
-
-pub short-digits : {s b : List ℕ} {from n pos : ℕ} {t : Bool} → HexPart s from n → Short n 16 (length s) from (length b) pos 17 t → t ≡ true → ShortPairs s from n b pos
-short-digits p x e = record { digits = p.digits; few = x.few e; block = x.block e; room = x.fits e }
 
 pub string-made : {b b₁ b₂ ws : List ℕ} {n pos major head : ℕ} → n ≡ length ws → n ≤ 0xffff_ffff → HeadMade b b₁ pos major n head → WrittenBehind b₁ b₂ pos head ws → StringMade b b₂ pos major ws (head + n)
 string-made {ws = ws} {n = n} {pos = pos} {major = major} {head = head} l h m w =
@@ -214,15 +196,14 @@ string-leaf {s} {b} {b'} {c} {place} {next} {pos} {major} {size} {n} {k} x l m h
 
 -- QUOTED STRINGS
 
-module _ {s : List ℕ} {place q end : ℕ} {t u : Bool} (x : QuotedAt s place q) (r : TextRun s q 0x5c (place + 1) end) (y : Peeked s end q t) (f : not t ≡ false) (z : Peeked s (end + 1) 0x5f u) (g : u ≡ false) where
+module _ {s : List ℕ} {place q end : ℕ} {t u : Bool} (x : QuotedAt s place q) (r : TextRun s q 0x5c (place + 1) end) (y : Peeked s end q t) (f : t ≡ true) (z : Peeked s (end + 1) 0x5f u) (g : u ≡ false) where
   quoted-cut : CutAt s place (end + 1) (begins (literal (quoted_kind q) (definite (shortest (length (take (end - (place + 1)) (drop (place + 1) s))))) (take (end - (place + 1)) (drop (place + 1) s))))
   unfolding quoted quoted_token literal_token choose bind
   quoted-cut =
-      let e = not-false t f in
       let a = r.ahead in
       record {
-        is = ap cut (at_byte s place x.here ∙ ap (λ (b : ℕ). b ∷ drop (place + 1) (marked s)) x.is) ∙ (x.quote.cuts (drop (place + 1) (marked s)) ∙ (rw (run-closed r (peeked_yes y e)) (rw (unmarked z g))));
-        inside = omega (arith, length_marked s, y.inside e);
+        is = ap cut (at_byte s place x.here ∙ ap (λ (b : ℕ). b ∷ drop (place + 1) (marked s)) x.is) ∙ (x.quote.cuts (drop (place + 1) (marked s)) ∙ (rw (run-closed r (peeked_yes y f)) (rw (unmarked z g))));
+        inside = omega (arith, length_marked s, y.inside f);
         ahead = omega arith;
       }
 
@@ -231,8 +212,6 @@ module _ {s : List ℕ} {place q end : ℕ} {t u : Bool} (x : QuotedAt s place q
   quoted-leaf m h e =
       let l : length (take (end - (place + 1)) (drop (place + 1) s)) ≡ end - (place + 1) = length_part s (place + 1) (end - (place + 1)) (omega (arith, r.ahead, r.inside)) in
       string-leaf quoted-cut (omega (arith, l, r.ahead)) m.is h (λ w. rw l at (x.quote.binary w (take (end - (place + 1)) (drop (place + 1) s)))) e
-
-pub ruleset quoted_ways = (quoted-leaf, leaf_odd)
 
 -- QUOTES
 
@@ -252,8 +231,6 @@ module _ {b : ℕ} where
   pub major-bytes : (b ≡ 0x22 → ⊥) → StringMajor b 2
   unfolding quoted_kind major_number
   major-bytes n = record { is = rw (ne_eqb b 0x22 n, quoted_kind); most = omega arith }
-
-pub ruleset major_ways = (major-text, major-bytes)
 
 -- HEXADECIMAL STRINGS
 
@@ -291,24 +268,18 @@ cut-hex r = refl
 hex_even : (n : ℕ) → n % 2 ≡ 0 → 2 * (n / 2) ≡ n
 hex_even n h = omega arith
 
-pub hex-part : {s : List ℕ} {at end : ℕ} → HexDigits s at end → (end - at) % 2 ≡ 0 → (end - at) / 2 ≤ 0xffff_ffff → HexPart s at ((end - at) / 2)
-hex-part {s} {at} {end} r h l = let k : at + 2 * ((end - at) / 2) ≡ end = omega (arith, hex_even (end - at) h, r.ahead) in record { digits = rw k r; most = l }
-
-module _ {s : List ℕ} {place end : ℕ} {t u : Bool} (x : HexAt s place) (r : HexDigits s (place + 2) end) (y : Peeked s end 0x27 t) (f : not t ≡ false) (z : Peeked s (end + 1) 0x5f u) (g : u ≡ false) (h : (end - (place + 2)) % 2 ≡ 0) where
+module _ {s : List ℕ} {place end : ℕ} {t u : Bool} (x : HexAt s place) (r : HexDigits s (place + 2) end) (y : Peeked s end 0x27 t) (f : t ≡ true) (z : Peeked s (end + 1) 0x5f u) (g : u ≡ false) (h : (end - (place + 2)) % 2 ≡ 0) where
   pub hex-leaf : {b b' : List ℕ} {pos size : ℕ} {v : LeafS} → HexMade s (place + 2) ((end - (place + 2)) / 2) b b' pos size
       → v ≡ record { found = Leaf; next = end + 1; size = size; binary = true; length = (end - (place + 2)) / 2; number = 0 } → LeafTold s b b' place pos v
   unfolding encoded_literal contained literal_token choose bind major_number Tells held_of
   hex-leaf m e =
-      let i = not-false t f in
       let a = r.ahead in
       let n = m.count in
       let c : hex_content (take (end - (place + 2)) (drop (place + 2) s)) ≡ stands_for m.bytes = rw (hex_even (end - (place + 2)) h) at m.stand in
       string-leaf {k = byte_string}
       (record {
-        is = rw x.is (cut-hex (drop (place + 2) (marked s)) ∙ (rw (body_closed r (peeked_yes y i)) (rw (unmarked z g) (rw c))));
-        inside = omega (arith, length_marked s, y.inside i);
+        is = rw x.is (cut-hex (drop (place + 2) (marked s)) ∙ (rw (body_closed r (peeked_yes y f)) (rw (unmarked z g) (rw c))));
+        inside = omega (arith, length_marked s, y.inside f);
         ahead = omega arith;
       })
       (omega (arith, hex_even (end - (place + 2)) h)) refl m.made (λ w. (refl, sym n)) e
-
-pub ruleset hex_ways = (hex-leaf, leaf_odd)

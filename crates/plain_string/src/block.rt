@@ -13,10 +13,7 @@ const BYTES: u8 = 0x40;
 fn has_room(size: usize, from: usize, n: usize) -> bool
     ensures { HasRoom size from n result }
 {
-    if size < n {
-        return false;
-    }
-    from <= size - n
+    n <= size && from <= size - n
 }
 
 // Whether a string of n bytes is no longer than `most`, 32 bytes of the text stand from a place on, and there is room.
@@ -31,13 +28,7 @@ pub(crate) fn is_short(
 ) -> bool
     ensures { Short n most size from room pos wanted result }
 {
-    if most < n {
-        return false;
-    }
-    if !has_room(size, from, BLOCK) {
-        return false;
-    }
-    has_room(room, pos, wanted)
+    n <= most && has_room(size, from, BLOCK) && has_room(room, pos, wanted)
 }
 
 // A string of n bytes of the text, whose head is one byte.
@@ -62,10 +53,8 @@ fn nibbles(text: &[u8], from: usize) -> [u8; 32]
     ensures { Nibbles text.now from result }
 {
     let mut t = [0u8; 32];
-    let mut i: usize = 0;
-    while i < 32 {
+    for i in 0..32 {
         t[i] = nibble(text[from + i]);
-        i += 1;
     }
     t
 }
@@ -76,10 +65,8 @@ fn put_pairs(text: &[u8], from: usize, buf: &mut [u8], at: usize)
     ensures { buf.new ≡ over buf.old at (pair_block text.now from 16) }
 {
     let t = nibbles(text, from);
-    let mut i: usize = 0;
-    while i < 16 {
+    for i in 0..16 {
         buf[at + i] = t[2 * i] * 16 + t[2 * i + 1];
-        i += 1;
     }
 }
 

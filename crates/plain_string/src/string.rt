@@ -29,10 +29,7 @@ fn copy_behind(text: &[u8], from: usize, n: usize, buf: &mut [u8], pos: usize, h
     requires { TextPart text.now from n }
     ensures { WrittenBehind buf.old buf.new pos head (take n (drop from text.now)) }
 {
-    if buf.len() < head {
-        return;
-    }
-    if buf.len() - head < pos {
+    if buf.len() < head || buf.len() - head < pos {
         return;
     }
     buffer::copy_at(&text[from..], n, buf, pos + head);
@@ -57,13 +54,7 @@ fn put_string(text: &[u8], from: usize, n: usize, major: u8, buf: &mut [u8], pos
 fn behind(size: usize, pos: usize, head: usize) -> usize
     ensures { result ≡ min (pos + head) size }
 {
-    if size < head {
-        return size;
-    }
-    if size - head < pos {
-        return size;
-    }
-    pos + head
+    pos.saturating_add(head).min(size)
 }
 
 // Writes the n bytes that digits of the text make behind a head, if they fit.
@@ -101,9 +92,10 @@ pub fn major_of(quote: u8) -> u8
     ensures { StringMajor quote result }
 {
     if quote == b'"' {
-        return TEXT_STRING;
+        TEXT_STRING
+    } else {
+        BYTE_STRING
     }
-    BYTE_STRING
 }
 
 // The string at a place, where its quote stands.
@@ -113,10 +105,7 @@ pub fn quoted(text: &[u8], place: usize, quote: u8, buf: &mut [u8], pos: usize) 
 {
     let at = place + 1;
     let end = text_run(text, at, quote, b'\\');
-    if !next_is(text, end, quote) {
-        return odd(place);
-    }
-    if next_is(text, end + 1, b'_') {
+    if !next_is(text, end, quote) || next_is(text, end + 1, b'_') {
         return odd(place);
     }
     let n = end - at;
@@ -134,13 +123,7 @@ pub fn hexadecimal(text: &[u8], place: usize, buf: &mut [u8], pos: usize) -> Lea
 {
     let at = place + 2;
     let end = hex_run(text, at);
-    if !next_is(text, end, b'\'') {
-        return odd(place);
-    }
-    if next_is(text, end + 1, b'_') {
-        return odd(place);
-    }
-    if (end - at) % 2 != 0 {
+    if !next_is(text, end, b'\'') || next_is(text, end + 1, b'_') || (end - at) % 2 != 0 {
         return odd(place);
     }
     let n = (end - at) / 2;

@@ -15,8 +15,10 @@ use Rattle.notation.specs.Places.{levels_at}
 use Rattle.operations.specs.Operations.{level}
 use Rattle.planning.specs.PlanAnswers.{length_for, PlanFor}
 use Rattle.part.specs.declared.Part.{Part}
-use Rattle.planning.specs.declared.Decision.{Decision}
-use Rattle.planning.specs.declared.Decision.TheVariants.{Replace, Refused}
+use Rattle.std.specs.Prelude.{Ok, Err}
+use Rattle.std.specs.Prelude as std
+use Rattle.planning.specs.declared.Plan.{Plan}
+use Rattle.refusal.specs.declared.Refusal.{Refusal}
 
 -- THE LEVEL
 levels-length : (d : ℕ) (p : List ℕ) → levels_at d p ≡ d - length p
@@ -44,16 +46,16 @@ pub ruleset level_ways = (level-top, level_deep, level-between)
 
 -- THE PLAN
 module _ {p : Part} {used size : ℕ} (room : ℕ) where
-  pub plan_long : {d : Decision} → 65535 < size → d ≡ Refused (record { kind = NoRoom; place = 0 }) → PlanFor p used size room d
+  pub plan_long : {d : std.Result Plan Refusal} → 65535 < size → d ≡ Err (record { kind = NoRoom; place = 0 }) → PlanFor p used size room d
   plan_long {d} h e =
       let i : leb (length_for p used size) (min room most_bytes) ≡ false = lt-leb (length_for p used size) (min room most_bytes) (omega arith) in
       record { yes = λ t. absurd (clash (sym t ∙ i)); no = λ t. e }
 
   module _ {v : Bool} (f : v ≡ leb (length_for p used size) (min room most_bytes)) where
-    pub plan_yes : v ≡ true → PlanFor p used size room (Replace (record { start = p.start; end = p.end; size = size; length = length_for p used size }))
+    pub plan_yes : v ≡ true → PlanFor p used size room (Ok (record { start = p.start; end = p.end; size = size; length = length_for p used size }))
     plan_yes t = record { yes = λ u. refl; no = λ u. absurd (clash (sym t ∙ f ∙ u)) }
 
-    pub plan_no : {d : Decision} → v ≡ false → d ≡ Refused (record { kind = NoRoom; place = 0 }) → PlanFor p used size room d
+    pub plan_no : {d : std.Result Plan Refusal} → v ≡ false → d ≡ Err (record { kind = NoRoom; place = 0 }) → PlanFor p used size room d
     plan_no t i = record { yes = λ u. absurd (clash (sym u ∙ sym f ∙ t)); no = λ u. i }
 
 pub ruleset plan_ways = (plan_long, plan_yes, plan_no)

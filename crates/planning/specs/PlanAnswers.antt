@@ -3,8 +3,10 @@ use Rattle.std.specs.Prelude.{ℕ, ◌+◌, ◌-◌, ◌≤◌, min, ◌≡◌, 
 use Rattle.cbor.specs.Decode.{most_bytes}
 use Rattle.refusal.specs.declared.RefusalKind.TheVariants.{NoRoom}
 use Rattle.part.specs.declared.Part.{Part}
-use Rattle.planning.specs.declared.Decision.{Decision}
-use Rattle.planning.specs.declared.Decision.TheVariants.{Replace, Refused}
+use Rattle.std.specs.Prelude.{Ok, Err}
+use Rattle.std.specs.Prelude as std
+use Rattle.planning.specs.declared.Plan.{Plan}
+use Rattle.refusal.specs.declared.Refusal.{Refusal}
 
 pub record Bounded (p : Part) (used : ℕ) : Type 0 where
   pub order : p.start ≤ p.end
@@ -15,6 +17,6 @@ pub record Bounded (p : Part) (used : ℕ) : Type 0 where
 abbrev pub length_for : Part → ℕ → ℕ → ℕ
 length_for p used size = p.start + size + (used - p.end)
 
-pub record PlanFor (p : Part) (used size room : ℕ) (d : Decision) : Type 0 where
-  pub yes : leb (length_for p used size) (min room most_bytes) ≡ true → d ≡ Replace (record { start = p.start; end = p.end; size = size; length = length_for p used size })
-  pub no : leb (length_for p used size) (min room most_bytes) ≡ false → d ≡ Refused (record { kind = NoRoom; place = 0 })
+pub record PlanFor (p : Part) (used size room : ℕ) (d : std.Result Plan Refusal) : Type 0 where
+  pub yes : leb (length_for p used size) (min room most_bytes) ≡ true → d ≡ Ok (record { start = p.start; end = p.end; size = size; length = length_for p used size })
+  pub no : leb (length_for p used size) (min room most_bytes) ≡ false → d ≡ Err (record { kind = NoRoom; place = 0 })

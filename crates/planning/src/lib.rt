@@ -1,7 +1,7 @@
 // What is planned of a correction, before anything is written.
 #![tactic(auto)]
 
-ghost use Rattle.std.specs.Prelude.{◌≡◌};
+ghost use Rattle.std.specs.Prelude.{◌≡◌, Err};
 ghost use Rattle.operations.specs.Operations.{level};
 ghost use Rattle.planning.specs.PlanAnswers.{Bounded, PlanFor};
 
@@ -19,16 +19,10 @@ pub struct Plan {
     pub length: usize,
 }
 
-#[derive(Drop)]
-pub enum Decision {
-    Replace(Plan),
-    Refused(Refusal),
-}
-
-pub fn refuse(kind: RefusalKind, place: usize) -> Decision
-    ensures { result ≡ Decision.Refused (record { kind = kind; place = place }) }
+pub fn refuse(kind: RefusalKind, place: usize) -> Result<Plan, Refusal>
+    ensures { result ≡ Err (record { kind = kind; place = place }) }
 {
-    Decision::Refused(Refusal { kind, place })
+    Err(Refusal { kind, place })
 }
 
 // The steps of a path to an item inside all levels.
@@ -49,7 +43,7 @@ pub fn level(path: &[u16]) -> usize
 }
 
 // 14, or the plan.
-pub fn plan_for(p: Part, used: usize, size: usize, room: usize) -> Decision
+pub fn plan_for(p: Part, used: usize, size: usize, room: usize) -> Result<Plan, Refusal>
     requires { Bounded p used }
     ensures { PlanFor p used size room result }
 {
@@ -58,7 +52,7 @@ pub fn plan_for(p: Part, used: usize, size: usize, room: usize) -> Decision
     }
     let length = p.start + size + (used - p.end);
     if fits(length, room) {
-        return Decision::Replace(Plan {
+        return Ok(Plan {
             start: p.start,
             end: p.end,
             size,

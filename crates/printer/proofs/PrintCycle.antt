@@ -20,8 +20,6 @@ use Rattle.cbor.specs.Valid.{is_text}
 use Rattle.head.specs.HeadAnswers.{head_found as told_head, head_told, size_information, head_from, head_at}
 use Rattle.refusal.specs.declared.Refusal.{Refusal}
 use Rattle.head.specs.declared.HeadAt.{HeadAt}
-use Rattle.head.specs.declared.HeadRead.{HeadRead}
-use Rattle.head.specs.declared.HeadRead.TheVariants.{Head as HeadV, Refused as RefusedV}
 use Rattle.cbor.proofs.Results.{refuse_not_ok}
 use Rattle.cbor.proofs.Table.{between}
 use Rattle.cbor.proofs.Heads.{major-back, major-most, taking-yes}
@@ -32,6 +30,8 @@ use Rattle.text_output.specs.PrintParts.{width_by, size_by}
 use Rattle.printer.specs.PrintAnswers.{entry_text, chunk_text, separator_of, joined, chunked_text, PrintHeaded}
 use Rattle.leaf_printer.proofs.PrintHeads.{width_low}
 use Rattle.printer.proofs.PrintSeveral.{bind_ok}
+use Rattle.std.specs.Prelude.{Ok, Err}
+use Rattle.std.specs.Prelude as std
 
 -- THE HEAD
 
@@ -152,16 +152,16 @@ module _ {s : List ℕ} {at : ℕ} where
         most = omega (arith, major-most hd.major);
       }
 
-module _ (s : List ℕ) (at : ℕ) {x : HeadRead} (f : head_told x ≡ head_at s at) where
-  pub headed : {h : HeadAt} → x ≡ HeadV h → PrintHeaded s at h
+module _ (s : List ℕ) (at : ℕ) {x : std.Result HeadAt Refusal} (f : head_told x ≡ head_at s at) where
+  pub headed : {h : HeadAt} → x ≡ Ok h → PrintHeaded s at h
   unfolding head_told head_at
   headed {h} e = headed_by h (next_head (drop at s)) refl (ap head_told (sym e) ∙ f)
 
-  pub headed_within : {h : HeadAt} → x ≡ HeadV h → Within s h.end
+  pub headed_within : {h : HeadAt} → x ≡ Ok h → Within s h.end
   headed_within {h} e = record { inside = (headed e).inside }
 
   -- no head
-  pub lost : {k : Refusal} → x ≡ RefusedV k → {hd : Head} {r : List ℕ} → next_head (drop at s) ≡ ok hd r → ⊥
+  pub lost : {k : Refusal} → x ≡ Err k → {hd : Head} {r : List ℕ} → next_head (drop at s) ≡ ok hd r → ⊥
   unfolding head_told head_at head_from
   lost e g =
       let n = sym (ap head_told (sym e) ∙ f) in

@@ -19,6 +19,7 @@ use Rattle.text_output.specs.PrintParts.{Prints}
 use Rattle.printer.specs.PrintAnswers.{print_one_of, print_all_of, Moves, separator_of, joined, opening_by, closing_by, Done, PrintTold}
 use Rattle.printer.specs.declared.Printed.{Printed}
 use Rattle.text_output.proofs.PrintLeaves.{prints-more, prints_as, prints-none}
+use Rattle.walk_answer.specs.declared.Mode.{Mode}
 
 -- WHAT A RESULT COMES FROM
 
@@ -189,7 +190,7 @@ pub turn_less : {at end size : ℕ} {v : Bool} → Moves at end size v → not v
 turn_less {at} {end} {size} {v} g h = omega (arith, (g.yes (not-false v h)).0, (g.yes (not-false v h)).1)
 
 -- ws is the whole text, and r is left behind the bytes of it: `before` is printed, and `texts` are left to print
-pub record Left (major d c mode n : ℕ) (s : List ℕ) (at : ℕ) (first : Bool) (b₀ b : List ℕ) (pos p : ℕ) (ws r : List ℕ) : Type 0 where
+pub record Left (major d c : ℕ) (mode : Mode) (n : ℕ) (s : List ℕ) (at : ℕ) (first : Bool) (b₀ b : List ℕ) (pos p : ℕ) (ws r : List ℕ) : Type 0 where
   pub fuel : ℕ
   pub texts : List (List ℕ)
   pub before : List ℕ
@@ -197,13 +198,13 @@ pub record Left (major d c mode n : ℕ) (s : List ℕ) (at : ℕ) (first : Bool
   pub split : ws ≡ before ++ joined c first texts
   pub prints : Prints b₀ b pos before p
 
-pub record Turns (s b₀ : List ℕ) (from mode count major d c pos at n p : ℕ) (first : Bool) (b : List ℕ) : Type 0 where
+pub record Turns (s b₀ : List ℕ) (from : ℕ) (mode : Mode) (count major d c pos at n p : ℕ) (first : Bool) (b : List ℕ) : Type 0 where
   pub ahead : from ≤ at
   pub inside : at ≤ length s
   pub same : length b ≡ length b₀
   pub left : (ws r : List ℕ) → mapped (joined c true) (print_all_of major d (until_by mode count) (drop from s)) ≡ ok ws r → Left major d c mode n s at first b₀ b pos p ws r
 
-pub turn_start : {s b : List ℕ} {from mode count major d c pos : ℕ} → Within s from → length b * 1 < 2 ^ 63 → Fits bits64 pos → Turns s b from mode count major d c pos from count pos true b
+pub turn_start : {s b : List ℕ} {from : ℕ} {mode : Mode} {count major d c pos : ℕ} → Within s from → length b * 1 < 2 ^ 63 → Fits bits64 pos → Turns s b from mode count major d c pos from count pos true b
 unfolding print_all_of several
 turn_start {s} {b} {from} {mode} {count} {major} {d} {c} {pos} w h u =
     record {
@@ -215,7 +216,7 @@ turn_start {s} {b} {from} {mode} {count} {major} {d} {c} {pos} w h u =
           record { fuel = suc (length (drop from s)); texts = m.value; before = []; rest = m.is; split = m.same; prints = prints-none h u };
     }
 
-module _ {s b₀ : List ℕ} {from mode count major d c pos at n p : ℕ} {first : Bool} {b : List ℕ} (inv : Turns s b₀ from mode count major d c pos at n p first b) {t : Bool} (tn : Turned s at mode n t) where
+module _ {s b₀ : List ℕ} {from : ℕ} {mode : Mode} {count major d c pos at n p : ℕ} {first : Bool} {b : List ℕ} (inv : Turns s b₀ from mode count major d c pos at n p first b) {t : Bool} (tn : Turned s at mode n t) where
   module _ (y : not t ≡ true) {b₁ b₂ : List ℕ} {q : ℕ} {part : Printed} (sep : Prints b b₁ p (separator_of first c) q) (one : PrintTold s (at + 1) b₁ b₂ q part (print_one_of major d (drop at s))) where
     step : step_at (until_by mode n) (drop at s) ≡ another (until_by mode (n - 1))
     unfolding step_by

@@ -29,6 +29,7 @@ use Rattle.walk_answer.proofs.Slices.{bytes_of}
 use Rattle.printer.proofs.PrintSeveral.{mapped_is, several_as}
 use Rattle.printer.proofs.PrintCycle.{item_texts, all-joined}
 use Rattle.printer.proofs.PrintBounds.{all-length}
+use Rattle.walk_answer.specs.declared.Mode.TheVariants.{Ended}
 
 elements_of : (s : List ℕ) {xs : Items} → decode s ≡ ok xs [] → elements (item most_levels) ended s ≡ ok xs []
 unfolding decode
@@ -62,7 +63,7 @@ module _ (s : List ℕ) (g : (i : ℕ) → Fits bits8 (get_or s i 0)) (n : lengt
   record Text (xs : Items) : Type 0 where
     short : length (print_text xs) < 2 ^ 32
     is : joined 0x0a true (item_texts xs) ++ 0x0a ∷ [] ≡ print_text xs
-    read : mapped (joined 0x0a true) (print_all_of 4 17 (until_by 2 0) (drop 0 s)) ≡ ok (joined 0x0a true (item_texts xs)) []
+    read : mapped (joined 0x0a true) (print_all_of 4 17 (until_by Ended 0) (drop 0 s)) ≡ ok (joined 0x0a true (item_texts xs)) []
 
   text_of : (xs : Items) → decode s ≡ ok xs [] → Text xs
   unfolding encode_all print_text elements print_all_of print_one_of below until_by item_texts
@@ -81,7 +82,7 @@ module _ (s : List ℕ) (g : (i : ℕ) → Fits bits8 (get_or s i 0)) (n : lengt
             read = mapped_is (joined 0x0a true) a refl;
           }
 
-  module _ {b b₁ b₂ : List ℕ} {r : ℕ} {part : Printed} (t : PrintTold s 0 b b₁ 0 part (mapped (joined 0x0a true) (print_all_of 4 17 (until_by 2 0) (drop 0 s)))) (p : Prints b₁ b₂ part.pos (0x0a ∷ []) r) where
+  module _ {b b₁ b₂ : List ℕ} {r : ℕ} {part : Printed} (t : PrintTold s 0 b b₁ 0 part (mapped (joined 0x0a true) (print_all_of 4 17 (until_by Ended 0) (drop 0 s)))) (p : Prints b₁ b₂ part.pos (0x0a ∷ []) r) where
     whole : (xs : Items) → decode s ≡ ok xs [] → Prints b b₂ 0 (print_text xs) r
     whole xs e = let k = text_of xs e in prints_as k.is (prints-more (t.done (joined 0x0a true (item_texts xs)) [] k.read).prints p)
 

@@ -17,8 +17,6 @@ use Rattle.cbor.specs.Decode.{Until, broken, several, content_at, chunk_by, chun
 use Rattle.head.specs.HeadAnswers.{head_told, head_at}
 use Rattle.refusal.specs.declared.Refusal.{Refusal}
 use Rattle.head.specs.declared.HeadAt.{HeadAt}
-use Rattle.head.specs.declared.HeadRead.{HeadRead}
-use Rattle.head.specs.declared.HeadRead.TheVariants.{Head as HeadV, Refused as RefusedV}
 use Rattle.cbor.proofs.Results.{refuse_not_ok}
 use Rattle.cbor.proofs.DecodeEncode.{enter_at, by-head}
 use Rattle.notation.specs.Printing.{size_of, print_int, print_string, print_chunked, print_item, print_simple}
@@ -31,6 +29,10 @@ use Rattle.printer.specs.declared.Printed.{Printed}
 use Rattle.text_output.proofs.PrintLeaves.{prints-more, prints_as}
 use Rattle.printer.proofs.PrintSeveral.{bind_ok, ok-rest, mapped_ok, mapped_is, several_as, counted-all, last, next, told_via, told_none}
 use Rattle.printer.proofs.PrintCycle.{taking-ok, lost, headed, by_size, content-ok, int_of, simple_of, string_of, chunked_of, array_of, map_of, tag_of, item_texts, pair_texts, chunk_texts, all-joined, all_joined₂, chunked-joined, count_texts, count_texts₂}
+use Rattle.std.specs.Prelude.{Ok, Err}
+use Rattle.std.specs.Prelude as std
+use Rattle.walk_answer.specs.declared.Mode.{Mode}
+use Rattle.walk_answer.specs.declared.Mode.TheVariants.{Counted, Broken}
 
 -- STRINGS
 
@@ -89,14 +91,14 @@ chunk_of k (b ∷ s) {c} {r} e = go (eqb (b / 32) (major_number (strings k))) e
     go true h = let m = bind_ok (next_head (b ∷ s)) _ h in record { head = m.value; rest = m.rest; is = m.first; by = m.second }
     go false h = absurd (refuse_not_ok h)
 
-module _ (s : List ℕ) (at : ℕ) {x : HeadRead} (f : head_told x ≡ head_at s at) (t : Bool) {b : List ℕ} {pos : ℕ} where
-  pub chunk_lost : {k : Refusal} {p : Printed} → x ≡ RefusedV k → PrintTold s (at + 1) b b pos p (mapped (chunk_text (kind_of t)) (chunk_at (kind_of t) (drop at s)))
+module _ (s : List ℕ) (at : ℕ) {x : std.Result HeadAt Refusal} (f : head_told x ≡ head_at s at) (t : Bool) {b : List ℕ} {pos : ℕ} where
+  pub chunk_lost : {k : Refusal} {p : Printed} → x ≡ Err k → PrintTold s (at + 1) b b pos p (mapped (chunk_text (kind_of t)) (chunk_at (kind_of t) (drop at s)))
   chunk_lost e =
       told_none refl (λ ws r g.
       let m = mapped_ok (chunk_text (kind_of t)) (chunk_at (kind_of t) (drop at s)) g in
       lost s at f e (chunk_of (kind_of t) (drop at s) m.is).is)
 
-  pub chunk_found : {h : HeadAt} {b₁ : List ℕ} {p : Printed} → x ≡ HeadV h → PrintTold s h.end b b₁ pos p (mapped (print_string (kind_of t) (width_by h.info)) (taking h.argument 0 (drop h.end s)))
+  pub chunk_found : {h : HeadAt} {b₁ : List ℕ} {p : Printed} → x ≡ Ok h → PrintTold s h.end b b₁ pos p (mapped (print_string (kind_of t) (width_by h.info)) (taking h.argument 0 (drop h.end s)))
       → PrintTold s (at + 1) b b₁ pos p (mapped (chunk_text (kind_of t)) (chunk_at (kind_of t) (drop at s)))
   chunk_found {h} e told =
       let hd = headed s at f e in
@@ -146,8 +148,8 @@ item_of d s at h m hd e ws r g =
       same = k.same;
     }
 
-module _ (s : List ℕ) (at : ℕ) {x : HeadRead} (f : head_told x ≡ head_at s at) (d : ℕ) {b : List ℕ} {pos : ℕ} where
-  pub item-lost : {k : Refusal} {p : Printed} → x ≡ RefusedV k → PrintTold s (at + 1) b b pos p (mapped print_item (item d (drop at s)))
+module _ (s : List ℕ) (at : ℕ) {x : std.Result HeadAt Refusal} (f : head_told x ≡ head_at s at) (d : ℕ) {b : List ℕ} {pos : ℕ} where
+  pub item-lost : {k : Refusal} {p : Printed} → x ≡ Err k → PrintTold s (at + 1) b b pos p (mapped print_item (item d (drop at s)))
   unfolding item item_with
   item-lost e = told_none refl (λ ws r g. let m = mapped_ok print_item (item d (drop at s)) g in go d m.is)
     where
@@ -160,7 +162,7 @@ pub until_is : (i n : ℕ) → until_by (mode_by i) n ≡ extent (size_by i) n
 unfolding until_by mode_by extent size_by
 until_is i n = go (eqb i 31)
   where
-    go : (t : Bool) → until_by (elim t [ true ↦ 1 | false ↦ 0 ]) n ≡ extent (elim t [ true ↦ indefinite | false ↦ definite (width_by i) ]) n
+    go : (t : Bool) → until_by (elim t [ true ↦ Broken | false ↦ Counted ]) n ≡ extent (elim t [ true ↦ indefinite | false ↦ definite (width_by i) ]) n
     go true = refl
     go false = refl
 
@@ -230,7 +232,7 @@ module _ {s : List ℕ} {at : ℕ} {h : HeadAt} (hd : PrintHeaded s at h) (d : �
         mapped_is (print_string k (width_by h.info)) y.read (x.same ∙ ap print_item y.is))
 
     pub item-chunked : 1 < h.major → h.major ≤ 3 → h.info ≡ 31
-        → PrintTold s h.end b b₁ pos p (mapped (chunked_text (kind_of (eqb h.major 3))) (print_all_of h.major d (until_by 1 0) (drop h.end s))) → PrintTold s (at + 1) b b₁ pos p (mapped print_item (item d (drop at s)))
+        → PrintTold s h.end b b₁ pos p (mapped (chunked_text (kind_of (eqb h.major 3))) (print_all_of h.major d (until_by Broken 0) (drop h.end s))) → PrintTold s (at + 1) b b₁ pos p (mapped print_item (item d (drop at s)))
     unfolding print_item chunks_of print_all_of until_by print_one_of chunk_texts
     item-chunked l u n =
         told_via (omega (arith, hd.ahead)) (λ ws r e.
@@ -349,13 +351,13 @@ module _ (s : List ℕ) (from d i n : ℕ) {b b₁ b₂ b₃ b₄ : List ℕ} {p
       wrap print_item (tag_text i n) (print_int unsigned (width_by i) n ++ (0x28 ∷ [])) (0x29 ∷ []) (below d (drop from s))
       (λ v. sym (append_assoc (print_int unsigned (width_by i) n) (0x28 ∷ []) (print_item v ++ 0x29 ∷ []))) (omega arith) (prints-more x y) z w
 
-  pub container_whole : (major : ℕ) {u v m : ℕ} → u ≡ opening_by major → Prints b b₁ pos (u ∷ []) p → Prints b₁ b₂ p (size_of (size_by i) n) q → m ≡ mode_by i
+  pub container_whole : (major : ℕ) {u v : ℕ} {m : Mode} → u ≡ opening_by major → Prints b b₁ pos (u ∷ []) p → Prints b₁ b₂ p (size_of (size_by i) n) q → m ≡ mode_by i
       → PrintTold s from b₂ b₃ q part (mapped (joined 0x20 true) (print_all_of major d (until_by m n) (drop from s))) → v ≡ closing_by major → Prints b₃ b₄ part.pos (v ∷ []) e
       → PrintTold s from b b₄ pos (record { end = part.end; pos = e }) (mapped (container_text major i n) (print_all_of major d (until_by (mode_by i) n) (drop from s)))
   unfolding container_text
   container_whole major {u} {v} {m} f x y g z k w =
       let z' : PrintTold s from b₂ b₃ q part (mapped (joined 0x20 true) (print_all_of major d (until_by (mode_by i) n) (drop from s)))
-      = told_via (omega arith) (λ ws r e. ap (λ (j : ℕ). mapped (joined 0x20 true) (print_all_of major d (until_by j n) (drop from s))) g ∙ e) z in
+      = told_via (omega arith) (λ ws r e. ap (λ (j : Mode). mapped (joined 0x20 true) (print_all_of major d (until_by j n) (drop from s))) g ∙ e) z in
       wrap (joined 0x20 true) (container_text major i n) (u ∷ size_of (size_by i) n) (v ∷ []) (print_all_of major d (until_by (mode_by i) n) (drop from s))
       (λ ts j. sym f j ∷ (size_of (size_by i) n ++ (joined 0x20 true ts ++ sym k j ∷ []))) (omega arith) (prints-more x y) z' w
 
@@ -368,19 +370,19 @@ chunked-more k (t ∷ ts) n = refl
 nil_not_cons : {t : List ℕ} {ts us : List (List ℕ)} → t ∷ ts ≡ us → [] ≡ us → ⊥
 nil_not_cons e f = let z : ◌≡◌ {A = ℕ} 0 1 = cc in omega arith
 
-module _ {s : List ℕ} {from : ℕ} (d major : ℕ) {t : Bool} (tn : Turned s from 1 0 t) {b b₁ : List ℕ} {pos p : ℕ} where
+module _ {s : List ℕ} {from : ℕ} (d major : ℕ) {t : Bool} (tn : Turned s from Broken 0 t) {b b₁ : List ℕ} {pos p : ℕ} where
   pub chunked-empty : {e : ℕ} → Within s from → t ≡ true → length s * 1 < 2 ^ 63 → Prints b b₁ pos (print_chunked (kind_of (eqb major 3)) []) p → e ≡ capped from 1
-      → PrintTold s from b b₁ pos (record { end = e; pos = p }) (mapped (chunked_text (kind_of (eqb major 3))) (print_all_of major d (until_by 1 0) (drop from s)))
+      → PrintTold s from b b₁ pos (record { end = e; pos = p }) (mapped (chunked_text (kind_of (eqb major 3))) (print_all_of major d (until_by Broken 0) (drop from s)))
   unfolding print_all_of several behind_by step_by chunked_text
   chunked-empty {e} w y l f g =
       let i = tn.inside y w.inside in
       let a : e ≡ from + 1 = omega (arith, g, i) in
-      let st = tn.is ∙ ap (λ (v : Bool). step_by v 1 0 s from) y in
+      let st = tn.is ∙ ap (λ (v : Bool). step_by v Broken 0 s from) y in
       record {
         same = f.same;
         done = λ ws r k.
-            let m = mapped_ok (chunked_text (kind_of (eqb major 3))) (print_all_of major d (until_by 1 0) (drop from s)) k in
-            let z = last (print_one_of major d) (suc (length (drop from s))) (until_by 1 0) (drop from s) m.is st in
+            let m = mapped_ok (chunked_text (kind_of (eqb major 3))) (print_all_of major d (until_by Broken 0) (drop from s)) k in
+            let z = last (print_one_of major d) (suc (length (drop from s))) (until_by Broken 0) (drop from s) m.is st in
             record {
               ahead = omega arith;
               inside = omega (arith, i);
@@ -389,16 +391,16 @@ module _ {s : List ℕ} {from : ℕ} (d major : ℕ) {t : Bool} (tn : Turned s f
             };
       }
 
-  pub chunked_full : {b₂ b₃ : List ℕ} {e : ℕ} {part : Printed} → t ≡ false → Prints b b₁ pos (ascii "(_ ") p → PrintTold s from b₁ b₂ p part (mapped (joined 0x20 true) (print_all_of major d (until_by 1 0) (drop from s)))
-      → Prints b₂ b₃ part.pos (0x29 ∷ []) e → PrintTold s from b b₃ pos (record { end = part.end; pos = e }) (mapped (chunked_text (kind_of (eqb major 3))) (print_all_of major d (until_by 1 0) (drop from s)))
+  pub chunked_full : {b₂ b₃ : List ℕ} {e : ℕ} {part : Printed} → t ≡ false → Prints b b₁ pos (ascii "(_ ") p → PrintTold s from b₁ b₂ p part (mapped (joined 0x20 true) (print_all_of major d (until_by Broken 0) (drop from s)))
+      → Prints b₂ b₃ part.pos (0x29 ∷ []) e → PrintTold s from b b₃ pos (record { end = part.end; pos = e }) (mapped (chunked_text (kind_of (eqb major 3))) (print_all_of major d (until_by Broken 0) (drop from s)))
   unfolding print_all_of several step_by
   chunked_full y x u v =
-      let st = tn.is ∙ ap (λ (v : Bool). step_by v 1 0 s from) y in
+      let st = tn.is ∙ ap (λ (v : Bool). step_by v Broken 0 s from) y in
       record {
         same = v.same ∙ u.same ∙ x.same;
         done = λ ws r k.
-            let m = mapped_ok (chunked_text (kind_of (eqb major 3))) (print_all_of major d (until_by 1 0) (drop from s)) k in
-            let z = next (print_one_of major d) (suc (length (drop from s))) (until_by 1 0) (until_by 1 (0 - 1)) (drop from s) m.is st in
+            let m = mapped_ok (chunked_text (kind_of (eqb major 3))) (print_all_of major d (until_by Broken 0) (drop from s)) k in
+            let z = next (print_one_of major d) (suc (length (drop from s))) (until_by Broken 0) (until_by Broken (0 - 1)) (drop from s) m.is st in
             let q = u.done (joined 0x20 true m.value) r (mapped_is (joined 0x20 true) m.is refl) in
             record {
               ahead = q.ahead;

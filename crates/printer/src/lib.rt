@@ -6,15 +6,16 @@ ghost use Rattle.std.specs.Prelude.{◌≡◌, ◌+◌, ◌-◌, true, drop, eqb
 ghost use Rattle.cbor.specs.Heads.{taking};
 ghost use Rattle.cbor.specs.Decode.{chunk_at, entry_at, item};
 ghost use Rattle.notation.specs.Printing.{print_item, print_string};
+ghost use Rattle.walk_answer.specs.declared.Mode.TheVariants.{Broken};
 ghost use Rattle.walk_answer.specs.WalkAnswers.{map_result as mapped, below, until_by, mode_by, Within};
 ghost use Rattle.cbor.specs.Flags.{kind_of};
 ghost use Rattle.text_output.specs.PrintParts.{Prints, width_by};
 ghost use Rattle.printer.specs.PrintAnswers.{entry_text, chunk_text, print_one_of, print_all_of, Moves, separator_of, joined, opening_by, closing_by, container_text, chunked_text, tag_text, PrintTold, PrintHeaded, PrintedAll};
 
+use head::HeadAt;
 use head::initial::{ARRAY, INDEFINITE_LENGTH, MAP, NEGATIVE_INTEGER, TAG, TEXT_STRING};
-use head::{HeadAt, HeadRead};
 use saturating::sum;
-use walk_answer::{BROKEN, ENDED, is_over, less, mode_of, past};
+use walk_answer::{Mode, is_over, less, mode_of, past};
 
 // The levels of items: 16 inside each other, and the text around them.
 const LEVELS: usize = 17;
@@ -89,11 +90,11 @@ fn chunk(bytes: &[u8], at: usize, text: bool, out: &mut [u8], pos: usize) -> Pri
 {
     let read = head::read_head(bytes, at);
     match read {
-        HeadRead::Refused(_) => Printed {
+        Err(_) => Printed {
             end: bytes.len(),
             pos,
         },
-        HeadRead::Head(h) => string(bytes, h.end, h.argument, h.info, text, out, pos),
+        Ok(h) => string(bytes, h.end, h.argument, h.info, text, out, pos),
     }
 }
 
@@ -106,11 +107,11 @@ pub fn print_item(bytes: &[u8], at: usize, levels: usize, out: &mut [u8], pos: u
 {
     let read = head::read_head(bytes, at);
     match read {
-        HeadRead::Refused(_) => Printed {
+        Err(_) => Printed {
             end: bytes.len(),
             pos,
         },
-        HeadRead::Head(h) => behind(bytes, at, h, levels, out, pos),
+        Ok(h) => behind(bytes, at, h, levels, out, pos),
     }
 }
 
@@ -222,9 +223,9 @@ fn chunked(
     pos: usize,
 ) -> Printed
     requires { Within bytes.now from }
-    ensures { PrintTold bytes.now from out.old out.new pos result (mapped (chunked_text (kind_of (eqb major 3))) (print_all_of major levels (until_by 1 0) (drop from bytes.now))) }
+    ensures { PrintTold bytes.now from out.old out.new pos result (mapped (chunked_text (kind_of (eqb major 3))) (print_all_of major levels (until_by Broken 0) (drop from bytes.now))) }
 {
-    if is_over(bytes, from, BROKEN, 0) {
+    if is_over(bytes, from, Mode::Broken, 0) {
         let p = leaf_printer::no_chunks(major == TEXT_STRING, out, pos);
         return Printed {
             end: sum(from, 1),
@@ -232,7 +233,7 @@ fn chunked(
         };
     }
     let p = text_output::put_all(b"(_ ", out, pos);
-    let part = several(bytes, from, BROKEN, 0, major, levels, b' ', out, p);
+    let part = several(bytes, from, Mode::Broken, 0, major, levels, b' ', out, p);
     let e = text_output::put(out, part.pos, b')');
     Printed {
         end: part.end,
@@ -269,7 +270,7 @@ fn one(bytes: &[u8], at: usize, major: u8, levels: usize, out: &mut [u8], pos: u
 fn several(
     bytes: &[u8],
     from: usize,
-    mode: u8,
+    mode: Mode,
     count: u64,
     major: u8,
     levels: usize,
@@ -309,6 +310,6 @@ pub fn print_items(bytes: &[u8], out: &mut [u8]) -> usize
     if bytes.len() == 0 {
         return 0;
     }
-    let part = several(bytes, 0, ENDED, 0, ARRAY, LEVELS, b'\n', out, 0);
+    let part = several(bytes, 0, Mode::Ended, 0, ARRAY, LEVELS, b'\n', out, 0);
     text_output::put(out, part.pos, b'\n')
 }

@@ -1,9 +1,9 @@
 -- Results laid into a buffer, and printing.
 -- Assumes nothing.
-use Prim.Native.Nat.{ℕ, ◌-◌, ◌≤◌, ◌<◌, min}
+use Prim.Native.Nat.{ℕ, ◌-◌, ◌≤◌, min}
 use native.Mathlib.Omega.{arith}
 use mathlib.Core.Path.{◌≡◌, refl, sym, ap, ◌∙◌}
-use mathlib.Core.Bool.{Bool, true, false}
+use mathlib.Core.Bool.{Bool, true}
 use mathlib.Core.List.{List, []}
 use lib.Dec.{leb}
 use lib.ListN.{length, take, get_or}
@@ -18,9 +18,8 @@ use Rattle.refusal.specs.RefusalKinds.{kind_number}
 use Rattle.walk_answer.specs.WalkAnswers.{pass_told, map_result, told_of, walk_all_of, contents_all}
 use Rattle.refusal.specs.declared.Refusal.{Refusal}
 use Rattle.walk_answer.specs.declared.Passage.{Passage}
-use Rattle.walk_answer.specs.declared.Passed.{Passed}
-use Rattle.walk_answer.specs.declared.Passed.TheVariants.{Span as SpanV, Refused as RefusedV}
 use Rattle.notation.specs.Printing.{print_text}
+use Rattle.std.specs.declared.option.Option.TheVariants.{Some}
 use Rattle.printing.specs.PassAnswers.{PassTold}
 use Rattle.operations.specs.Operations.{written, items_of, text_of, and_then, print}
 use Rattle.cbor.specs.Valid.{Bytes}
@@ -29,11 +28,11 @@ use Rattle.walk_answer.proofs.Slices.{bytes_of}
 use Rattle.outcome.specs.Outcomes.{outcome_of, laid}
 use Rattle.printing.specs.PrintOutcomes.{AtOnce}
 use Rattle.fitting_text.specs.FittingAnswers.{Lays}
-use Rattle.outcome.specs.declared.Answer.{Answer}
-use Rattle.outcome.specs.declared.Answer.TheVariants.{Written, Refused}
 use Rattle.outcome.proofs.Room.{laid-room, laid-yes}
+use Rattle.std.specs.Prelude.{Ok, Err}
+use Rattle.std.specs.Prelude as std
 
-print-no : (s b : List ℕ) (e : Refusal) (res : Result Items) → decode s ≡ res → pass_told (RefusedV e) ≡ told_of (length s) (map_result contents_all res) → outcome_of (Refused e) b ≡ print s b
+print-no : (s b : List ℕ) (e : Refusal) (res : Result Items) → decode s ≡ res → pass_told (Err e) ≡ told_of (length s) (map_result contents_all res) → outcome_of (Err e) b ≡ print s b
 unfolding pass_told told_of map_result items_of verdict_of text_of and_then print written outcome_of
 print-no s b e (ok xs r) d h = let z : ◌≡◌ {A = ℕ} 0 1 = cc in absurd (omega arith)
 print-no s b e (refuse k l) d h =
@@ -41,7 +40,7 @@ print-no s b e (refuse k l) d h =
     let j : e.place ≡ length s - l = cc in
     rw (d, i, j, print)
 
-print-yes : (s b b' : List ℕ) (r : Answer) (m : Passage) (res : Result Items) → Bytes s → decode s ≡ res → pass_told (SpanV m) ≡ told_of (length s) (map_result contents_all res) → Lays s b b' r → outcome_of r b' ≡ print s b
+print-yes : (s b b' : List ℕ) (r : std.Result ℕ Refusal) (m : Passage) (res : Result Items) → Bytes s → decode s ≡ res → pass_told (Ok m) ≡ told_of (length s) (map_result contents_all res) → Lays s b b' r → outcome_of r b' ≡ print s b
 unfolding pass_told told_of map_result items_of verdict_of text_of and_then print laid
 print-yes s b b' r m (ok xs q) u d h l =
     let e = encode_of_decode s xs q u d in
@@ -49,12 +48,12 @@ print-yes s b b' r m (ok xs q) u d h l =
     rw (d, print) w
 print-yes s b b' r m (refuse k q) u d h l = let z : ◌≡◌ {A = ℕ} 0 1 = cc in absurd (omega arith)
 
-module _ (s b : List ℕ) {a : Passed} (told : pass_told a ≡ walk_all_of (length s) (decode s)) where
-  pub print-refused : {e : Refusal} → a ≡ RefusedV e → outcome_of (Refused e) b ≡ print s b
+module _ (s b : List ℕ) {a : std.Result Passage Refusal} (told : pass_told a ≡ walk_all_of (length s) (decode s)) where
+  pub print-refused : {e : Refusal} → a ≡ Err e → outcome_of (Err e) b ≡ print s b
   unfolding walk_all_of
   print-refused {e} h = print-no s b e (decode s) refl (rw h at told)
 
-  pub print-done : {m : Passage} {b' : List ℕ} {r : Answer} → ((i : ℕ) → Fits w8 (get_or s i 0)) → a ≡ SpanV m → Lays s b b' r → outcome_of r b' ≡ print s b
+  pub print-done : {m : Passage} {b' : List ℕ} {r : std.Result ℕ Refusal} → ((i : ℕ) → Fits w8 (get_or s i 0)) → a ≡ Ok m → Lays s b b' r → outcome_of r b' ≡ print s b
   unfolding walk_all_of
   print-done {m} g h l = print-yes s b _ _ m (decode s) (bytes_of s g) refl (rw h at told) l
 
@@ -66,28 +65,14 @@ print-text : (s b : List ℕ) (xs : Items) → decode s ≡ ok xs [] → print s
 unfolding items_of verdict_of text_of and_then print laid
 print-text s b xs d = rw (d, print)
 
-module _ {s made made' b : List ℕ} {n : ℕ} (p : PassTold s made made' n) where
-  pub pass_done : (n ≡ 0 → ⊥) → {v : Bool} → v ≡ leb n (min (length b) 65535) → v ≡ true → {b' : List ℕ} → b' ≡ copied b 0 made' n → AtOnce s b b' n
-  pass_done z {v} f t {b'} e =
-      let a = p.told (omega arith) in
+module _ {s made made' b : List ℕ} {n : ℕ} (p : PassTold s made made' (Some n)) where
+  pub pass_done : {v : Bool} → v ≡ leb n (min (length b) 65535) → v ≡ true → {b' : List ℕ} → b' ≡ copied b 0 made' n → AtOnce s b b' (Some n)
+  pass_done {v} f t {b'} e =
+      let a = p.told in
       let w = print_text a.values in
       let k : n ≡ length w = omega (arith, a.laid.next) in
       let h : take n made' ≡ w = a.laid.is in
       let l : n ≤ length made' = omega (arith, a.laid.room, p.same) in
       let m = laid-room b f t in
       let c : b' ≡ over b 0 w = e ∙ copied-yes b 0 made' n l ∙ ap (over_if_fits b 0) h ∙ written-fits b 0 w (omega arith) in
-      record { yes = λ g. rw c (laid-yes b f w k t) ∙ sym (print-text s b a.values a.is); no = λ g. absurd (z g) }
-
-pub pass_none : {s b : List ℕ} → AtOnce s b b 0
-pass_none = record { yes = λ h. absurd (omega arith); no = λ h. refl }
-
-pub ruleset pass_ways = (pass_done, pass_none)
-
-module _ {s b b₁ : List ℕ} {n : ℕ} (x : AtOnce s b b₁ n) where
-  pub once_done : 0 < n → outcome_of (Written n) b₁ ≡ print s b
-  once_done h = x.yes h
-
-  pub once_whole : (b₂ : List ℕ) (r : Answer) → n ≤ 0 → outcome_of r b₂ ≡ print s b₁ → outcome_of r b₂ ≡ print s b
-  once_whole b₂ r h e = e ∙ ap (print s) (x.no (omega arith))
-
-pub ruleset print_ways = (once_done, once_whole)
+      record { yes = rw c (laid-yes b f w k t) ∙ sym (print-text s b a.values a.is); no = tt }

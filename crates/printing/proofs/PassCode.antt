@@ -17,7 +17,6 @@ use Rattle.cbor.proofs.Results.{refuse_not_ok}
 use Rattle.cbor.proofs.DecodeEncode.{enter_at, by-head}
 use Rattle.head.specs.HeadAnswers.{head_told, argument_at, HeadRoom, HeadEnd}
 use Rattle.head.specs.declared.HeadAt.{HeadAt}
-use Rattle.head.specs.declared.HeadRead.TheVariants.{Head as HeadV}
 use Rattle.memory.specs.Sums.{capped}
 use Rattle.notation.specs.Printing.{decimal_of, indicator_of, size_of, print_item, print_all, print_rest, print_all₂, print_rest₂, print_text}
 use Rattle.walk_answer.specs.WalkAnswers.{contents, entry_contents, until_by, mode_by, behind_by, step_by, Turned, Within}
@@ -30,11 +29,18 @@ use Rattle.printer.proofs.PrintCycle.{headed}
 use Rattle.printer.proofs.PrintWays.{until_is}
 use Rattle.leaf_written.specs.Laying.{Laid}
 use Rattle.leaf_written.specs.LeafTexts.{Room, HasBlock, HasSpace, LeafTold}
+use Rattle.std.specs.Prelude.{IfSome, ⊤}
+use Rattle.std.specs.declared.option.Option.{Option}
+use Rattle.std.specs.declared.option.Option.TheVariants.{None, Some}
+use Rattle.std.proofs.lemmas.Option.{IfSome_then, MatchOption-at_some}
 use Rattle.leaf_written.specs.declared.Written.{Written}
 use Rattle.leaf_written.proofs.LayCode.{laid_none, laid_more, laid_kept, laid_as, laid-after}
-use Rattle.pass_parts.specs.PartAnswers.{comma_of, separator_of, tag_opening, ItemTold, Closed, MayTag}
-use Rattle.printing.specs.PassAnswers.{text_of, AllTold, AllPrinted, PassTold}
+use Rattle.pass_parts.specs.PartAnswers.{comma_of, separator_of, tag_opening, ItemTold, Shut, Closed, MayTag}
+use Rattle.printing.specs.PassAnswers.{text_of, AllMade, AllTold, AllPrinted, PassTold}
 use Rattle.pass_parts.proofs.PartCode.{take_less}
+use Rattle.std.specs.Prelude.{Ok}
+use Rattle.walk_answer.specs.declared.Mode.{Mode}
+use Rattle.walk_answer.specs.declared.Mode.TheVariants.{Counted, Ended}
 
 -- ONE MORE OF SEVERAL
 
@@ -56,7 +62,7 @@ item-ahead s at d e g h = let l : Left 1 (drop at s) (drop e s) _ = rw g at (ite
 
 -- THE LOOP
 
-pub record Run (s : List ℕ) (from mode count : ℕ) (map : Bool) (blank d : ℕ) (b : List ℕ) (pos at left p : ℕ) (first : Bool) (out : List ℕ) : Type 0 where
+pub record Run (s : List ℕ) (from : ℕ) (mode : Mode) (count : ℕ) (map : Bool) (blank d : ℕ) (b : List ℕ) (pos at left p : ℕ) (first : Bool) (out : List ℕ) : Type 0 where
   pub prefix : Items → Items
   pub is : (xs : Items) (r : List ℕ) → elements (item d) (until_by mode left) (drop at s) ≡ ok xs r → elements (item d) (until_by mode count) (drop from s) ≡ ok (prefix xs) r
   pub text : List ℕ
@@ -64,35 +70,34 @@ pub record Run (s : List ℕ) (from mode count : ℕ) (map : Bool) (blank d : �
   pub laid : Laid b out pos text p
   pub inside : at ≤ length s
 
-pub run-start : {s : List ℕ} {from mode count : ℕ} {map : Bool} {blank d : ℕ} {b : List ℕ} {pos : ℕ} → Within s from → pos ≤ length b → Run s from mode count map blank d b pos from count pos true b
+pub run-start : {s : List ℕ} {from : ℕ} {mode : Mode} {count : ℕ} {map : Bool} {blank d : ℕ} {b : List ℕ} {pos : ℕ} → Within s from → pos ≤ length b → Run s from mode count map blank d b pos from count pos true b
 run-start {b = b} {pos = pos} w h = record { prefix = λ xs. xs; is = λ xs r e. e; text = []; whole = λ xs. refl; laid = laid_none b pos h; inside = w.inside }
 
-module _ {s : List ℕ} {from mode count : ℕ} {map : Bool} {blank d : ℕ} {b : List ℕ} {pos at left p : ℕ} {first : Bool} {out : List ℕ} (inv : Run s from mode count map blank d b pos at left p first out) where
+module _ {s : List ℕ} {from : ℕ} {mode : Mode} {count : ℕ} {map : Bool} {blank d : ℕ} {b : List ℕ} {pos at left p : ℕ} {first : Bool} {out : List ℕ} (inv : Run s from mode count map blank d b pos at left p first out) where
   pub run-within : Within s at
   run-within = record { inside = inv.inside }
 
   -- nothing is told
-  pub run_full : {r : Written} → r ≡ record { end = 0; pos = 0 } → AllTold s from (until_by mode count) d map blank count b out pos r
-  run_full {r} e = let z : r.end ≡ 0 = ap (λ (w : Written). w.end) e in record { same = inv.laid.same; kept = laid_kept inv.laid; told = λ h. absurd (omega arith) }
+  pub run_full : AllTold s from (until_by mode count) d map blank count b out pos None
+  run_full = record { same = inv.laid.same; kept = laid_kept inv.laid; told = tt }
 
-  module _ {c q : ℕ} {o o₁ : List ℕ} {part : Written} (ec : c ≡ comma_of map left) (x : Laid out o p (separator_of first c blank) q) (y : ItemTold s at d o o₁ q part) where
-    pub run_stop : {r : Written} → r ≡ record { end = 0; pos = 0 } → AllTold s from (until_by mode count) d map blank count b o₁ pos r
-    run_stop {r} e =
-        let z : r.end ≡ 0 = ap (λ (w : Written). w.end) e in
-        record {
+  module _ {c q : ℕ} {o o₁ : List ℕ} (ec : c ≡ comma_of map left) (x : Laid out o p (separator_of first c blank) q) where
+    pub run_stop : {part r : Option Written} → ItemTold s at d o o₁ q part → r ≡ None → AllTold s from (until_by mode count) d map blank count b o₁ pos r
+    run_stop y e =
+        rw e record {
           same = y.same ∙ x.same ∙ inv.laid.same;
           kept = take_less o o₁ pos q (omega (arith, inv.laid.next, x.next)) y.kept ∙ take_less out o pos p (omega (arith, inv.laid.next)) (laid_kept x) ∙ laid_kept inv.laid;
-          told = λ h. absurd (omega arith);
+          told = tt;
         }
 
-    module _ (n : part.end ≡ 0 → ⊥) where
+    module _ {part : Written} (y : ItemTold s at d o o₁ q (Some part)) where
       pub run_less : length s - part.end < length s - at
-      run_less = let m = y.told (omega arith) in let l = item-ahead s at d part.end m.is m.inside in omega (arith, m.inside)
+      run_less = let m = y.told in let l = item-ahead s at d part.end m.is m.inside in omega (arith, m.inside)
 
       pub run_on : {t : Bool} → Turned s at mode left t → not t ≡ true → {k : ℕ} → k ≡ left - 1 → Run s from mode count map blank d b pos part.end k part.pos false o₁
       unfolding text_of step_by
       run_on {t} tn e {k} ek =
-          let m = y.told (omega arith) in
+          let m = y.told in
           let v = m.value in
           let sep = separator_of first (comma_of map left) blank in
           let st : step_at (until_by mode left) (drop at s) ≡ another (until_by mode k) = tn.is ∙ ap (λ (w : Bool). step_by w mode left s at) (not-true t e) ∙ ap (λ (j : ℕ). another (until_by mode j)) (sym ek) in
@@ -111,7 +116,7 @@ module _ {s : List ℕ} {from mode count : ℕ} {map : Bool} {blank d : ℕ} {b 
           ap_laid : {b b' : List ℕ} {pos r : ℕ} {ws vs : List ℕ} → ws ≡ vs → Laid b b' pos ws r → Laid b b' pos vs r
           ap_laid e x = laid_as x e
 
-  pub run_end : {t : Bool} → Turned s at mode left t → not t ≡ false → length s * 1 < 2 ^ 63 → {e : ℕ} → e ≡ capped at (behind_by mode) → AllTold s from (until_by mode count) d map blank count b out pos (record { end = e; pos = p })
+  pub run_end : {t : Bool} → Turned s at mode left t → not t ≡ false → length s * 1 < 2 ^ 63 → {e : ℕ} → e ≡ capped at (behind_by mode) → AllTold s from (until_by mode count) d map blank count b out pos (Some (record { end = e; pos = p }))
   unfolding text_of step_by
   run_end {t} tn n u {e} g =
       let y = not-false t n in
@@ -121,7 +126,7 @@ module _ {s : List ℕ} {from mode count : ℕ} {map : Bool} {blank d : ℕ} {b 
       record {
         same = inv.laid.same;
         kept = laid_kept inv.laid;
-        told = λ h. record {
+        told = record {
           values = inv.prefix none;
           is = inv.is none (drop e s) (items-over d (until_by mode left) (drop at s) st);
           inside = omega (arith, i);
@@ -131,17 +136,16 @@ module _ {s : List ℕ} {from mode count : ℕ} {map : Bool} {blank d : ℕ} {b 
 
 -- LEAVES, AND OTHERS
 
-module _ {s : List ℕ} {at d : ℕ} {b b₁ : List ℕ} {pos : ℕ} {w : Written} (x : LeafTold s at b b₁ pos w) where
-  pub leaf-told : 0 < w.end → ItemTold s at d b b₁ pos w
-  leaf-told h = let l = x.told h in record { same = x.same; kept = x.kept; told = λ k. record { value = l.value; is = l.is d; inside = l.inside; laid = l.laid } }
+pub leaf-told : {s : List ℕ} {at d : ℕ} {b b₁ : List ℕ} {pos : ℕ} {w : Written} → LeafTold s at b b₁ pos (Some w) → ItemTold s at d b b₁ pos (Some w)
+leaf-told {d = d} x = let l = x.told in record { same = x.same; kept = x.kept; told = record { value = l.value; is = l.is d; inside = l.inside; laid = l.laid } }
 
-  pub other-told : {b₂ : List ℕ} {r : Written} → ItemTold s at d b₁ b₂ pos r → ItemTold s at d b b₂ pos r
-  other-told y =
-      record {
-        same = y.same ∙ x.same;
-        kept = y.kept ∙ x.kept;
-        told = λ h. let m = y.told h in record { value = m.value; is = m.is; inside = m.inside; laid = laid-after x.same x.kept m.laid };
-      }
+pub other-told : {s : List ℕ} {at d : ℕ} {b b₁ b₂ : List ℕ} {pos : ℕ} {w r : Option Written} → LeafTold s at b b₁ pos w → ItemTold s at d b₁ b₂ pos r → ItemTold s at d b b₂ pos r
+other-told {r = r} x y =
+    record {
+      same = y.same ∙ x.same;
+      kept = y.kept ∙ x.kept;
+      told = IfSome_then r y.told (λ v m. record { value = m.value; is = m.is; inside = m.inside; laid = laid-after x.same x.kept m.laid });
+    }
 
 module _ {s : List ℕ} {at : ℕ} {t : Bool} (h : HasBlock s at t) (e : not t ≡ false) {b : List ℕ} {pos : ℕ} (l : pos + 80 ≤ length b) where
   pub leaf_room : Room s at b pos
@@ -160,14 +164,14 @@ module _ {b : List ℕ} {pos : ℕ} {t : Bool} (h : HasSpace b pos t) (e : not t
 pub at-within : {s : List ℕ} {at : ℕ} → at < length s → Within s at
 at-within h = record { inside = omega arith }
 
-pub head-room : {s : List ℕ} {at e : ℕ} → HeadEnd s at e → (e ≡ 0 → ⊥) → HeadRoom s at
-head-room x n = x.room n
+pub head-room : {s : List ℕ} {at e : ℕ} {r : Option ℕ} → HeadEnd s at r → r ≡ Some e → HeadRoom s at
+head-room {e = e} x n = (x.ends e n).room
 
-pub headed_by : {s : List ℕ} {at e n m : ℕ} → HeadEnd s at e → (e ≡ 0 → ⊥) → n ≡ argument_at s at → get_or s at 0 / 32 ≡ m → PrintHeaded s at (record { major = m; info = get_or s at 0 % 32; argument = n; end = e })
+pub headed_by : {s : List ℕ} {at e n m : ℕ} {r : Option ℕ} → HeadEnd s at r → r ≡ Some e → n ≡ argument_at s at → get_or s at 0 / 32 ≡ m → PrintHeaded s at (record { major = m; info = get_or s at 0 % 32; argument = n; end = e })
 unfolding head_told
 headed_by {s} {at} {e} {n} {m} x z i k =
     let h : HeadAt = record { major = m; info = get_or s at 0 % 32; argument = n; end = e } in
-    headed s at {x = HeadV h} ((λ j. head_told (HeadV (record { major = sym k j; info = get_or s at 0 % 32; argument = i j; end = e }))) ∙ x.found z) refl
+    headed s at {x = Ok h} ((λ j. head_told (Ok (record { major = sym k j; info = get_or s at 0 % 32; argument = i j; end = e }))) ∙ (x.ends e z).found) refl
 
 -- WHAT HAS PARTS
 
@@ -318,32 +322,26 @@ record Reads (s : List ℕ) (at e : ℕ) (t ws : List ℕ) : Type 0 where
   text : ws ≡ print_item value
 
 -- a part between brackets
-module _ {s : List ℕ} {from : ℕ} {u : Until} {d : ℕ} {m : Bool} {k : ℕ} {b b₁ b₂ b₃ : List ℕ} {pos q c : ℕ} {part r : Written} (front : List ℕ) (x : Laid b b₁ pos front q) (y : AllTold s from u d m 0x20 k b₁ b₂ q part) (z : Closed b₂ b₃ part c r) where
+module _ {s : List ℕ} {from : ℕ} {u : Until} {d : ℕ} {m : Bool} {k : ℕ} {b b₁ b₂ b₃ : List ℕ} {pos q c : ℕ} {part r : Option Written} (front : List ℕ) (x : Laid b b₁ pos front q) (y : AllTold s from u d m 0x20 k b₁ b₂ q part) (z : Closed b₂ b₃ part c r) where
   shut : (at e : ℕ) → ((xs : Items) (t : List ℕ) → elements (item d) u (drop from s) ≡ ok xs t → Reads s at e t (front ++ (text_of m 0x20 true k xs ++ c ∷ []))) → ItemTold s at e b b₃ pos r
   shut at e g =
       record {
         same = z.same ∙ y.same ∙ x.same;
-        kept = z.kept pos (λ h. omega (arith, (y.told h).laid.next, x.next)) ∙ take_less b₁ b₂ pos q (omega (arith, x.next)) y.kept ∙ laid_kept x;
-        told = λ h.
-            let a = y.told (z.some h) in
-            let w = g a.values (drop part.end s) a.is in
-            let n = z.end h in
-            record {
-              value = w.value;
-              is = w.is ∙ ap (λ (j : ℕ). ok w.value (drop j s)) (sym n);
-              inside = omega (arith, a.inside);
-              laid = laid_as (laid_more x (laid_more a.laid (z.laid h))) w.text;
-            };
+        kept = z.kept pos (IfSome_then part y.told (λ v a. omega (arith, a.laid.next, x.next))) ∙ take_less b₁ b₂ pos q (omega (arith, x.next)) y.kept ∙ laid_kept x;
+        told = IfSome_then r z.told (λ v h.
+            let a = MatchOption-at_some ⊤ (λ (w : Written). AllMade s from u d m 0x20 k b₁ b₂ q w) (record { end = v.end; pos = h.place }) h.is y.told in
+            let w = g a.values (drop v.end s) a.is in
+            record { value = w.value; is = w.is; inside = a.inside; laid = laid_as (laid_more x (laid_more a.laid h.laid)) w.text });
       }
 
-module _ {s : List ℕ} {at info n end levels : ℕ} {b b₁ b₂ b₃ : List ℕ} {pos p : ℕ} {part r : Written} (l : 0 < levels) where
-  pub array_told : PrintHeaded s at (record { major = 4; info = info; argument = n; end = end }) → Laid b b₁ pos (0x5b ∷ size_of (size_by info) n) p → {mode : ℕ} → mode ≡ mode_by info
+module _ {s : List ℕ} {at info n end levels : ℕ} {b b₁ b₂ b₃ : List ℕ} {pos p : ℕ} {part r : Option Written} (l : 0 < levels) where
+  pub array_told : PrintHeaded s at (record { major = 4; info = info; argument = n; end = end }) → Laid b b₁ pos (0x5b ∷ size_of (size_by info) n) p → {mode : Mode} → mode ≡ mode_by info
       → AllTold s end (until_by mode n) (levels - 1) false 0x20 n b₁ b₂ p part → Closed b₂ b₃ part 0x5d r → ItemTold s at levels b b₃ pos r
   unfolding print_item
   array_told hd x {mode} e z w =
       let k : suc (levels - 1) ≡ levels = omega arith in
       shut (0x5b ∷ size_of (size_by info) n) x z w at levels (λ xs t g.
-      let g' : elements (item (levels - 1)) (extent (size_by info) n) (drop end s) ≡ ok xs t = ap (λ (u : Until). elements (item (levels - 1)) u (drop end s)) (sym (ap (λ (j : ℕ). until_by j n) e ∙ until_is info n)) ∙ g in
+      let g' : elements (item (levels - 1)) (extent (size_by info) n) (drop end s) ≡ ok xs t = ap (λ (u : Until). elements (item (levels - 1)) u (drop end s)) (sym (ap (λ (j : Mode). until_by j n) e ∙ until_is info n)) ∙ g in
       record {
         value = array (size_by info) xs;
         is = ap (λ (j : ℕ). item j (drop at s)) (sym k) ∙ array-item s at info n end (levels - 1) hd g';
@@ -351,7 +349,7 @@ module _ {s : List ℕ} {at info n end levels : ℕ} {b b₁ b₂ b₃ : List �
       })
 
   pub map-told : PrintHeaded s at (record { major = 5; info = info; argument = n; end = end }) → (info ≡ 31 → ⊥) → Laid b b₁ pos (0x7b ∷ size_of (size_by info) n) p
-      → AllTold s end (until_by 0 (n * 2)) (levels - 1) true 0x20 (n * 2) b₁ b₂ p part → Closed b₂ b₃ part 0x7d r → ItemTold s at levels b b₃ pos r
+      → AllTold s end (until_by Counted (n * 2)) (levels - 1) true 0x20 (n * 2) b₁ b₂ p part → Closed b₂ b₃ part 0x7d r → ItemTold s at levels b b₃ pos r
   unfolding print_item until_by extent
   map-told hd o x z w =
       let k : suc (levels - 1) ≡ levels = omega arith in
@@ -365,7 +363,7 @@ module _ {s : List ℕ} {at info n end levels : ℕ} {b b₁ b₂ b₃ : List �
       })
 
   pub tag-told : PrintHeaded s at (record { major = 6; info = info; argument = n; end = end }) → (info ≡ 31 → ⊥) → {t : Bool} → MayTag s end n t → not t ≡ false → Laid b b₁ pos (tag_opening info n) p
-      → AllTold s end (until_by 0 1) (levels - 1) false 0x20 1 b₁ b₂ p part → Closed b₂ b₃ part 0x29 r → ItemTold s at levels b b₃ pos r
+      → AllTold s end (until_by Counted 1) (levels - 1) false 0x20 1 b₁ b₂ p part → Closed b₂ b₃ part 0x29 r → ItemTold s at levels b b₃ pos r
   unfolding print_item until_by tag_opening
   tag-told hd o may ty x z w =
       let k : suc (levels - 1) ≡ levels = omega arith in
@@ -400,27 +398,20 @@ text-whole d b s none r e =
     absurd (omega arith)
 text-whole d b s (more x xs) r e = ap (λ (t : List ℕ). t ++ (0x0a ∷ [])) (plain_all 0x0a 0 (more x xs))
 
-pub pass_none : {s b : List ℕ} → PassTold s b b 0
-pass_none = record { same = refl; told = λ h. absurd (omega arith) }
-
-pub pass_all : {s b b₁ b₂ : List ℕ} {all r : Written} → (length s ≡ 0 → ⊥) → length s ≤ 65535 → AllTold s 0 (until_by 2 0) 16 false 0x0a 0 b b₁ 0 all → Closed b₁ b₂ all 0x0a r → PassTold s b b₂ r.pos
+pub pass_all : {s b b₁ b₂ : List ℕ} {all : Option Written} {r : Written} → (length s ≡ 0 → ⊥) → length s ≤ 65535 → AllTold s 0 (until_by Ended 0) 16 false 0x0a 0 b b₁ 0 all → Closed b₁ b₂ all 0x0a (Some r) → PassTold s b b₂ (Some r.pos)
 unfolding until_by decode elements several
-pass_all {s} {b} {b₁} {b₂} {all} {r} n l y z = record { same = z.same ∙ y.same; told = λ h. go s n l y z (some h) }
+pass_all {s} {b} {b₁} {b₂} {all} {r} n l y z = record { same = z.same ∙ y.same; told = go s n l y.told }
   where
-    some : 0 < r.pos → 0 < r.end
-    some h = by r.end refl
-      where
-        by : (k : ℕ) → r.end ≡ k → 0 < k
-        by zero e = absurd (omega (arith, z.none e))
-        by (suc k) e = omega arith
+    h : Shut b₁ b₂ all 0x0a r
+    h = z.told
 
-    go : (s : List ℕ) → (length s ≡ 0 → ⊥) → length s ≤ 65535 → AllTold s 0 (until_by 2 0) 16 false 0x0a 0 b b₁ 0 all → Closed b₁ b₂ all 0x0a r → 0 < r.end → AllPrinted s b b₂ r.pos
-    go [] n l y z h = absurd (n refl)
-    go (c ∷ s) n l y z h =
-        let a = y.told (z.some h) in
-        let e = ended-rest 16 (suc (length (c ∷ s))) (c ∷ s) a.values (drop all.end (c ∷ s)) a.is in
+    go : (s : List ℕ) → (length s ≡ 0 → ⊥) → length s ≤ 65535 → IfSome all (λ w. AllMade s 0 (until_by Ended 0) 16 false 0x0a 0 b b₁ 0 w) → AllPrinted s b b₂ r.pos
+    go [] n l y = absurd (n refl)
+    go (c ∷ s) n l y =
+        let a = MatchOption-at_some ⊤ (λ (w : Written). AllMade (c ∷ s) 0 (until_by Ended 0) 16 false 0x0a 0 b b₁ 0 w) (record { end = r.end; pos = h.place }) h.is y in
+        let e = ended-rest 16 (suc (length (c ∷ s))) (c ∷ s) a.values (drop r.end (c ∷ s)) a.is in
         record {
           values = a.values;
           is = rw (le-leb (length (c ∷ s)) 65535 l, decode) (a.is ∙ ap (ok a.values) (sym e));
-          laid = laid_as (laid_more a.laid (z.laid h)) (text-whole 16 c s a.values (drop all.end (c ∷ s)) a.is);
+          laid = laid_as (laid_more a.laid h.laid) (text-whole 16 c s a.values (drop r.end (c ∷ s)) a.is);
         }

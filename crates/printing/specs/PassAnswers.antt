@@ -1,5 +1,6 @@
 -- Of the code: what the code that prints in one pass answers. What is said holds where something is told, and no more is said.
-use Rattle.std.specs.Prelude.{ℕ, ◌+◌, ◌-◌, ◌≤◌, ◌<◌, ◌≡◌, Bool, true, false, List, [], ◌++◌, length, take, drop}
+use Rattle.std.specs.Prelude.{ℕ, ◌-◌, ◌≤◌, ◌≡◌, Bool, true, false, List, [], ◌++◌, length, take, drop, IfSome}
+use Rattle.std.specs.declared.option.Option.{Option}
 use Rattle.cbor.specs.Refusals.{ok}
 use Rattle.cbor.specs.Items.{Items, none, more}
 use Rattle.cbor.specs.Decode.{Until, elements, item, decode}
@@ -19,10 +20,10 @@ pub record AllMade (s : List ℕ) (from : ℕ) (u : Until) (d : ℕ) (map : Bool
   pub inside : r.end ≤ length s
   pub laid : Laid b b' pos (text_of map blank true left values) r.pos
 
-pub record AllTold (s : List ℕ) (from : ℕ) (u : Until) (d : ℕ) (map : Bool) (blank left : ℕ) (b b' : List ℕ) (pos : ℕ) (r : Written) : Type 0 where
+pub record AllTold (s : List ℕ) (from : ℕ) (u : Until) (d : ℕ) (map : Bool) (blank left : ℕ) (b b' : List ℕ) (pos : ℕ) (r : Option Written) : Type 0 where
   pub same : length b' ≡ length b
   pub kept : take pos b' ≡ take pos b
-  pub told : 0 < r.end → AllMade s from u d map blank left b b' pos r
+  pub told : IfSome r (λ w. AllMade s from u d map blank left b b' pos w)
 
 -- all items of the bytes, and their text at the front of the buffer
 pub record AllPrinted (s b b' : List ℕ) (r : ℕ) : Type 0 where
@@ -30,6 +31,6 @@ pub record AllPrinted (s b b' : List ℕ) (r : ℕ) : Type 0 where
   pub is : decode s ≡ ok values []
   pub laid : Laid b b' 0 (print_text values) r
 
-pub record PassTold (s b b' : List ℕ) (r : ℕ) : Type 0 where
+pub record PassTold (s b b' : List ℕ) (r : Option ℕ) : Type 0 where
   pub same : length b' ≡ length b
-  pub told : 0 < r → AllPrinted s b b' r
+  pub told : IfSome r (λ n. AllPrinted s b b' n)

@@ -7,10 +7,10 @@ ghost use Rattle.pass_parts.specs.PartAnswers.{ItemTold};
 ghost use Rattle.printing.specs.PassAnswers.{AllTold, PassTold};
 
 use head::initial::{ARRAY, INDEFINITE_LENGTH, MAP, TAG};
-use leaf_written::{Written, has_block, has_space, none};
+use leaf_written::{Written, has_block, has_space};
 use pass_parts::{closed, comma, may_tag, odd, opening, separator, tag_opening};
 use refusal::limit::{MOST_BYTES, MOST_LEVELS};
-use walk_answer::{COUNTED, ENDED, is_over, less, mode_of, past};
+use walk_answer::{Mode, is_over, less, mode_of, past};
 
 // No map that the library takes has as many entries.
 const MOST: u64 = 0xffff_ffff;
@@ -22,14 +22,14 @@ const MOST: u64 = 0xffff_ffff;
 fn items(
     bytes: &[u8],
     from: usize,
-    mode: u8,
+    mode: Mode,
     count: u64,
     map: bool,
     blank: u8,
     levels: usize,
     out: &mut [u8],
     pos: usize,
-) -> Written
+) -> Option<Written>
     requires within { Within bytes.now from }
     requires pos_in_bounds { pos ≤ length out.old }
     ensures { AllTold bytes.now from (until_by mode count) levels map blank count out.old out.new pos result }
@@ -40,28 +40,24 @@ fn items(
     let mut first = true;
     while !is_over(bytes, at, mode, left) {
         if !has_space(out, p) {
-            return none();
+            return None;
         }
         let q = separator(first, comma(map, left), blank, out, p);
-        let part = one(bytes, at, levels, out, q);
-        let end = part.end;
-        if end == 0 {
-            return none();
-        }
-        at = end;
+        let part = one(bytes, at, levels, out, q)?;
+        at = part.end;
         p = part.pos;
         left = less(left);
         first = false;
     }
-    Written {
+    Some(Written {
         end: past(at, mode),
         pos: p,
-    }
+    })
 }
 
 // The item at a place.
 #[cycle(array_branch_items_map_one_tag)]
-fn one(bytes: &[u8], at: usize, levels: usize, out: &mut [u8], pos: usize) -> Written
+fn one(bytes: &[u8], at: usize, levels: usize, out: &mut [u8], pos: usize) -> Option<Written>
     requires within { Within bytes.now at }
     requires pos_in_bounds { pos + 80 ≤ length out.old }
     ensures { ItemTold bytes.now at levels out.old out.new pos result }
@@ -69,24 +65,20 @@ fn one(bytes: &[u8], at: usize, levels: usize, out: &mut [u8], pos: usize) -> Wr
     if !has_block(bytes, at) {
         return odd(bytes, at, levels, out, pos);
     }
-    let w = leaf_text::leaf(bytes, at, out, pos);
-    if 0 < w.end {
-        return w;
+    if let Some(w) = leaf_text::leaf(bytes, at, out, pos) {
+        return Some(w);
     }
     branch(bytes, at, levels, out, pos)
 }
 
 // An item that is no leaf, or none that is written at a glance.
 #[cycle(array_branch_items_map_one_tag)]
-fn branch(bytes: &[u8], at: usize, levels: usize, out: &mut [u8], pos: usize) -> Written
+fn branch(bytes: &[u8], at: usize, levels: usize, out: &mut [u8], pos: usize) -> Option<Written>
     requires at_in_bounds { at < length bytes.now }
     requires pos_in_bounds { pos + 80 ≤ length out.old }
     ensures { ItemTold bytes.now at levels out.old out.new pos result }
 {
-    let end = head::head_end(bytes, at);
-    if end == 0 {
-        return none();
-    }
+    let end = head::head_end(bytes, at)?;
     if levels == 0 {
         return odd(bytes, at, levels, out, pos);
     }
@@ -111,7 +103,7 @@ fn array(
     levels: usize,
     out: &mut [u8],
     pos: usize,
-) -> Written
+) -> Option<Written>
     requires at_in_bounds { at < length bytes.now }
     requires pos_in_bounds { pos + 80 ≤ length out.old }
     requires print_headed { PrintHeaded bytes.now at (record { major = 4; info = info; argument = n; end = end }) }
@@ -144,7 +136,7 @@ fn map(
     levels: usize,
     out: &mut [u8],
     pos: usize,
-) -> Written
+) -> Option<Written>
     requires at_in_bounds { at < length bytes.now }
     requires pos_in_bounds { pos + 80 ≤ length out.old }
     requires print_headed { PrintHeaded bytes.now at (record { major = 5; info = info; argument = n; end = end }) }
@@ -155,10 +147,20 @@ fn map(
         return odd(bytes, at, levels, out, pos);
     }
     if MOST < n {
-        return none();
+        return None;
     }
     let p = opening(b'{', info, n, out, pos);
-    let part = items(bytes, end, COUNTED, n * 2, true, b' ', levels - 1, out, p);
+    let part = items(
+        bytes,
+        end,
+        Mode::Counted,
+        n * 2,
+        true,
+        b' ',
+        levels - 1,
+        out,
+        p,
+    );
     closed(part, b'}', out)
 }
 
@@ -172,7 +174,7 @@ fn tag(
     levels: usize,
     out: &mut [u8],
     pos: usize,
-) -> Written
+) -> Option<Written>
     requires at_in_bounds { at < length bytes.now }
     requires pos_in_bounds { pos + 80 ≤ length out.old }
     requires print_headed { PrintHeaded bytes.now at (record { major = 6; info = info; argument = n; end = end }) }
@@ -180,29 +182,36 @@ fn tag(
     ensures { ItemTold bytes.now at levels out.old out.new pos result }
 {
     if info == INDEFINITE_LENGTH {
-        return none();
+        return None;
     }
     if !may_tag(bytes, end, n) {
         return odd(bytes, at, levels, out, pos);
     }
     let p = tag_opening(info, n, out, pos);
-    let part = items(bytes, end, COUNTED, 1, false, b' ', levels - 1, out, p);
+    let part = items(
+        bytes,
+        end,
+        Mode::Counted,
+        1,
+        false,
+        b' ',
+        levels - 1,
+        out,
+        p,
+    );
     closed(part, b')', out)
 }
 
 // THE WHOLE
 
-// All items, one behind the other, as a text at the front of a buffer; answers its length, and 0 where nothing is told.
-pub(crate) fn print_all(bytes: &[u8], out: &mut [u8]) -> usize
+// All items, one behind the other, as a text at the front of a buffer; answers its length.
+pub(crate) fn print_all(bytes: &[u8], out: &mut [u8]) -> Option<usize>
     ensures { PassTold bytes.now out.old out.new result }
 {
-    if bytes.len() == 0 {
-        return 0;
+    if bytes.is_empty() || MOST_BYTES < bytes.len() {
+        return None;
     }
-    if MOST_BYTES < bytes.len() {
-        return 0;
-    }
-    let all = items(bytes, 0, ENDED, 0, false, b'\n', MOST_LEVELS, out, 0);
-    let text = closed(all, b'\n', out);
-    text.pos
+    let all = items(bytes, 0, Mode::Ended, 0, false, b'\n', MOST_LEVELS, out, 0);
+    let text = closed(all, b'\n', out)?;
+    Some(text.pos)
 }

@@ -1,38 +1,24 @@
 -- Heads that are known at a glance: a lemma for each way through the functions.
 -- Assumes nothing.
-use Prim.Native.Nat.{ℕ, ◌+◌, ◌-◌, ◌*◌, ◌/◌, ◌%◌, ◌≤◌, ◌<◌}
+use Prim.Native.Nat.{ℕ, ◌+◌, ◌*◌, ◌/◌, ◌%◌, ◌≤◌, ◌<◌}
 use native.Mathlib.Omega.{arith}
-use mathlib.Core.Path.{◌≡◌, sym, ap, ◌∙◌}
+use mathlib.Core.Path.{◌≡◌, refl, sym, ap, ◌∙◌}
 use mathlib.Core.List.{List, [], ◌∷◌}
 use lib.ListN.{length, take, drop, get_or}
 use mir.Syntax.{w8 as bits8}
 use mir.Val.{Fits}
 use Rattle.cbor.specs.Widths.{value_from}
-use Rattle.head.specs.HeadAnswers.{argument_size, argument_at, Formed, Widened, HeadEnd}
-use Rattle.head.proofs.HeadCode.{size_two, form-wide, argument-some, argument-wide, ends_plain}
-use Rattle.quick_head.specs.QuickHeads.{Small, of_array, of_map, of_tag, Inner, TwoBytes, Lengthy}
-
--- INITIAL BYTES
-
-pub inner_not : {b n : ℕ} → b < 256 → n ≡ 0xff → Inner b n
-inner_not l e = record { is = λ h. absurd (omega arith); short = λ h. absurd (omega arith); byte = l }
-
-pub inner_tag : {b n : ℕ} → b < 256 → b < 0xd8 → 0xc0 ≤ b → n ≡ 1 → Inner b n
-inner_tag l a c e = record { is = λ h. of_tag (omega arith) e; short = λ h. omega arith; byte = l }
-
-pub inner_array : {b n : ℕ} → b < 256 → 0x80 ≤ b → b < 0xa0 → b % 32 < 24 → n ≡ b % 32 → Inner b n
-inner_array l a c h e = record { is = λ o. of_array (omega arith) e; short = λ o. h; byte = l }
-
-pub inner_map : {b n : ℕ} → b < 256 → 0xa0 ≤ b → b < 0xc0 → b % 32 < 24 → n ≡ b % 32 * 2 → Inner b n
-inner_map l a c h e = record { is = λ o. of_map (omega arith) e; short = λ o. h; byte = l }
-
-pub ruleset inner_ways = (inner_not, inner_tag, inner_array, inner_map)
+use Rattle.head.specs.HeadAnswers.{argument_size, argument_at, Widened, HeadEnd}
+use Rattle.head.proofs.HeadCode.{size_two, form-wide, argument-some, argument-wide, not_argument, ends_plain}
+use Rattle.std.specs.Prelude.{Some}
+use Rattle.std.specs.Prelude as std
+use Rattle.quick_head.specs.QuickHeads.{Small, TwoBytes, Lengthy}
 
 -- LENGTHS IN TWO BYTES
 
-module _ {s : List ℕ} {end : ℕ} (he : HeadEnd s 0 end) (nz : end ≡ 0 → ⊥) where
+module _ {s : List ℕ} {end : ℕ} {r : std.Option ℕ} (he : HeadEnd s 0 r) (is : r ≡ Some end) where
   pub lengthy : {n : ℕ} → Small s → n ≡ argument_at s 0 → 2 ≤ get_or s 0 0 / 32 → get_or s 0 0 / 32 ≤ 3 → (get_or s 0 0 % 32 ≡ 31 → ⊥) → Lengthy s end n
-  lengthy sm e l u o = record { small = sm; head = he; some = nz; argument = e; low = l; high = u; definite = o }
+  lengthy sm e l u o = record { small = sm; head = rw is at he; argument = e; low = l; high = u; definite = o }
 
 two_value : (s : List ℕ) {x y : ℕ} → 3 ≤ length s → x ≡ get_or s 1 0 → y ≡ get_or s 2 0 → x * 256 + y ≡ value_from 0 (take 2 (drop (0 + 1) s))
 unfolding value_from
@@ -45,15 +31,10 @@ pub two_made : {s : List ℕ} {x y r : ℕ} → 3 ≤ length s → Fits bits8 (g
 two_made {s} {x} {y} {r} l u m i a b e =
     let z : 2 ≡ argument_size (get_or s 0 0 % 32) = size_two (get_or s 0 0 % 32) i in
     let q : 0 + 1 + argument_size (get_or s 0 0 % 32) ≡ 3 = omega arith in
-    let he : HeadEnd s 0 3 = rw q at (ends_plain {s = s} {at = 0} u.fits (omega arith) (λ o. omega arith) (omega arith)) in
-    let f : Formed (get_or s 0 0) 0 = form-wide (get_or s 0 0) u (omega arith) (omega arith) (λ o. omega arith) in
-    let v : x * 256 + y ≡ argument_at s 0 = argument-wide s 0 f (omega arith) z (argument-some 2 (get_or s 0 0 % 32) (take 2 (drop (0 + 1) s)) (omega arith) (two_value s l a.is b.is)) in
-    record { is = λ h sm. lengthy he (omega arith) sm (e ∙ v) (omega arith) (omega arith) (omega arith) }
-
-pub two_not : {s : List ℕ} {r : ℕ} → r ≡ 65536 → TwoBytes s r
-two_not e = record { is = λ h. absurd (omega arith) }
-
-pub ruleset two_ways = (two_made, two_not)
+    let he : HeadEnd s 0 (Some 3) = rw q at (ends_plain {s = s} {at = 0} u.fits (omega arith) (λ o. omega arith) (omega arith)) in
+    let f = form-wide (get_or s 0 0) u (omega arith) (omega arith) (λ o. omega arith) in
+    let v : x * 256 + y ≡ argument_at s 0 = argument-wide s 0 f not_argument z (argument-some 2 (get_or s 0 0 % 32) (take 2 (drop (0 + 1) s)) (omega arith) (two_value s l a.is b.is)) in
+    record { is = λ h sm. lengthy he refl sm (e ∙ v) (omega arith) (omega arith) (omega arith) }
 
 pub two_lengthy : {s : List ℕ} {r : ℕ} → TwoBytes s r → r < 65536 → Small s → Lengthy s 3 r
 two_lengthy t h sm = t.is h sm

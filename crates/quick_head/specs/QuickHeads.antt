@@ -1,5 +1,5 @@
 -- Of the code: heads that the quick walk knows at a glance. What is said of them holds where they are seen to be such, and no more is said.
-use Rattle.std.specs.Prelude.{ℕ, ◌*◌, ◌/◌, ◌%◌, ◌≤◌, ◌<◌, ◌≡◌, List, length, get_or}
+use Rattle.std.specs.Prelude.{ℕ, Some, ◌*◌, ◌/◌, ◌%◌, ◌≤◌, ◌<◌, ◌≡◌, List, length, get_or}
 use Rattle.head.specs.HeadAnswers.{argument_at, HeadEnd}
 
 -- bytes whose ends and sizes go into one number
@@ -20,8 +20,7 @@ pub record Inner (b r : ℕ) : Type 0 where
 -- the head of a string of n bytes, at the front, ends at `end`
 pub record Lengthy (s : List ℕ) (end n : ℕ) : Type 0 where
   pub small : Small s
-  pub head : HeadEnd s 0 end
-  pub some : end ≡ 0 → ⊥
+  pub head : HeadEnd s 0 (Some end)
   pub argument : n ≡ argument_at s 0
   pub low : 2 ≤ get_or s 0 0 / 32
   pub high : get_or s 0 0 / 32 ≤ 3

@@ -24,23 +24,13 @@ pub const NO_HEAD: u8 = 0xff;
 pub fn inner(initial: u8) -> u8
     ensures { Inner initial result }
 {
-    if initial < ARRAYS {
-        return NO_HEAD;
-    }
-    if LONG_TAGS <= initial {
-        return NO_HEAD;
-    }
-    if TAGS <= initial {
-        return 1;
-    }
-    if IN_ONE_BYTE <= initial % 32 {
-        return NO_HEAD;
-    }
     let n = initial % 32;
-    if initial < MAPS {
-        return n;
+    match initial {
+        ARRAYS..MAPS if n < IN_ONE_BYTE => n,
+        MAPS..TAGS if n < IN_ONE_BYTE => n * 2,
+        TAGS..LONG_TAGS => 1,
+        _ => NO_HEAD,
     }
-    n * 2
 }
 
 // LENGTHS IN TWO BYTES
@@ -61,15 +51,10 @@ pub const NO_LENGTH: u64 = 0x1_0000;
 pub fn two_bytes(bytes: &[u8]) -> u64
     ensures { TwoBytes bytes.now result }
 {
-    if bytes.len() < TWO_END {
-        return NO_LENGTH;
+    if let [initial, high, low, ..] = *bytes {
+        if initial / 64 == 1 && initial % 32 == IN_TWO_BYTES {
+            return wide(high) * 256 + wide(low);
+        }
     }
-    let initial = bytes[0];
-    if initial / 64 != 1 {
-        return NO_LENGTH;
-    }
-    if initial % 32 != IN_TWO_BYTES {
-        return NO_LENGTH;
-    }
-    wide(bytes[1]) * 256 + wide(bytes[2])
+    NO_LENGTH
 }

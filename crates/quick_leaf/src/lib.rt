@@ -1,7 +1,7 @@
 // Leaves that a walk passes over by a table and a block of the bytes behind the initial byte, with no branch that depends on their kind. Most items are such.
 #![tactic(auto)]
 
-ghost use Rattle.std.specs.Prelude.{◌≡◌, ◌+◌, ◌≤◌, min, max, ltb, eqb, length};
+ghost use Rattle.std.specs.Prelude.{◌≡◌, ◌+◌, ◌≤◌, min, ltb, eqb, length};
 ghost use Rattle.quick_leaf.specs.WalkLeaves.{all_bits, LeafSize, LeafContent, LeafAt, Bounded, Topped, Blocked, Right};
 
 // What stands for the size of an item that is no leaf. It is above all sizes.
@@ -10,7 +10,9 @@ const NO_LEAF: u8 = 0xff;
 // The bytes of a block, with the initial byte before it.
 const BLOCK: usize = 33;
 
-// The size of an item that its initial byte tells: a number, a simple value, a string of at most 23 bytes. One value a table's row.
+// The size of an item that its initial byte tells: a number, a simple value, a string of at most 23 bytes. One value a table's row: of such
+// rows the compiler makes one table, and of ranges a chain of tests.
+#[tactic(auto, unfolding(crate::specs::WalkLeaves::is_leaf, crate::specs::WalkLeaves::leaf_size, crate::specs::WalkLeaves::leaf_content, head::specs::HeadAnswers::argument_size))]
 fn leaf_size(initial: u8) -> u8
     ensures { LeafSize initial result }
 {
@@ -116,48 +118,26 @@ fn leaf_size(initial: u8) -> u8
     }
 }
 
-pub fn smaller(a: u8, b: u8) -> u8
-    ensures { result ≡ min a b }
-{
-    if a < b {
-        return a;
-    }
-    b
-}
-
-fn larger(a: u8, b: u8) -> u8
-    ensures { result ≡ max a b }
-{
-    if a < b {
-        return b;
-    }
-    a
-}
-
 // All bits if a test holds, else none.
+#[tactic(auto, unfolding(crate::specs::WalkLeaves::all_bits))]
 pub fn if_below(a: u8, b: u8) -> u8
     ensures { result ≡ all_bits (ltb a b) }
 {
-    if a < b {
-        return 0xff;
-    }
-    0
+    if a < b { 0xff } else { 0 }
 }
 
+#[tactic(auto, unfolding(crate::specs::WalkLeaves::all_bits))]
 fn if_same(a: u8, b: u8) -> u8
     ensures { result ≡ all_bits (eqb a b) }
 {
-    if a == b {
-        return 0xff;
-    }
-    0
+    if a == b { 0xff } else { 0 }
 }
 
 // A byte of the item, or 0 behind it.
 fn within(b: u8, i: u8, n: u8) -> u8
     ensures { Bounded b i n result }
 {
-    smaller(b, if_below(i, n))
+    b.min(if_below(i, n))
 }
 
 // No byte of the first n, but for the initial one, is above the answer. The loop has no way out, so the compiler makes wide steps of it.
@@ -166,10 +146,8 @@ fn top(bytes: &[u8], at: usize, n: u8) -> u8
     ensures { Topped bytes.now at n 33 result }
 {
     let mut most: u8 = 0;
-    let mut i: u8 = 1;
-    while i < 33 {
-        most = larger(most, within(bytes[at + i as usize], i, n));
-        i += 1;
+    for i in 1..33 {
+        most = most.max(within(bytes[at + i as usize], i, n));
     }
     most
 }
@@ -178,27 +156,25 @@ fn top(bytes: &[u8], at: usize, n: u8) -> u8
 pub fn leaf_content(initial: u8) -> u8
     ensures { LeafContent initial result }
 {
-    smaller(initial % 32, if_same(initial / 64, 1))
+    (initial % 32).min(if_same(initial / 64, 1))
 }
 
 // Whether a block stands behind the byte at a place.
 fn has_block(bytes: &[u8], at: usize) -> bool
     ensures { Blocked bytes.now at result }
 {
-    if bytes.len() < BLOCK {
-        return false;
-    }
-    at <= bytes.len() - BLOCK
+    BLOCK <= bytes.len() && at <= bytes.len() - BLOCK
 }
 
 // The size of the leaf at a place, NO_LEAF where there is none.
 pub fn leaf_at(bytes: &[u8], at: usize) -> u8
     ensures { LeafAt bytes.now at result }
 {
-    if !has_block(bytes, at) {
-        return NO_LEAF;
+    if has_block(bytes, at) {
+        leaf_size(bytes[at])
+    } else {
+        NO_LEAF
     }
-    leaf_size(bytes[at])
 }
 
 // Whether the leaf of n bytes at a place is seen to be right: a text must be ASCII.
@@ -208,6 +184,6 @@ pub fn is_right(bytes: &[u8], at: usize, n: u8) -> bool
     if !has_block(bytes, at) {
         return false;
     }
-    let text = smaller(n, if_same(bytes[at] / 32, 3));
-    larger(n, top(bytes, at, text)) < 0x80
+    let text = n.min(if_same(bytes[at] / 32, 3));
+    n.max(top(bytes, at, text)) < 0x80
 }

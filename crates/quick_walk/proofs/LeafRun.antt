@@ -17,10 +17,11 @@ use Rattle.head.proofs.HeadCode.{size_none, size-most, argument-low, ends_plain}
 use Rattle.utf8.proofs.Runs.{ascii-good}
 use Rattle.walk_answer.specs.WalkAnswers.{passed, pass_told, told_of, one_of, until_by, Turned, after_told}
 use Rattle.quick_leaf.specs.WalkLeaves.{leaf_content, leaf_size, is_leaf, LeafSize, LeafContent, LeafAt, Right}
-use Rattle.walk_answer.specs.declared.Passed.TheVariants.{Span as SpanV}
 use Rattle.walk_parts.proofs.StringCode.{text-yes, text-no, content-good}
 use Rattle.walk_answer.proofs.WalkCycle.{tail_is, one-item, Run, run_on}
 use Rattle.walk_parts.proofs.WalkItems.{behind-string, one_headed, one-leaf, one-simple}
+use Rattle.std.specs.Prelude.{Ok, Some}
+use Rattle.walk_answer.specs.declared.Mode.{Mode}
 
 -- what a leaf is
 data Kind (b : ℕ) : Type 0 where
@@ -64,23 +65,23 @@ module _ (d : ℕ) (s : List ℕ) (n : ℕ) (room : 33 ≤ length s) (sz : n ≡
       let c = content-none (get_or s 0 0) (omega arith) in
       let he = ends_plain {s = s} {at = 0} byte l (omega arith) (omega arith) in
       let e : n ≡ 0 + 1 + argument_size (get_or s 0 0 % 32) = omega arith in
-      one-leaf he (omega arith) d (omega arith) (λ j. passed (e j) (c j))
+      one-leaf he refl d (omega arith) (λ j. passed (e j) (c j))
   told (simple z l) =
       let a = short_none (get_or s 0 0 % 32) l in
       let c = content-none (get_or s 0 0) (omega arith) in
       let he = ends_plain {s = s} {at = 0} byte (omega arith) (λ m. l) (omega arith) in
       let e : n ≡ 0 + 1 + argument_size (get_or s 0 0 % 32) = omega arith in
-      one-simple he (omega arith) d z (omega arith) (λ j. passed (e j) (c j))
+      one-simple he refl d z (omega arith) (λ j. passed (e j) (c j))
   told (string z l) =
       let a = short_none (get_or s 0 0 % 32) l in
       let c = content-some (get_or s 0 0) z in
       let k = get_or s 0 0 % 32 in
-      let he : HeadEnd s 0 1 = let q : 0 + 1 + argument_size (get_or s 0 0 % 32) ≡ 1 = omega arith in rw q at (ends_plain {s = s} {at = 0} byte (omega arith) (λ m. l) (omega arith)) in
+      let he : HeadEnd s 0 (Some 1) = let q : 0 + 1 + argument_size (get_or s 0 0 % 32) ≡ 1 = omega arith in rw q at (ends_plain {s = s} {at = 0} byte (omega arith) (λ m. l) (omega arith)) in
       let w : Widened k k = record { is = refl; byte = omega arith } in
       let g : k ≡ argument_at s 0 = argument-low s 0 {t = true} (record { is = λ e. l; byte = byte }) refl w in
       let e : n ≡ 1 + k = omega arith in
       let f : leaf_content (get_or s 0 0) ≡ 1 + k - 1 = omega arith in
-      one-item (length s) d s (behind-string (one_headed he (omega arith) g) d (omega arith) (omega arith) (omega arith)
+      one-item (length s) d s (behind-string (one_headed he refl g) d (omega arith) (omega arith) (omega arith)
       (content-good {s = s} k (eqb (get_or s 0 0 / 32) 3) (record { inside = omega arith }) (omega arith) (right (eqb (get_or s 0 0 / 32) 3) refl) refl (λ j. passed (e j) (f j))))
     where
       low : (j : ℕ) → j < get_or s 0 0 % 32 → get_or s 0 0 / 32 ≡ 3 → get_or (take (1 + get_or s 0 0 % 32 - 1) (drop 1 s)) j 0 < 0x80
@@ -131,13 +132,13 @@ module _ {s : List ℕ} {at n : ℕ} (la : LeafAt s at n) {v : Bool} (ri : Right
   pub leaf_add : {d : ℕ} {first u : Until} {all c : ℕ} → Run 4 d s first at all u → length s * 1 < 2 ^ 63 → LeafContent (get_or s at 0) c → all + c < 2 ^ 64
   leaf_add run long c = omega (arith, run.small, c.small, leaf-inside)
 
-  module _ {d : ℕ} {first : Until} {all mode k : ℕ} (run : Run 4 (suc d) s first at all (until_by mode k)) (long : length s * 1 < 2 ^ 63) where
+  module _ {d : ℕ} {first : Until} {all : ℕ} {mode : Mode} {k : ℕ} (run : Run 4 (suc d) s first at all (until_by mode k)) (long : length s * 1 < 2 ^ 63) where
     module _ {t : Bool} (tu : Turned s at mode k t) (o : not t ≡ true) {c : ℕ} (lc : LeafContent (get_or s at 0) c) where
       pub leaf-on : {m : ℕ} → m ≡ k - 1 → Run 4 (suc d) s first (at + n) (all + c) (until_by mode m)
       unfolding pass_told after_told
       leaf-on {m} e =
           let p : at + n ≡ min (at + n) (2 ^ 64 - 1) = omega (arith, leaf-end) in
           let q : all + c ≡ min (all + c) (2 ^ 64 - 1) = omega (arith, leaf_add run long lc) in
-          run_on run tu o (SpanV (record { end = n; size = c })) long
+          run_on run tu o (Ok (record { end = n; size = c })) long
           (ap (passed n) lc.is ∙ leaf-told d ∙ sym (ap (λ (x : List ℕ). told_of (length x) (one_of 4 (suc d) x)) (tail_is s at)))
-          (SpanV (record { end = at + n; size = all + c })) (λ j. passed (p j) (q j)) refl e
+          (Ok (record { end = at + n; size = all + c })) (λ j. passed (p j) (q j)) refl e

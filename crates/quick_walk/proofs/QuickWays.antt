@@ -23,13 +23,16 @@ use Rattle.walk_answer.specs.WalkAnswers.{PassTold, passed, pass_told, contents,
 use Rattle.quick_walk.specs.QuickAnswers.{Quick, Deeper, Halves, Shifts, Shifted, Opens}
 use Rattle.quick_head.specs.QuickHeads.{Small, Opening, of_array, of_map, of_tag, Inner, Lengthy}
 use Rattle.walk_answer.specs.declared.Passage.{Passage}
-use Rattle.walk_answer.specs.declared.Passed.{Passed}
-use Rattle.walk_answer.specs.declared.Passed.TheVariants.{Span as SpanV}
 use Rattle.walk_answer.proofs.Leaves.{Leaves, same}
 use Rattle.walk_parts.proofs.StringCode.{content-good, head-room, head-inside}
 use Rattle.walk_answer.proofs.WalkCycle.{tail_is, all-leaves, one-leaves, one-item, all_double, Run, run-over, run_on}
 use Rattle.walk_parts.proofs.WalkItems.{all_told, only_one, inside, tag-good, behind-string, behind-array, behind-map, behind-tag, map_twice, one_inside, one_headed, one-leaf}
 use Rattle.quick_walk.proofs.LeafRun.{short_none}
+use Rattle.std.specs.Prelude.{Ok, Some}
+use Rattle.std.specs.Prelude as std
+use Rattle.refusal.specs.declared.Refusal.{Refusal}
+use Rattle.walk_answer.specs.declared.Mode.{Mode}
+use Rattle.walk_answer.specs.declared.Mode.TheVariants.{Counted}
 
 -- ANSWERS
 
@@ -64,8 +67,8 @@ pub small_deeper : {s : List ℕ} {levels : ℕ} (at : ℕ) → Deeper s levels 
 small_deeper {s} at d = small-part s at d.small
 
 -- the number, as the answer in memory that it stands for
-abbrev span : ℕ → Passed
-span r = SpanV (record { end = r % 4294967296; size = r / 4294967296 })
+abbrev span : ℕ → std.Result Passage Refusal
+span r = Ok (record { end = r % 4294967296; size = r / 4294967296 })
 
 module _ {end r x : ℕ} (sh : Shifted end r x) (n : x ≡ 0xffffffffffffffff → ⊥) where
   shifted : pass_told (span x) ≡ after_told end 0 (pass_told (span r))
@@ -104,26 +107,26 @@ pub ruleset shift_ways = (shift_not, shift_made)
 
 -- BY THE WHOLE WAY
 
-module _ (d : ℕ) {s : List ℕ} (sm : Small s) (p : Passed) (told : pass_told p ≡ told_of (length s) (one_of 4 (suc d) s)) where
-  whole-told : {m : Passage} → p ≡ SpanV m → passed m.end m.size ≡ told_of (length s) (one_of 4 (suc d) s)
+module _ (d : ℕ) {s : List ℕ} (sm : Small s) (p : std.Result Passage Refusal) (told : pass_told p ≡ told_of (length s) (one_of 4 (suc d) s)) where
+  whole-told : {m : Passage} → p ≡ Ok m → passed m.end m.size ≡ told_of (length s) (one_of 4 (suc d) s)
   unfolding pass_told
   whole-told e = rw e at told
 
-  pub whole_halves : {m : Passage} → p ≡ SpanV m → Halves m.end m.size
+  pub whole_halves : {m : Passage} → p ≡ Ok m → Halves m.end m.size
   whole_halves {m} e =
       let o = told_of_lem 1 s m.end m.size (one_of 4 (suc d) s) (one-leaves 4 (suc d) s) (whole-told e) in
       record { ends = omega (arith, o.ends, sm.is); small = omega (arith, o.ends, o.size, sm.is) }
 
-  pub whole-made : {m : Passage} {r : ℕ} → p ≡ SpanV m → r ≡ m.size * 4294967296 + m.end → Quick (told_of (length s) (one_of 4 (suc d) s)) r
+  pub whole-made : {m : Passage} {r : ℕ} → p ≡ Ok m → r ≡ m.size * 4294967296 + m.end → Quick (told_of (length s) (one_of 4 (suc d) s)) r
   whole-made e i = quick_made (whole_halves e).ends i (whole-told e)
 
 pub ruleset whole_ways = (quick_not, whole-made)
 
 -- NUMBERS AND STRINGS
 
-module _ {s : List ℕ} {end : ℕ} (he : HeadEnd s 0 end) (nz : end ≡ 0 → ⊥) where
+module _ {s : List ℕ} {end : ℕ} {o : std.Option ℕ} (he : HeadEnd s 0 o) (is : o ≡ Some end) where
   pub quick_end : end ≤ length s
-  quick_end = head-inside (one_headed he nz refl)
+  quick_end = head-inside (one_headed he is refl)
 
   pub shifts_deeper : {r : ℕ} (d : ℕ) (u : Until) {levels : ℕ} → Deeper s levels → Quick (told_of (length (take (length s - end) (drop end s))) (all_of 4 d u (take (length s - end) (drop end s)))) r → Shifts end r
   shifts_deeper d u dp q = shifts_of d end u quick_end dp.small q
@@ -132,17 +135,17 @@ module _ {s : List ℕ} {end : ℕ} (he : HeadEnd s 0 end) (nz : end ≡ 0 → �
   number_halves sm = record { ends = omega (arith, quick_end, sm.is); small = omega arith }
 
   pub number-made : (d : ℕ) {r : ℕ} → Small s → get_or s 0 0 / 32 < 2 → r ≡ 0 * 4294967296 + end → Quick (told_of (length s) (one_of 4 (suc d) s)) r
-  number-made d sm l e = quick_made (number_halves sm).ends e (one-leaf he nz d (omega arith) refl)
+  number-made d sm l e = quick_made (number_halves sm).ends e (one-leaf he is d (omega arith) refl)
 
 pub ruleset plain_ways = (quick_not, number-made)
 
 -- a string by its head
 module _ {s : List ℕ} {end n : ℕ} (g : Lengthy s end n) where
   pub string-end : end ≤ length s
-  string-end = quick_end g.head g.some
+  string-end = quick_end g.head refl
 
   pub string-some : 0 < length s
-  string-some = one_inside g.head g.some
+  string-some = one_inside g.head refl
 
   module _ (h : n ≤ length s - end) where
     pub string-inside : end + n ≤ length s
@@ -157,7 +160,7 @@ module _ {s : List ℕ} {end n : ℕ} (g : Lengthy s end n) where
     pub string-made : (d : ℕ) {v : Bool} {r : ℕ} → v ≡ is_text (kind_of (eqb (get_or s 0 0 / 32) 3)) (take (end + n - end) (drop end s)) → v ≡ true → r ≡ (end + n - end) * 4294967296 + (end + n)
         → Quick (told_of (length s) (one_of 4 (suc d) s)) r
     string-made d i y e =
-        quick_made string_halves.ends e (one-item (length s) d s (behind-string (one_headed g.head g.some g.argument) d (omega (arith, g.low)) g.high g.definite
+        quick_made string_halves.ends e (one-item (length s) d s (behind-string (one_headed g.head refl g.argument) d (omega (arith, g.low)) g.high g.definite
         (content-good {s = s} {from = end} n (eqb (get_or s 0 0 / 32) 3) (record { inside = string-end }) h i y refl)))
 
 pub ruleset string_ways = (quick_not, string-made)
@@ -169,11 +172,11 @@ module _ {s : List ℕ} (some : 0 < length s) (byte : get_or s 0 0 < 256) (short
   short_headed =
       let a = short_none (get_or s 0 0 % 32) short in
       let k = get_or s 0 0 % 32 in
-      let he : HeadEnd s 0 1 = let q : 0 + 1 + argument_size (get_or s 0 0 % 32) ≡ 1 = omega arith in rw q at (ends_plain {s = s} {at = 0} byte (omega arith) (λ m. short) (omega arith)) in
+      let he : HeadEnd s 0 (Some 1) = let q : 0 + 1 + argument_size (get_or s 0 0 % 32) ≡ 1 = omega arith in rw q at (ends_plain {s = s} {at = 0} byte (omega arith) (λ m. short) (omega arith)) in
       let w : Widened k k = record { is = refl; byte = omega arith } in
-      one_headed he (omega arith) (argument-low s 0 {t = true} (record { is = λ e. short; byte = byte }) refl w)
+      one_headed he refl (argument-low s 0 {t = true} (record { is = λ e. short; byte = byte }) refl w)
 
-short_mode : (i : ℕ) → i < 24 → 0 ≡ mode_by i
+short_mode : (i : ℕ) → i < 24 → Counted ≡ mode_by i
 unfolding mode_by
 short_mode i h = sym (rw (ne_eqb i 31 (λ e. omega arith), mode_by))
 
@@ -184,7 +187,7 @@ plain_tag n left h (ok x r) = rw (lt-leb 64 n (omega arith))
 plain_tag n left h (refuse k l) = refl
 
 opened-by : (d : ℕ) (s : List ℕ) {n : ℕ} → 0 < length s → get_or s 0 0 < 256 → get_or s 0 0 % 32 < 24 → (d ≡ 0 → ⊥) → Opening (get_or s 0 0) n
-    → told_of (length s) (all_of 4 (suc (d - 1)) (until_by 0 n) (drop 1 s)) ≡ told_of (length s) (one_of 4 (suc d) s)
+    → told_of (length s) (all_of 4 (suc (d - 1)) (until_by Counted n) (drop 1 s)) ≡ told_of (length s) (one_of 4 (suc d) s)
 unfolding until_by tag_of
 opened-by d s {n} some byte short p (of_array z e) =
     one-item (length s) d s (inside {s = s} (short_headed {s = s} some byte short) d (omega arith) (omega arith) p (omega arith)
@@ -194,7 +197,7 @@ opened-by d s {n} some byte short p (of_map z e) =
     (ap (λ (k : ℕ). told_of (length s) (all_of 4 (suc (d - 1)) (counted k) (drop 1 s))) e ∙ ap (told_of (length s)) (all_double (suc (d - 1)) (get_or s 0 0 % 32) (drop 1 s))))
 opened-by d s {n} some byte short p (of_tag z e) =
     one-item (length s) d s (behind-tag {s = s} (short_headed {s = s} some byte short) d (omega arith) (omega arith) p z
-    (ap (λ (k : ℕ). told_of (length s) (all_of 4 (suc (d - 1)) (until_by 0 k) (drop 1 s))) e ∙ ap (told_of (length s)) (only_one (d - 1) (drop 1 s) ∙ plain_tag (get_or s 0 0 % 32) (length s) short (item (d - 1) (drop 1 s)))))
+    (ap (λ (k : ℕ). told_of (length s) (all_of 4 (suc (d - 1)) (until_by Counted k) (drop 1 s))) e ∙ ap (told_of (length s)) (only_one (d - 1) (drop 1 s) ∙ plain_tag (get_or s 0 0 % 32) (length s) short (item (d - 1) (drop 1 s)))))
 
 pub opens_not : {s : List ℕ} {levels n : ℕ} → n ≡ 0xff → Opens s levels n
 opens_not e = record { level = λ h. absurd (omega arith); inside = λ h. absurd (omega arith); is = λ h. absurd (omega arith) }
@@ -214,34 +217,34 @@ pub ruleset opens_ways = (opens_not, opens-made)
 -- ITEMS WITH PARTS
 
 module _ {s : List ℕ} (long : length s * 1 < 2 ^ 63) {levels : ℕ} where
-  pub part-opened : {n r x : ℕ} → Opens s levels n → n < 0xff → Quick (told_of (length (take (length s - 1) (drop 1 s))) (all_of 4 (suc (levels - 1)) (until_by 0 n) (take (length s - 1) (drop 1 s)))) r → Shifted 1 r x
+  pub part-opened : {n r x : ℕ} → Opens s levels n → n < 0xff → Quick (told_of (length (take (length s - 1) (drop 1 s))) (all_of 4 (suc (levels - 1)) (until_by Counted n) (take (length s - 1) (drop 1 s)))) r → Shifted 1 r x
       → Quick (told_of (length s) (one_of 4 (suc levels) s)) x
   unfolding pass_told
   part-opened {n} {r} {x} o h q sh =
-      record { is = λ k. all_told 4 (suc (levels - 1)) (until_by 0 n) {s = s} {from = 1} (span r) (span x) (record { inside = omega (arith, o.inside h) }) long (q.is (sh.known k)) (shifted sh k) ∙ o.is h }
+      record { is = λ k. all_told 4 (suc (levels - 1)) (until_by Counted n) {s = s} {from = 1} (span r) (span x) (record { inside = omega (arith, o.inside h) }) long (q.is (sh.known k)) (shifted sh k) ∙ o.is h }
 
-  module _ {end : ℕ} (he : HeadEnd s 0 end) (nz : end ≡ 0 → ⊥) {n : ℕ} (en : n ≡ argument_at s 0) (dp : Deeper s levels) {r x : ℕ} (sh : Shifted end r x) where
-    pub list_array : {mode : ℕ} → mode ≡ mode_by (get_or s 0 0 % 32) → get_or s 0 0 / 32 ≡ 4
+  module _ {end : ℕ} {o : std.Option ℕ} (he : HeadEnd s 0 o) (is : o ≡ Some end) {n : ℕ} (en : n ≡ argument_at s 0) (dp : Deeper s levels) {r x : ℕ} (sh : Shifted end r x) where
+    pub list_array : {mode : Mode} → mode ≡ mode_by (get_or s 0 0 % 32) → get_or s 0 0 / 32 ≡ 4
         → Quick (told_of (length (take (length s - end) (drop end s))) (all_of 4 (suc (levels - 1)) (until_by mode n) (take (length s - end) (drop end s)))) r → Quick (told_of (length s) (one_of 4 (suc levels) s)) x
     unfolding pass_told
     list_array m z q =
-        record { is = λ k. one-item (length s) levels s (behind-array (one_headed he nz en) levels (span r) (span x) long (shifted sh k) (omega (arith, dp.level)) z m (q.is (sh.known k))) }
+        record { is = λ k. one-item (length s) levels s (behind-array (one_headed he is en) levels (span r) (span x) long (shifted sh k) (omega (arith, dp.level)) z m (q.is (sh.known k))) }
 
-    pub list_map : {mode : ℕ} → mode ≡ mode_by (get_or s 0 0 % 32) → get_or s 0 0 / 32 ≡ 5 → mode ≡ 0
-        → Quick (told_of (length (take (length s - end) (drop end s))) (all_of 4 (suc (levels - 1)) (until_by 0 (n * 2)) (take (length s - end) (drop end s)))) r → Quick (told_of (length s) (one_of 4 (suc levels) s)) x
+    pub list_map : {mode : Mode} → mode ≡ mode_by (get_or s 0 0 % 32) → get_or s 0 0 / 32 ≡ 5 → mode ≡ Counted
+        → Quick (told_of (length (take (length s - end) (drop end s))) (all_of 4 (suc (levels - 1)) (until_by Counted (n * 2)) (take (length s - end) (drop end s)))) r → Quick (told_of (length s) (one_of 4 (suc levels) s)) x
     unfolding pass_told
     list_map {mode} m z o q =
-        let hd = one_headed he nz en in
+        let hd = one_headed he is en in
         record {
           is = λ k. one-item (length s) levels s (behind-map hd levels (omega arith) (omega arith) (omega (arith, dp.level)) (omega arith) (omega arith) m
               (map_twice (levels - 1) (head-room hd) (span r) long (span x) (shifted sh k) mode n o (q.is (sh.known k))));
         }
 
-    pub tag-made : get_or s 0 0 / 32 ≡ 6 → Quick (told_of (length (take (length s - end) (drop end s))) (all_of 4 (suc (levels - 1)) (until_by 0 1) (take (length s - end) (drop end s)))) r
+    pub tag-made : get_or s 0 0 / 32 ≡ 6 → Quick (told_of (length (take (length s - end) (drop end s))) (all_of 4 (suc (levels - 1)) (until_by Counted 1) (take (length s - end) (drop end s)))) r
         → {m : ℕ} → m ≡ major_number (major_of (get_or s end 0 / 32)) → {y : ℕ} → y ≡ x / 4294967296 → {v : Bool} → v ≡ may_tag_by n (eqb m 2) y → v ≡ true → Quick (told_of (length s) (one_of 4 (suc levels) s)) x
     unfolding pass_told
     tag-made z q mj {y} ey {v} may ye =
-        let hd = one_headed he nz en in
+        let hd = one_headed he is en in
         record {
           is = λ k. one-item (length s) levels s (behind-tag hd levels (omega arith) (omega arith) (omega (arith, dp.level)) z
               (tag-good n (levels - 1) (head-room hd) (span r) long (q.is (sh.known k)) (span x) (shifted sh k) refl mj (may ∙ ap (may_tag_by n _) ey) ye refl));
@@ -258,7 +261,7 @@ pub ruleset part_ways = (quick_not, part-opened)
 
 -- ITEMS, ONE BEHIND THE OTHER
 
-module _ {d : ℕ} {s : List ℕ} {first : Until} {at size : ℕ} (mode n : ℕ) (run : Run 4 (suc d) s first at size (until_by mode n)) where
+module _ {d : ℕ} {s : List ℕ} {first : Until} {at size : ℕ} (mode : Mode) (n : ℕ) (run : Run 4 (suc d) s first at size (until_by mode n)) where
   module _ {r : ℕ} (q : Quick (told_of (length (take (length s - at) (drop at s))) (one_of 4 (suc d) (take (length s - at) (drop at s)))) r) (k : r ≡ 0xffffffffffffffff → ⊥) where
     step-told : Told 1 (take (length s - at) (drop at s)) (r % 4294967296) (r / 4294967296)
     step-told = let t = take (length s - at) (drop at s) in told_of_lem 1 t (r % 4294967296) (r / 4294967296) (one_of 4 (suc d) t) (one-leaves 4 (suc d) t) (q.is k)
@@ -280,7 +283,7 @@ module _ {d : ℕ} {s : List ℕ} {first : Until} {at size : ℕ} (mode n : ℕ)
     step-on tu y long {e} {z} {m} a b c =
         let p : at + e ≡ min (at + r % 4294967296) (2 ^ 64 - 1) = omega (arith, step_add a long) in
         let o : size + z ≡ min (size + r / 4294967296) (2 ^ 64 - 1) = omega (arith, step-size b long) in
-        run_on run tu y (span r) long (q.is k) (SpanV (record { end = at + e; size = size + z })) (λ j. passed (p j) (o j)) refl c
+        run_on run tu y (span r) long (q.is k) (Ok (record { end = at + e; size = size + z })) (λ j. passed (p j) (o j)) refl c
 
   module _ {t : Bool} (tu : Turned s at mode n t) (y : not t ≡ false) (long : length s * 1 < 2 ^ 63) {end : ℕ} (c : end ≡ capped at (behind_by mode)) (sm : Small s) where
     pub over_halves : Halves end size

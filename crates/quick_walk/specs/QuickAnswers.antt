@@ -4,6 +4,7 @@ use Rattle.std.specs.Prelude.{ℕ, suc, ◌+◌, ◌-◌, ◌/◌, ◌%◌, ◌<
 use Rattle.memory.specs.Sums.{capped}
 use Rattle.quick_head.specs.QuickHeads.{Small}
 use Rattle.walk_answer.specs.WalkAnswers.{PassTold, passed, told_of, one_of, all_of, until_by}
+use Rattle.walk_answer.specs.declared.Mode.TheVariants.{Counted}
 
 -- r is what is told, if it is known
 pub record Quick (t : PassTold) (r : ℕ) : Type 0 where
@@ -32,4 +33,4 @@ pub record Shifted (end r x : ℕ) : Type 0 where
 pub record Opens (s : List ℕ) (levels n : ℕ) : Type 0 where
   pub level : n < 0xff → 0 < levels
   pub inside : n < 0xff → 0 < length s
-  pub is : n < 0xff → told_of (length s) (all_of 4 (suc (levels - 1)) (until_by 0 n) (drop 1 s)) ≡ told_of (length s) (one_of 4 (suc levels) s)
+  pub is : n < 0xff → told_of (length s) (all_of 4 (suc (levels - 1)) (until_by Counted n) (drop 1 s)) ≡ told_of (length s) (one_of 4 (suc levels) s)

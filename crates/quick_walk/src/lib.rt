@@ -10,8 +10,8 @@ ghost use Rattle.quick_head.specs.QuickHeads.{Small, Lengthy};
 use head::initial::{ARRAY, BYTE_STRING, IN_ONE_BYTE, INDEFINITE_LENGTH, MAP, TAG, TEXT_STRING};
 use head::{head_argument, head_end};
 use quick_head::{ARRAYS, NO_HEAD, NO_LENGTH, TWO_END, inner, two_bytes};
-use quick_leaf::{if_below, is_right, leaf_at, leaf_content, smaller};
-use walk_answer::{COUNTED, Passed, is_over, less, mode_of, past};
+use quick_leaf::{if_below, is_right, leaf_at, leaf_content};
+use walk_answer::{MOST_ENTRIES, Mode, is_over, less, mode_of, past};
 use walk_parts::{is_text, major_at};
 use whole_walk::one;
 
@@ -20,9 +20,6 @@ pub const UNKNOWN: u64 = 0xffff_ffff_ffff_ffff;
 
 // Ends and sizes are below this, so that both are in one number.
 const HALF: u64 = 0x1_0000_0000;
-
-// As many entries at most, and they can be counted as items.
-const MOST_ENTRIES: u64 = 0xffff_ffff;
 
 // The first initial byte of simple values; the last of integers.
 const SIMPLES: u8 = 0xe0;
@@ -85,7 +82,7 @@ fn may_be_leaf(bytes: &[u8], at: usize) -> bool {
     if ARRAYS <= initial {
         return SIMPLES <= initial;
     }
-    smaller(initial % 32, if_below(LAST_INTEGER, initial)) < IN_ONE_BYTE
+    (initial % 32).min(if_below(LAST_INTEGER, initial)) < IN_ONE_BYTE
 }
 
 // The item at the front, by the whole way.
@@ -93,10 +90,9 @@ fn whole(bytes: &[u8], levels: usize) -> u64
     requires { Small bytes.now }
     ensures { Quick (told_of (length bytes.now) (one_of 4 (suc levels) bytes.now)) result }
 {
-    let span = one(bytes, levels);
-    match span {
-        Passed::Refused(_e) => UNKNOWN,
-        Passed::Span(m) => pack(m.end, m.size),
+    match one(bytes, levels) {
+        Err(_) => UNKNOWN,
+        Ok(m) => pack(m.end, m.size),
     }
 }
 
@@ -124,10 +120,9 @@ fn plain(bytes: &[u8], levels: usize) -> u64
     if two < NO_LENGTH {
         return string(bytes, TWO_END, two, levels);
     }
-    let end = head_end(bytes, 0);
-    if end == 0 {
+    let Some(end) = head_end(bytes, 0) else {
         return UNKNOWN;
-    }
+    };
     let initial = bytes[0];
     let major = initial / 32;
     if major < BYTE_STRING {
@@ -146,7 +141,7 @@ fn plain(bytes: &[u8], levels: usize) -> u64
 
 // Items, one behind the other.
 #[cycle(list_part_run_tag)]
-fn run(bytes: &[u8], mode: u8, count: u64, levels: usize) -> u64
+fn run(bytes: &[u8], mode: Mode, count: u64, levels: usize) -> u64
     requires { Small bytes.now }
     ensures { Quick (told_of (length bytes.now) (all_of 4 (suc levels) (until_by mode count) bytes.now)) result }
 {
@@ -189,7 +184,7 @@ fn part(bytes: &[u8], levels: usize) -> u64
     }
     let n = opened(bytes, levels);
     if n < NO_HEAD {
-        return shift(1, run(&bytes[1..], COUNTED, n as u64, levels - 1));
+        return shift(1, run(&bytes[1..], Mode::Counted, n as u64, levels - 1));
     }
     if major <= MAP {
         return list(bytes, levels);
@@ -203,10 +198,9 @@ fn list(bytes: &[u8], levels: usize) -> u64
     requires { Deeper bytes.now levels }
     ensures { Quick (told_of (length bytes.now) (one_of 4 (suc levels) bytes.now)) result }
 {
-    let end = head_end(bytes, 0);
-    if end == 0 {
+    let Some(end) = head_end(bytes, 0) else {
         return UNKNOWN;
-    }
+    };
     let major = bytes[0] / 32;
     let mode = mode_of(bytes[0] % 32);
     let n = head_argument(bytes, 0);
@@ -216,13 +210,15 @@ fn list(bytes: &[u8], levels: usize) -> u64
     if major != MAP {
         return UNKNOWN;
     }
-    if mode != COUNTED {
-        return whole(bytes, levels);
+    match mode {
+        Mode::Counted => {
+            if MOST_ENTRIES < n {
+                return UNKNOWN;
+            }
+            shift(end, run(&bytes[end..], Mode::Counted, n * 2, levels - 1))
+        }
+        _ => whole(bytes, levels),
     }
-    if MOST_ENTRIES < n {
-        return UNKNOWN;
-    }
-    shift(end, run(&bytes[end..], COUNTED, n * 2, levels - 1))
 }
 
 // A tag at the front.
@@ -231,15 +227,14 @@ fn tag(bytes: &[u8], levels: usize) -> u64
     requires { Deeper bytes.now levels }
     ensures { Quick (told_of (length bytes.now) (one_of 4 (suc levels) bytes.now)) result }
 {
-    let end = head_end(bytes, 0);
-    if end == 0 {
+    let Some(end) = head_end(bytes, 0) else {
         return UNKNOWN;
-    }
+    };
     if bytes[0] / 32 != TAG {
         return whole(bytes, levels);
     }
     let n = head_argument(bytes, 0);
-    let r = shift(end, run(&bytes[end..], COUNTED, 1, levels - 1));
+    let r = shift(end, run(&bytes[end..], Mode::Counted, 1, levels - 1));
     if r == UNKNOWN {
         return UNKNOWN;
     }
@@ -255,7 +250,7 @@ fn tag(bytes: &[u8], levels: usize) -> u64
 const MOST_BYTES: usize = 0xffff_fffe;
 
 // Items, one behind the other, in bytes of any length.
-pub fn passed(bytes: &[u8], mode: u8, count: u64, levels: usize) -> u64
+pub fn passed(bytes: &[u8], mode: Mode, count: u64, levels: usize) -> u64
     ensures { Quick (told_of (length bytes.now) (all_of 4 (suc levels) (until_by mode count) bytes.now)) result }
 {
     if MOST_BYTES < bytes.len() {

@@ -1,13 +1,13 @@
 -- Quoted strings: pieces, which are an escape or a run of bytes that stand for themselves, and the loop over them.
 -- Assumes nothing.
-use mathlib.Core.Path.{◌≡◌, refl, sym, ap, ◌∙◌, subst⁻¹}
+use mathlib.Core.Path.{◌≡◌, refl, sym, ap, ◌∙◌}
 use mathlib.Core.List.{List, [], ◌∷◌, ◌++◌, append-nil}
-use mathlib.Core.Bool.{Bool, true, false, not}
+use mathlib.Core.Bool.{Bool, true, false}
 use Prim.Native.Nat.{ℕ, zero, suc, ◌+◌, ◌-◌, ◌≤◌, ◌<◌}
 use native.Mathlib.Omega.{arith}
 use lib.Dec.{eqb}
 use lib.ListN.{length, take, drop, get_or, length-append, length-drop}
-use borrow.Author.Tests.{le-leb, lt-leb, eq-eqb, ne_eqb, eqb-true, eqb-false, not-true, not-false}
+use borrow.Author.Tests.{le-leb, lt-leb, eq-eqb, ne_eqb, eqb-true, eqb-false}
 use Rattle.cbor.specs.Refusals.{Result, ok, bind, no_token}
 use Rattle.memory.specs.Buffer.{over, copied}
 use Rattle.memory.proofs.Lists.{front}
@@ -20,12 +20,13 @@ use Rattle.scanning.specs.TextRuns.{Textual, TextRun}
 use Rattle.scanning.proofs.Marked.{tail_is}
 use Rattle.scanning.proofs.ScanCode.{peeked_yes}
 use Rattle.literal_body.specs.LiteralAnswers.{scanned_by, Scans, Put, Quotes}
-use Rattle.literal_body.specs.declared.LiteralScan.{LiteralScan}
 use Rattle.escapes.specs.EscapeAnswers.{onward, EscapesUnquoted}
-use Rattle.quoted.specs.QuotedAnswers.{Part, AtPiece, AtPlain, Pieced}
+use Rattle.quoted.specs.QuotedAnswers.{Part, AtPiece, AtPlain, PieceGiven, Pieced}
 use Rattle.escapes.specs.declared.ReadEscape.{ReadEscape}
 use Rattle.quoted.specs.declared.ReadPiece.{ReadPiece}
-use Rattle.literal_body.proofs.LiteralCode.{true_false, pre_pre, ok-content, put-none, put-more}
+use Rattle.std.specs.Prelude.{None, Some}
+use Rattle.std.proofs.lemmas.Option.{none-some, same_Some}
+use Rattle.literal_body.proofs.LiteralCode.{pre_pre, ok-content, put-none, put-more}
 use Rattle.escapes.proofs.EscapeCode.{unquote-next, unquote-by, unquote-end, onward-on}
 
 -- WRITING A PART
@@ -85,23 +86,19 @@ unquote-run s q i (suc n) l f =
     ∙ (ap (λ (k : ℕ). onward q (gives (b ∷ take n (drop (i + 1) s)) character) (drop k (marked s))) z
     ∙ ap (λ (y : List ℕ). onward q (gives (take (suc n) y) character) (drop (i + suc n) (marked s))) (sym (front s i h)))))
 
-pub plain_pieced : {s b b' : List ℕ} {q at next p pos : ℕ} → AtPlain s q at → TextRun s q 0x5c (at + 1) next → Put b b' p pos (take (next - at) (drop at s)) → Pieced s q at b b' p (record { good = true; next = next; size = next - at; pos = pos })
+pub plain_pieced : {s b b' : List ℕ} {q at next p pos : ℕ} → AtPlain s q at → TextRun s q 0x5c (at + 1) next → Put b b' p pos (take (next - at) (drop at s)) → PieceGiven s q at b b' p (record { next = next; size = next - at; pos = pos })
 plain_pieced {s} {b} {b'} {q} {at} {next} {p} {pos} x r w =
     let a = r.ahead in
     let i = r.inside in
     let z : at + (next - at) ≡ next = omega arith in
     record {
-      good = λ g. record {
-        given = take (next - at) (drop at s);
-        is = rw z at (unquote-run s q at (next - at) (omega arith) all);
-        put = w;
-        size = sym (length_part s at (next - at) (omega arith));
-        short = omega arith;
-        ahead = omega arith;
-        inside = i;
-      };
-      bad = λ g. absurd (true_false g);
-      same = w.same;
+      given = take (next - at) (drop at s);
+      is = rw z at (unquote-run s q at (next - at) (omega arith) all);
+      put = w;
+      size = sym (length_part s at (next - at) (omega arith));
+      short = omega arith;
+      ahead = omega arith;
+      inside = i;
     }
   where
     all : (j : ℕ) → at ≤ j → j < at + (next - at) → Textual q 0x5c (get_or s j 0)
@@ -113,9 +110,11 @@ plain_pieced {s} {b} {b'} {q} {at} {next} {p} {pos} x r w =
 
 -- AN ESCAPE
 
-no_piece : {s b : List ℕ} {q at p : ℕ} {r : ReadPiece} → r ≡ record { good = false; next = 0; size = 0; pos = 0 } → unquote q character (drop at (marked s)) ≡ fault no_token → Pieced s q at b b p r
-no_piece {s} {b} {q} {at} {p} u e =
-    subst⁻¹ (Pieced s q at b b p) u (record { good = λ g. absurd (true_false (sym g)); bad = λ g. e; same = refl })
+no_piece : {s b : List ℕ} {q at p : ℕ} → unquote q character (drop at (marked s)) ≡ fault no_token → Pieced s q at b b p None
+no_piece e = record { good = λ x u. absurd (none-some x u); bad = λ u. e; same = refl }
+
+pub a_piece : {s b b' : List ℕ} {q at p : ℕ} {x : ReadPiece} → PieceGiven s q at b b' p x → Pieced s q at b b' p (Some x)
+a_piece {x = x} g = record { good = λ y u. rw (← same_Some x y u) g; bad = λ u. absurd (none-some x (sym u)); same = g.put.same }
 
 module _ {s : List ℕ} {q at : ℕ} (x : AtPiece s q at 0x5c) where
   escape-starts : unquote q character (drop at (marked s)) ≡ unquote q (escape no_surrogate) (drop (at + 1) (marked s))
@@ -125,47 +124,42 @@ module _ {s : List ℕ} {q at : ℕ} (x : AtPiece s q at 0x5c) where
       ∙ onward-on q (escape no_surrogate) (drop (at + 1) (marked s))
 
   module _ {t : Bool} (y : Peeked s (at + 1) q t) where
-    pub quote_pieced : {b b' : List ℕ} {p pos : ℕ} → t ≡ true → Put b b' p pos (q ∷ []) → Pieced s q at b b' p (record { good = true; next = at + 2; size = 1; pos = pos })
+    pub quote_pieced : {b b' : List ℕ} {p pos : ℕ} → t ≡ true → Put b b' p pos (q ∷ []) → Pieced s q at b b' p (Some (record { next = at + 2; size = 1; pos = pos }))
     unfolding move_at
     quote_pieced e w =
         let z : at + 1 + 1 ≡ at + 2 = omega arith in
         let d : drop (at + 1) (marked s) ≡ q ∷ drop (at + 2) (marked s) = rw z at (peeked_yes y e) in
-        record {
-          good = λ g. record {
-            given = q ∷ [];
-            is = escape-starts
-                ∙ (ap (unquote q (escape no_surrogate)) d
-                ∙ (unquote-next q (escape no_surrogate) q (drop (at + 2) (marked s)) ∙ ap (λ (m : Move). onward q m (drop (at + 2) (marked s))) (rw (eq-eqb q q refl, move_at))));
+        a_piece
+        (record {
+          given = q ∷ [];
+          is = escape-starts
+              ∙ (ap (unquote q (escape no_surrogate)) d
+              ∙ (unquote-next q (escape no_surrogate) q (drop (at + 2) (marked s)) ∙ ap (λ (m : Move). onward q m (drop (at + 2) (marked s))) (rw (eq-eqb q q refl, move_at))));
+          put = w;
+          size = refl;
+          short = omega arith;
+          ahead = omega arith;
+          inside = omega (arith, y.inside e);
+        })
+
+    module _ (f : t ≡ false) (l : q < 256) where
+      pub escape_not_pieced : {b : List ℕ} {p : ℕ} → EscapesUnquoted s (at + 1) None → Pieced s q at b b p None
+      escape_not_pieced v = no_piece (escape-starts ∙ (v.reads q l (sym y.is ∙ f)).bad refl)
+
+      pub escape_pieced : {b b' : List ℕ} {p pos n : ℕ} {e : ReadEscape} → EscapesUnquoted s (at + 1) (Some e) → Put b b' p pos (utf8_of e.point) → n ≡ length (utf8_of e.point)
+          → Pieced s q at b b' p (Some (record { next = e.next; size = n; pos = pos }))
+      escape_pieced {e = e} v w z =
+          let o = v.place e refl in
+          a_piece
+          (record {
+            given = utf8_of e.point;
+            is = escape-starts ∙ (v.reads q l (sym y.is ∙ f)).good e refl;
             put = w;
-            size = refl;
-            short = omega arith;
-            ahead = omega arith;
-            inside = omega (arith, y.inside e);
-          };
-          bad = λ g. absurd (true_false g);
-          same = w.same;
-        }
-
-    module _ {e : ReadEscape} (f : t ≡ false) (v : EscapesUnquoted s (at + 1) e) (l : q < 256) where
-      pub escape_not_pieced : {b : List ℕ} {p : ℕ} {r : ReadPiece} → not e.good ≡ true → r ≡ record { good = false; next = 0; size = 0; pos = 0 } → Pieced s q at b b p r
-      escape_not_pieced g u = no_piece u (escape-starts ∙ (v.reads q l (sym y.is ∙ f)).bad (not-true e.good g))
-
-      pub escape_pieced : {b b' : List ℕ} {p pos n : ℕ} → not e.good ≡ false → Put b b' p pos (utf8_of e.point) → n ≡ length (utf8_of e.point) → Pieced s q at b b' p (record { good = true; next = e.next; size = n; pos = pos })
-      escape_pieced g w z =
-          let t = not-false e.good g in
-          record {
-            good = λ _. record {
-              given = utf8_of e.point;
-              is = escape-starts ∙ (v.reads q l (sym y.is ∙ f)).good t;
-              put = w;
-              size = z;
-              short = omega (arith, v.place.short t);
-              ahead = omega (arith, v.place.short t);
-              inside = v.place.inside t;
-            };
-            bad = λ g. absurd (true_false g);
-            same = w.same;
-          }
+            size = z;
+            short = omega (arith, o.short);
+            ahead = omega (arith, o.short);
+            inside = o.inside;
+          })
 
 pub ruleset escape_piece_ways = (quote_pieced, escape_not_pieced, escape_pieced)
 
@@ -176,10 +170,10 @@ module _ {s : List ℕ} {q at b : ℕ} (x : AtPiece s q at b) where
   piece_backslash e = rw (← e) x
 
   module _ (n : b ≡ 0x5c → ⊥) where
-    pub piece_control : {o : List ℕ} {p : ℕ} {r : ReadPiece} → b < 0x20 → r ≡ record { good = false; next = 0; size = 0; pos = 0 } → Pieced s q at o o p r
+    pub piece_control : {o : List ℕ} {p : ℕ} → b < 0x20 → Pieced s q at o o p None
     unfolding move_at onward
-    piece_control h u =
-        no_piece u (unquote-by q character {m = wrong} s at x.here (rw x.is (simp (move_at, ne_eqb b q x.other, ne_eqb b 0x5c n, lt-leb 0x20 b h))))
+    piece_control h =
+        no_piece (unquote-by q character {m = wrong} s at x.here (rw x.is (simp (move_at, ne_eqb b q x.other, ne_eqb b 0x5c n, lt-leb 0x20 b h))))
 
     pub piece_plain : 0x20 ≤ b → b < 256 → AtPlain s q at
     piece_plain h l = record { here = x.here; is = rw x.is (record { low = h; high = l; first = x.other; second = n }) }
@@ -200,9 +194,9 @@ pub read-start : {s b : List ℕ} {at q pos : ℕ} → q < 256 → QuoteRead s b
 read-start {s} {b} {at} {q} {pos} h =
     record { done = []; quote = h; from = omega arith; left = sym (onward-on q character (drop at (marked s))); wrote = put-none b pos; sized = refl; short = omega arith; same = refl }
 
-scans-no : {s : List ℕ} {at : ℕ} {r : LiteralScan} {res : Result (List ℕ)} → r ≡ record { good = false; next = at; size = 0 } → res ≡ fault no_token → Scans s at r res
+scans-no : {s : List ℕ} {at : ℕ} {res : Result (List ℕ)} → res ≡ fault no_token → Scans s at None res
 unfolding scanned_by
-scans-no {s} {at} {r} {res} u e = subst⁻¹ (λ (x : LiteralScan). Scans s at x res) u (rw e (record { by = refl }))
+scans-no e = rw e (record { by = tt })
 
 quotes_no : {b b' : List ℕ} {pos : ℕ} {res : Result (List ℕ)} → length b' ≡ length b → res ≡ fault no_token → Quotes b b' pos res
 quotes_no z f = record { same = z; is = λ c rest e. let w : ◌≡◌ {A = ℕ} 0 1 = cc in absurd (omega arith) }
@@ -217,11 +211,11 @@ module _ {s b b' : List ℕ} {at q pos i p size : ℕ} (inv : QuoteRead s b at q
         ∙ (ap (λ (y : Result (List ℕ)). bind y (λ c r. ok (inv.done ++ c) r)) (unquote-by q character {m = closed} s i l (rw (eq-eqb (get_or s i 0) q e, move_at)))
         ∙ ap (λ (y : List ℕ). ok y (drop (i + 1) (marked s))) (append-nil inv.done))
 
-    pub read-closed : Scans s at (record { good = true; next = i + 1; size = size }) (unquote q character (drop at (marked s)))
+    pub read-closed : Scans s at (Some (record { next = i + 1; size = size })) (unquote q character (drop at (marked s)))
     unfolding scanned_by
     read-closed =
         rw closed_is
-        (record { by = record { good = refl; size = inv.sized; left = refl; inside = omega arith; ahead = omega (arith, inv.from); short = omega (arith, inv.short) } })
+        (record { by = record { size = inv.sized; left = refl; inside = omega arith; ahead = omega (arith, inv.from); short = omega (arith, inv.short) } })
 
     pub quotes_closed : Quotes b b' pos (unquote q character (drop at (marked s)))
     quotes_closed =
@@ -234,21 +228,22 @@ module _ {s b b' : List ℕ} {at q pos i p size : ℕ} (inv : QuoteRead s b at q
         }
 
   -- a piece
-  module _ {m : ReadPiece} {b'' : List ℕ} (x : Pieced s q i b' b'' p m) where
-    wrong-is : not m.good ≡ true → unquote q character (drop at (marked s)) ≡ fault no_token
+  module _ {b'' : List ℕ} (x : Pieced s q i b' b'' p None) where
+    wrong-is : unquote q character (drop at (marked s)) ≡ fault no_token
     unfolding onward bind
-    wrong-is f = inv.left ∙ ap (λ (y : Result (List ℕ)). bind y (λ c r. ok (inv.done ++ c) r)) (x.bad (not-true m.good f))
+    wrong-is = inv.left ∙ ap (λ (y : Result (List ℕ)). bind y (λ c r. ok (inv.done ++ c) r)) (x.bad refl)
 
-    pub read-wrong : {r : LiteralScan} → not m.good ≡ true → r ≡ record { good = false; next = at; size = 0 } → Scans s at r (unquote q character (drop at (marked s)))
-    read-wrong f u = scans-no u (wrong-is f)
+    pub read-wrong : Scans s at None (unquote q character (drop at (marked s)))
+    read-wrong = scans-no wrong-is
 
-    pub quotes_wrong : not m.good ≡ true → Quotes b b'' pos (unquote q character (drop at (marked s)))
-    quotes_wrong f = quotes_no (x.same ∙ inv.same) (wrong-is f)
+    pub quotes_wrong : Quotes b b'' pos (unquote q character (drop at (marked s)))
+    quotes_wrong = quotes_no (x.same ∙ inv.same) wrong-is
 
-    pub read-on : not m.good ≡ false → QuoteRead s b at q pos m.next m.pos (size + m.size) b''
+  module _ {m : ReadPiece} {b'' : List ℕ} (x : Pieced s q i b' b'' p (Some m)) where
+    pub read-on : QuoteRead s b at q pos m.next m.pos (size + m.size) b''
     unfolding onward
-    read-on f =
-        let g = x.good (not-false m.good f) in
+    read-on =
+        let g = x.good m refl in
         let w = put-more inv.wrote g.put in
         record {
           done = inv.done ++ g.given;
@@ -270,8 +265,8 @@ module _ {s b b' : List ℕ} {at q pos i p size : ℕ} (inv : QuoteRead s b at q
         let n : 256 ≡ q → ⊥ = omega (arith, inv.quote) in
         inv.left ∙ ap (λ (y : Result (List ℕ)). bind y (λ c r. ok (inv.done ++ c) r)) (unquote-end q character s i l (rw (ne_eqb 256 q n, move_at)))
 
-    pub read-end : {r : LiteralScan} → r ≡ record { good = false; next = at; size = 0 } → Scans s at r (unquote q character (drop at (marked s)))
-    read-end u = scans-no u end_is
+    pub read-end : Scans s at None (unquote q character (drop at (marked s)))
+    read-end = scans-no end_is
 
     pub quotes_end : Quotes b b' pos (unquote q character (drop at (marked s)))
     quotes_end = quotes_no inv.same end_is

@@ -1,5 +1,5 @@
 -- Of the code: the pieces of quoted strings, which are an escape or a run of plain bytes. s is a text.
-use Rattle.std.specs.Prelude.{ℕ, ◌+◌, ◌≤◌, ◌<◌, ◌≡◌, List, true, false, length, drop, get_or}
+use Rattle.std.specs.Prelude.{ℕ, ◌+◌, ◌≤◌, ◌<◌, ◌≡◌, List, Option, None, Some, length, drop, get_or}
 use Rattle.cbor.specs.Refusals.{no_token}
 use Rattle.notation.specs.Scanning.{fault}
 use Rattle.notation.specs.Reading.{marked}
@@ -34,7 +34,7 @@ pub record PieceGiven (s : List ℕ) (q at : ℕ) (b b' : List ℕ) (p : ℕ) (r
   pub ahead : at < r.next
   pub inside : r.next ≤ length s
 
-pub record Pieced (s : List ℕ) (q at : ℕ) (b b' : List ℕ) (p : ℕ) (r : ReadPiece) : Type 0 where
-  pub good : r.good ≡ true → PieceGiven s q at b b' p r
-  pub bad : r.good ≡ false → unquote q character (drop at (marked s)) ≡ fault no_token
+pub record Pieced (s : List ℕ) (q at : ℕ) (b b' : List ℕ) (p : ℕ) (r : Option ReadPiece) : Type 0 where
+  pub good : (x : ReadPiece) → r ≡ Some x → PieceGiven s q at b b' p x
+  pub bad : r ≡ None → unquote q character (drop at (marked s)) ≡ fault no_token
   pub same : length b' ≡ length b

@@ -33,9 +33,7 @@ use Rattle.numbers.proofs.IndicatorCode.{choose-is}
 use Rattle.scanning.proofs.Marked.{length_marked}
 use Rattle.leaf_answer.specs.declared.LeafRead.{LeafRead}
 use Rattle.encoding.specs.ReadAnswers.{View, no_bytes, held_of, Tells, of_item, of_closed, of_pairs, of_tagged, follow_by, followed, behind_opener, tagged_read, indicator_for, info_by, HeadWritten, Room, Opened, Bracketed, Light, Heavy, Few, IsShort, Roomed, MovedOn, After, ReadTold, Finished, FinishedShort, Ended}
-use Rattle.encoding.specs.declared.answer.MadeItem.{MadeItem as MadeS}
-use Rattle.encoding.specs.declared.answer.ReadAnswer.{ReadAnswer}
-use Rattle.encoding.specs.declared.answer.ReadAnswer.TheVariants.{Made, Refused}
+use Rattle.encoding.specs.declared.answer.MadeItem.{MadeItem}
 use Rattle.encoding.proofs.ReadSmall.{head-short, head-some}
 use Rattle.encoding.proofs.ReadWriting.{info_width, width_some}
 use Rattle.encoding.proofs.Wrote.{wrote-more, wrote-front}
@@ -47,14 +45,16 @@ use Rattle.reader.specs.OneItem.{LevelAt, TagMade}
 use Rattle.closers.specs.declared.Closer.TheVariants.{Square, Curly, Round, Angle, Whole, Nothing}
 use Rattle.opening.specs.declared.Opener.TheVariants.{Array, Map, Tag, Embedded}
 use Rattle.opening.specs.declared.Opening.{Opening}
+use Rattle.std.specs.Prelude.{Ok, Err}
+use Rattle.std.specs.Prelude as std
 
 -- WHAT IS SEEN of what is read
-after-seen : {A : Type 0} (v : A → View) (s b b' : List ℕ) (most pos : ℕ) (a : ReadAnswer) (res : Result A) → After as_seen s b b' most pos a (seen v res) → After v s b b' most pos a res
+after-seen : {A : Type 0} (v : A → View) (s b b' : List ℕ) (most pos : ℕ) (a : std.Result MadeItem Refusal) (res : Result A) → After as_seen s b b' most pos a (seen v res) → After v s b b' most pos a res
 unfolding After seen bind as_seen
 after-seen v s b b' most pos a (ok x r) f = record { made = f.made; is = f.is; moved = f.moved }
 after-seen v s b b' most pos a (refuse k q) f = f
 
-pub told-seen : {A : Type 0} {s b b' : List ℕ} {most pos : ℕ} {a : ReadAnswer} (v : A → View) (res : Result A) → ReadTold as_seen s b b' most pos a (seen v res) → ReadTold v s b b' most pos a res
+pub told-seen : {A : Type 0} {s b b' : List ℕ} {most pos : ℕ} {a : std.Result MadeItem Refusal} (v : A → View) (res : Result A) → ReadTold as_seen s b b' most pos a (seen v res) → ReadTold v s b b' most pos a res
 told-seen v res h = record { after = after-seen v _ _ _ _ _ _ res h.after }
 
 fits_of : (i : Indicator) (n k : ℕ) → n ≡ k → n ≤ limit w8 → Chose n (choose i k)
@@ -79,8 +79,8 @@ module _ {A : Type 0} (rd : List ℕ → Result A) (v : A → View) (i : A → I
   abbrev Outer : ℕ → List ℕ → Result Item
   Outer p s = bind (rd s) (λ x r. obey reads (width_rule (choose (i x) (num x)) (make x)) p p r)
 
-  module _ {s b b' b'' : List ℕ} {at pos room place' n mark length' : ℕ} {binary : Bool} {m : MadeS} {a' : ReadAnswer} (a : ReadAnswer) (o : Opened s at pos place')
-      (told : ReadTold v s b b' (length (marked s) - at) (pos + room) a (rd (drop at (marked s)))) (g : a ≡ Made m)
+  module _ {s b b' b'' : List ℕ} {at pos room place' n mark length' : ℕ} {binary : Bool} {m : MadeItem} {a' : std.Result MadeItem Refusal} (a : std.Result MadeItem Refusal) (o : Opened s at pos place')
+      (told : ReadTold v s b b' (length (marked s) - at) (pos + room) a (rd (drop at (marked s)))) (g : a ≡ Ok m)
       (far : (w : Width) → n ≤ limit w → length (head major w n) < room → pos + room + m.size ≤ length b') where
     kept_by : (x : A) (r : List ℕ) (c : Chosen) → choose (i x) (num x) ≡ c → rd (drop at (marked s)) ≡ ok x r → MovedOn s b b' (length (marked s) - at) (pos + room) m (v x) r → n ≡ num x → n ≤ limit w8
         → choose_by mark n ≡ chosen_number c → ((w : Width) → Tells (held_of (make x w)) binary length') → Finished b' b'' pos room (major_number major) mark n m.next m.size place' binary length' a'
@@ -121,9 +121,9 @@ module _ {A : Type 0} (rd : List ℕ → Result A) (v : A → View) (i : A → I
         (ap (λ (k : ℕ). choose_by k n) h.2 ∙ ap (choose_by (indicator_number (i it.thing))) h.0 ∙ sym (choose-is (i it.thing) (num it.thing))) h.3 fin
 
 -- WITHOUT A LENGTH
-kept_open : {A : Type 0} {s b b' b'' : List ℕ} {at pos place' first : ℕ} {m : MadeS} {a' : ReadAnswer} (rd : List ℕ → Result A) (v : A → View) (make : A → Item)
-    → ((x : A) → encode (make x) ≡ first ∷ ((v x).bytes ++ 255 ∷ [])) → ((x : A) → Tells (held_of (make x)) false 0) → (a : ReadAnswer) → Opened s at pos place'
-    → ReadTold v s b b' (length (marked s) - at) (pos + 1) a (rd (drop at (marked s))) → a ≡ Made m → Ended b' b'' pos first m.next m.size false 0 a'
+kept_open : {A : Type 0} {s b b' b'' : List ℕ} {at pos place' first : ℕ} {m : MadeItem} {a' : std.Result MadeItem Refusal} (rd : List ℕ → Result A) (v : A → View) (make : A → Item)
+    → ((x : A) → encode (make x) ≡ first ∷ ((v x).bytes ++ 255 ∷ [])) → ((x : A) → Tells (held_of (make x)) false 0) → (a : std.Result MadeItem Refusal) → Opened s at pos place'
+    → ReadTold v s b b' (length (marked s) - at) (pos + 1) a (rd (drop at (marked s))) → a ≡ Ok m → Ended b' b'' pos first m.next m.size false 0 a'
     → ReadTold of_item s b b'' (length (marked s) - at + 1) pos a' (bind (rd (drop at (marked s))) (λ x r. ok (make x) r))
 unfolding of_item
 kept_open {s = s} {at = at} {pos = pos} {first = first} {m = m} rd v make law nl a o told g en =
@@ -156,7 +156,7 @@ unfolding indicator_for contains obey
 open_by mark n make p q r e = rw e
 
 -- the sizes
-module _ {A : Type 0} {v : A → View} {s b b' : List ℕ} {at here place' : ℕ} {m : MadeS} {res : Result A} (pos : ℕ) (a : ReadAnswer) (o : Opened s at pos place') (told : ReadTold v s b b' (length (marked s) - at) here a res) (g : a ≡ Made m) where
+module _ {A : Type 0} {v : A → View} {s b b' : List ℕ} {at here place' : ℕ} {m : MadeItem} {res : Result A} (pos : ℕ) (a : std.Result MadeItem Refusal) (o : Opened s at pos place') (told : ReadTold v s b b' (length (marked s) - at) here a res) (g : a ≡ Ok m) where
   pub kept_light : Light (pos + m.size)
   kept_light = record { fits = omega (arith, (got a told g).moved.short, o.room) }
 
@@ -164,7 +164,7 @@ module _ {A : Type 0} {v : A → View} {s b b' : List ℕ} {at here place' : ℕ
   kept-heavy major h = record { most = h; fits = omega (arith, (got a told g).moved.short, o.room) }
 
 -- ARRAYS
-module _ {s b b' : List ℕ} {at pos place' mark : ℕ} (d : ℕ) (a : ReadAnswer) (br : Bracketed s at pos place' mark) (several : ReadTold as_seen s b b' (length (marked s) - at) (pos + 1) a (several_read Square d (drop at (marked s)))) where
+module _ {s b b' : List ℕ} {at pos place' mark : ℕ} (d : ℕ) (a : std.Result MadeItem Refusal) (br : Bracketed s at pos place' mark) (several : ReadTold as_seen s b b' (length (marked s) - at) (pos + 1) a (several_read Square d (drop at (marked s)))) where
   told : ReadTold of_closed s b b' (length (marked s) - at) (pos + 1) a (reads (items square at_start d) (drop at (marked s)))
   unfolding several_read
   told = told-seen of_closed (reads (items square at_start d) (drop at (marked s))) several
@@ -174,10 +174,10 @@ module _ {s b b' : List ℕ} {at pos place' mark : ℕ} (d : ℕ) (a : ReadAnswe
   unfolding behind_opener inside obey
   array_eq = refl
 
-  pub array-refused : {b'' : List ℕ} {e : Refusal} → a ≡ Refused e → ReadTold of_item s b b'' (length (marked s) - at + 1) pos (Refused e) (behind_opener d (bracket (indicator_for mark)) (length (marked s) - place') (drop at (marked s)))
+  pub array-refused : {b'' : List ℕ} {e : Refusal} → a ≡ Err e → ReadTold of_item s b b'' (length (marked s) - at + 1) pos (Err e) (behind_opener d (bracket (indicator_for mark)) (length (marked s) - place') (drop at (marked s)))
   array-refused f = told-lost _ _ (lost a told f) array_eq
 
-  module _ {b'' : List ℕ} {m : MadeS} {a' : ReadAnswer} (g : a ≡ Made m) where
+  module _ {b'' : List ℕ} {m : MadeItem} {a' : std.Result MadeItem Refusal} (g : a ≡ Ok m) where
     pub array-done : (mark ≡ 1 → ⊥) → Finished b' b'' pos 1 4 mark m.count m.next m.size place' false 0 a'
         → ReadTold of_item s b b'' (length (marked s) - at + 1) pos a' (behind_opener d (bracket (indicator_for mark)) (length (marked s) - place') (drop at (marked s)))
     unfolding of_closed encode enclosed opening_head closing_break held_of Tells major_number
@@ -200,7 +200,7 @@ module _ {s b b' : List ℕ} {at pos place' mark : ℕ} (d : ℕ) (a : ReadAnswe
 pub ruleset array_ways = (array-refused, array-short, array-done, array_open)
 
 -- MAPS
-module _ {s b b' : List ℕ} {at pos place' mark : ℕ} (d : ℕ) (a : ReadAnswer) (br : Bracketed s at pos place' mark) (several : ReadTold as_seen s b b' (length (marked s) - at) (pos + 1) a (several_read Curly d (drop at (marked s)))) where
+module _ {s b b' : List ℕ} {at pos place' mark : ℕ} (d : ℕ) (a : std.Result MadeItem Refusal) (br : Bracketed s at pos place' mark) (several : ReadTold as_seen s b b' (length (marked s) - at) (pos + 1) a (several_read Curly d (drop at (marked s)))) where
   told₂ : ReadTold of_pairs s b b' (length (marked s) - at) (pos + 1) a (reads (pairs at_start d) (drop at (marked s)))
   unfolding several_read
   told₂ = told-seen of_pairs (reads (pairs at_start d) (drop at (marked s))) several
@@ -210,10 +210,10 @@ module _ {s b b' : List ℕ} {at pos place' mark : ℕ} (d : ℕ) (a : ReadAnswe
   unfolding behind_opener inside obey
   map_eq = refl
 
-  pub map-refused : {b'' : List ℕ} {e : Refusal} → a ≡ Refused e → ReadTold of_item s b b'' (length (marked s) - at + 1) pos (Refused e) (behind_opener d (brace (indicator_for mark)) (length (marked s) - place') (drop at (marked s)))
+  pub map-refused : {b'' : List ℕ} {e : Refusal} → a ≡ Err e → ReadTold of_item s b b'' (length (marked s) - at + 1) pos (Err e) (behind_opener d (brace (indicator_for mark)) (length (marked s) - place') (drop at (marked s)))
   map-refused f = told-lost _ _ (lost a told₂ f) map_eq
 
-  module _ {b'' : List ℕ} {m : MadeS} {a' : ReadAnswer} (g : a ≡ Made m) where
+  module _ {b'' : List ℕ} {m : MadeItem} {a' : std.Result MadeItem Refusal} (g : a ≡ Ok m) where
     pub map-done : (mark ≡ 1 → ⊥) → Finished b' b'' pos 1 5 mark m.count m.next m.size place' false 0 a'
         → ReadTold of_item s b b'' (length (marked s) - at + 1) pos a' (behind_opener d (brace (indicator_for mark)) (length (marked s) - place') (drop at (marked s)))
     unfolding of_pairs encode enclosed opening_head closing_break held_of Tells major_number
@@ -236,7 +236,7 @@ module _ {s b b' : List ℕ} {at pos place' mark : ℕ} (d : ℕ) (a : ReadAnswe
 pub ruleset map_ways = (map-refused, map-short, map-done, map_open)
 
 -- EMBEDDED ITEMS
-module _ {s b b' : List ℕ} {at pos room place' : ℕ} (d : ℕ) (a : ReadAnswer) (o : Opened s at pos place') (rm : Roomed pos (length b) room) (several : ReadTold as_seen s b b' (length (marked s) - at) (pos + room) a (several_read Angle d (drop at (marked s)))) where
+module _ {s b b' : List ℕ} {at pos room place' : ℕ} (d : ℕ) (a : std.Result MadeItem Refusal) (o : Opened s at pos place') (rm : Roomed pos (length b) room) (several : ReadTold as_seen s b b' (length (marked s) - at) (pos + room) a (several_read Angle d (drop at (marked s)))) where
   told₃ : ReadTold of_closed s b b' (length (marked s) - at) (pos + room) a (reads (items angle at_start d) (drop at (marked s)))
   unfolding several_read
   told₃ = told-seen of_closed (reads (items angle at_start d) (drop at (marked s))) several
@@ -246,10 +246,10 @@ module _ {s b b' : List ℕ} {at pos room place' : ℕ} (d : ℕ) (a : ReadAnswe
   unfolding behind_opener inside obey embeds
   embed_eq = refl
 
-  pub embed_refused : {b'' : List ℕ} {e : Refusal} → a ≡ Refused e → ReadTold of_item s b b'' (length (marked s) - at + 1) pos (Refused e) (behind_opener d embedding (length (marked s) - place') (drop at (marked s)))
+  pub embed_refused : {b'' : List ℕ} {e : Refusal} → a ≡ Err e → ReadTold of_item s b b'' (length (marked s) - at + 1) pos (Err e) (behind_opener d embedding (length (marked s) - place') (drop at (marked s)))
   embed_refused f = told-lost _ _ (lost a told₃ f) embed_eq
 
-  pub embed_done : {b'' : List ℕ} {m : MadeS} {a' : ReadAnswer} → a ≡ Made m → Finished b' b'' pos room 2 m.indicator m.size m.next m.size place' true m.size a'
+  pub embed_done : {b'' : List ℕ} {m : MadeItem} {a' : std.Result MadeItem Refusal} → a ≡ Ok m → Finished b' b'' pos room 2 m.indicator m.size m.next m.size place' true m.size a'
       → ReadTold of_item s b b'' (length (marked s) - at + 1) pos a' (behind_opener d embedding (length (marked s) - place') (drop at (marked s)))
   unfolding of_closed encode encode_string held_of Tells major_number
   embed_done {m = m} g fin =
@@ -280,12 +280,12 @@ module _ {s : List ℕ} {at place' first n size : ℕ} {b b' : List ℕ} (pos : 
   pub tag-room : Room s at (pos + size)
   tag-room = record { inside = o.inside; room = omega (arith, o.room, hw.size.most) }
 
-held-item : {s b b' : List ℕ} {most pos : ℕ} {m : MadeS} {r : List ℕ} (x : Item) → MovedOn s b b' most pos m (of_item x) r → Tells (held_of x) m.binary m.length
+held-item : {s b b' : List ℕ} {most pos : ℕ} {m : MadeItem} {r : List ℕ} (x : Item) → MovedOn s b b' most pos m (of_item x) r → Tells (held_of x) m.binary m.length
 unfolding of_item
 held-item x mv = mv.tells
 
 -- by the check of typed arrays
-tag_case : {s b b₁ b₂ : List ℕ} {at pos place' first size : ℕ} {m : MadeS} {a' : ReadAnswer} (n d : ℕ) (v : Bool) → Opened s at pos place' → HeadWritten b b₁ pos first n size
+tag_case : {s b b₁ b₂ : List ℕ} {at pos place' first size : ℕ} {m : MadeItem} {a' : std.Result MadeItem Refusal} (n d : ℕ) (v : Bool) → Opened s at pos place' → HeadWritten b b₁ pos first n size
     → (it : Got of_item s b₁ b₂ (length (marked s) - at) (pos + size) m (followed 14 d (drop at (marked s)))) → TagMade n size m.next m.size m.binary m.length place' a' → may_tag n it.thing ≡ v
     → ReadTold (of_tagged first n) s b b₂ (length (marked s) - at + 1) pos a' (tagged_read d n (length (marked s) - place') (drop at (marked s)))
 unfolding tagged_read of_tagged of_item Tells
@@ -294,7 +294,7 @@ tag_case {s} {b} {b₁} {b₂} {at} {pos} {place'} {first} {size} {m} {a'} n d t
     let h : size ≡ length (head_bytes first n) = hw.size.is n in
     let l : length (head_bytes first n ++ encode it.thing) ≡ length (head_bytes first n) + length (encode it.thing) = length-append (head_bytes first n) (encode it.thing) in
     let z : min (size + m.size) (2 ^ 64 - 1) ≡ size + m.size = omega (arith, hw.size.most, it.moved.short, o.room) in
-    told-ok it.thing _ (bind-yes (followed 14 d (drop at (marked s))) _ it.thing it.rest it.is ∙ (rw e)) (tm.made may ∙ ap (λ (k : ℕ). Made (record { next = m.next; size = k; count = 1; indicator = 0; binary = false; length = 0 })) z)
+    told-ok it.thing _ (bind-yes (followed 14 d (drop at (marked s))) _ it.thing it.rest it.is ∙ (rw e)) (tm.made may ∙ ap (λ (k : ℕ). Ok (record { next = m.next; size = k; count = 1; indicator = 0; binary = false; length = 0 })) z)
     (record {
       stands = it.moved.stands;
       sized = omega (arith, h, l, it.moved.sized);
@@ -310,17 +310,17 @@ tag_case {s} {b} {b₁} {b₂} {at} {pos} {place'} {first} {size} {m} {a'} n d f
     let p : place' ≡ length (marked s) - (length (marked s) - place') = omega (arith, o.before) in
     told-no bad_typed_array (length (marked s) - place') _ (bind-yes (followed 14 d (drop at (marked s))) _ it.thing it.rest it.is ∙ (rw e)) (denied (tm.refused may) p)
 
-module _ {s b b₁ b₂ : List ℕ} {at pos place' first size : ℕ} (n d : ℕ) (a : ReadAnswer) (o : Opened s at pos place') (hw : HeadWritten b b₁ pos first n size)
+module _ {s b b₁ b₂ : List ℕ} {at pos place' first size : ℕ} (n d : ℕ) (a : std.Result MadeItem Refusal) (o : Opened s at pos place') (hw : HeadWritten b b₁ pos first n size)
     (several : ReadTold as_seen s b₁ b₂ (length (marked s) - at) (pos + size) a (several_read Round d (drop at (marked s)))) where
   told₄ : ReadTold of_item s b₁ b₂ (length (marked s) - at) (pos + size) a (followed 14 d (drop at (marked s)))
   unfolding several_read
   told₄ = told-seen of_item (followed 14 d (drop at (marked s))) several
 
-  pub tag-refused : {b'' : List ℕ} {e : Refusal} → a ≡ Refused e → ReadTold (of_tagged first n) s b b'' (length (marked s) - at + 1) pos (Refused e) (tagged_read d n (length (marked s) - place') (drop at (marked s)))
+  pub tag-refused : {b'' : List ℕ} {e : Refusal} → a ≡ Err e → ReadTold (of_tagged first n) s b b'' (length (marked s) - at + 1) pos (Err e) (tagged_read d n (length (marked s) - place') (drop at (marked s)))
   unfolding tagged_read
   tag-refused f = told-lost _ _ (lost a told₄ f) refl
 
-  pub tag-done : {m : MadeS} {a' : ReadAnswer} → a ≡ Made m → TagMade n size m.next m.size m.binary m.length place' a' → ReadTold (of_tagged first n) s b b₂ (length (marked s) - at + 1) pos a' (tagged_read d n (length (marked s) - place') (drop at (marked s)))
+  pub tag-done : {m : MadeItem} {a' : std.Result MadeItem Refusal} → a ≡ Ok m → TagMade n size m.next m.size m.binary m.length place' a' → ReadTold (of_tagged first n) s b b₂ (length (marked s) - at + 1) pos a' (tagged_read d n (length (marked s) - place') (drop at (marked s)))
   tag-done {m} {a'} g tm = let it = got a told₄ g in tag_case n d (may_tag n it.thing) o hw it tm refl
 
 pub ruleset tag_ways = (tag-refused, tag-done)
@@ -336,7 +336,7 @@ module _ {s : List ℕ} {at place' mark : ℕ} (pos : ℕ) (br : Bracketed s at 
   pub bracket-room : Room s at (pos + 1)
   bracket-room = opened-room pos br.opened
 
-module _ {A : Type 0} {v : A → View} {s b b' : List ℕ} {at place' mark : ℕ} {m : MadeS} {res : Result A} (pos : ℕ) (a : ReadAnswer) (br : Bracketed s at pos place' mark) (told : ReadTold v s b b' (length (marked s) - at) (pos + 1) a res) (g : a ≡ Made m) where
+module _ {A : Type 0} {v : A → View} {s b b' : List ℕ} {at place' mark : ℕ} {m : MadeItem} {res : Result A} (pos : ℕ) (a : std.Result MadeItem Refusal) (br : Bracketed s at pos place' mark) (told : ReadTold v s b b' (length (marked s) - at) (pos + 1) a res) (g : a ≡ Ok m) where
   pub bracket_light : Light (pos + m.size)
   bracket_light = kept_light pos a br.opened told g
 
@@ -353,7 +353,7 @@ module _ {s : List ℕ} {at place' room end : ℕ} (pos : ℕ) (o : Opened s at 
   pub embed_room : Room s at (pos + room)
   embed_room = record { inside = o.inside; room = omega (arith, o.room, rm.most) }
 
-  pub embed_heavy : {A : Type 0} {v : A → View} {b b' : List ℕ} {m : MadeS} {res : Result A} (a : ReadAnswer) → ReadTold v s b b' (length (marked s) - at) (pos + room) a res → a ≡ Made m → Heavy room m.size
+  pub embed_heavy : {A : Type 0} {v : A → View} {b b' : List ℕ} {m : MadeItem} {res : Result A} (a : std.Result MadeItem Refusal) → ReadTold v s b b' (length (marked s) - at) (pos + room) a res → a ≡ Ok m → Heavy room m.size
   embed_heavy a told g = kept-heavy pos a o told g room (omega (arith, rm.most))
 
 pub embed_light : {s : List ℕ} {at place' : ℕ} (pos : ℕ) → Opened s at pos place' → Light pos
@@ -403,7 +403,7 @@ tag_view first w n x e h =
     let q : head_bytes first n ++ encode x ≡ head tags w n ++ encode x = ap (λ (u : List ℕ). u ++ encode x) (ap (λ (k : ℕ). head_bytes k n) e ∙ sym (head_bytes_lem tags w n h)) in
     λ j. record { bytes = q j; count = 1; indicator = 0; held = no_bytes }
 
-open_told : {s b b' : List ℕ} {pos from : ℕ} {a : ReadAnswer} {o : Opening} (d : ℕ) (op : Opens) → OpensAs s from o op → (d ≡ 0 → ⊥)
+open_told : {s b b' : List ℕ} {pos from : ℕ} {a : std.Result MadeItem Refusal} {o : Opening} (d : ℕ) (op : Opens) → OpensAs s from o op → (d ≡ 0 → ⊥)
     → ReadTold of_item s b b' (length (marked s) - o.next + 1) pos a (behind_opener (d - 1) op (length (marked s) - o.place) (drop o.next (marked s)))
     → ReadTold of_item s b b' (length (marked s) - from) pos a (reads (one d) (drop from (marked s)))
 open_told {s} {from = from} {o = o} d op x n h =
@@ -412,7 +412,7 @@ open_told {s} {from = from} {o = o} d op x n h =
     one-is d (drop from (marked s)) ∙ bind-yes (next (drop from (marked s))) _ (begins (opens op)) (drop o.next (marked s)) x.next_at.is ∙ goes_inside d op (place (drop from (marked s))) (drop o.next (marked s)) n ∙ rw x.place_is in
     told_more le (rw q h)
 
-module _ {s b b' : List ℕ} {pos from at : ℕ} {q : LeafRead} {a : ReadAnswer} {o : Opening} (d : ℕ) (l : LevelAt s from at q d) (ot : OpeningTold s from o) where
+module _ {s b b' : List ℕ} {pos from at : ℕ} {q : LeafRead} {a : std.Result MadeItem Refusal} {o : Opening} (d : ℕ) (l : LevelAt s from at q d) (ot : OpeningTold s from o) where
   pub item-array : o.opener ≡ Array → ReadTold of_item s b b' (length (marked s) - o.next + 1) pos a (behind_opener (d - 1) (bracket (indicator_for o.indicator)) (length (marked s) - o.place) (drop o.next (marked s)))
       → ReadTold of_item s b b' (length (marked s) - from) pos a (reads (one d) (drop from (marked s)))
   item-array e h = open_told d (bracket (indicator_for o.indicator)) (ot.array e).opens_as (λ z. omega (arith, l.some)) h
@@ -465,7 +465,7 @@ module _ {s : List ℕ} {from at : ℕ} {t : Bool} (pos : ℕ) (e : t ≡ true) 
   pub bare_map-room : OpensBare s from at Map t → Room s from pos → Bracketed s (at + 1) pos at 0
   bare_map-room x rm = open_map pos (bare_map x) rm refl
 
-  module _ {b b' : List ℕ} {q : LeafRead} {a : ReadAnswer} (d : ℕ) (l : LevelAt s from at q d) where
+  module _ {b b' : List ℕ} {q : LeafRead} {a : std.Result MadeItem Refusal} (d : ℕ) (l : LevelAt s from at q d) where
     pub item_bare_array : OpensBare s from at Array t → ReadTold of_item s b b' (length (marked s) - (at + 1) + 1) pos a (behind_opener (d - 1) (bracket (indicator_for 0)) (length (marked s) - at) (drop (at + 1) (marked s)))
         → ReadTold of_item s b b' (length (marked s) - from) pos a (reads (one d) (drop from (marked s)))
     item_bare_array x h = item-array d l (bare_array x) refl h
@@ -475,7 +475,7 @@ module _ {s : List ℕ} {from at : ℕ} {t : Bool} (pos : ℕ) (e : t ≡ true) 
     item_bare_map x h = item-map d l (bare_map x) refl h
 
 -- no level is opened
-pub item_flat : {s b b' : List ℕ} {pos : ℕ} {a a' : ReadAnswer} (from d : ℕ) → ReadTold of_item s b b' (length (marked s) - from) pos a (reads (one d) (drop from (marked s))) → a' ≡ a → ReadTold of_item s b b' (length (marked s) - from) pos a' (reads (one d) (drop from (marked s)))
+pub item_flat : {s b b' : List ℕ} {pos : ℕ} {a a' : std.Result MadeItem Refusal} (from d : ℕ) → ReadTold of_item s b b' (length (marked s) - from) pos a (reads (one d) (drop from (marked s))) → a' ≡ a → ReadTold of_item s b b' (length (marked s) - from) pos a' (reads (one d) (drop from (marked s)))
 item_flat from d h e = rw e h
 
 pub ruleset bare_ways = (item_bare_array, item_bare_map)
@@ -485,13 +485,13 @@ pub ruleset level_ways = (item-array, item-map, item_embed, item-tag, item_flat)
 pub ruleset open_rooms = (open_array, open_map, open_tag, open_embed)
 
 -- ONE ITEM, AND ALL
-pub one_told : {s b b' : List ℕ} {pos : ℕ} {a : ReadAnswer} (from d : ℕ) → ReadTold as_seen s b b' (length (marked s) - from) pos a (several_read Nothing d (drop from (marked s))) → ReadTold of_item s b b' (length (marked s) - from) pos a (reads (one d) (drop from (marked s)))
+pub one_told : {s b b' : List ℕ} {pos : ℕ} {a : std.Result MadeItem Refusal} (from d : ℕ) → ReadTold as_seen s b b' (length (marked s) - from) pos a (several_read Nothing d (drop from (marked s))) → ReadTold of_item s b b' (length (marked s) - from) pos a (reads (one d) (drop from (marked s)))
 unfolding several_read
 one_told {s} from d h = told-seen of_item (reads (one d) (drop from (marked s))) h
 
 pub whole_room : (s : List ℕ) → length s ≤ 65535 → Room s 0 0
 whole_room s h = record { inside = omega arith; room = omega (arith, length_marked s) }
 
-pub whole-told : {s b b' : List ℕ} {a : ReadAnswer} → ReadTold as_seen s b b' (length (marked s) - 0) 0 a (several_read Whole 16 (drop 0 (marked s))) → ReadTold of_closed s b b' (length (marked s)) 0 a (sequence s)
+pub whole-told : {s b b' : List ℕ} {a : std.Result MadeItem Refusal} → ReadTold as_seen s b b' (length (marked s) - 0) 0 a (several_read Whole 16 (drop 0 (marked s))) → ReadTold of_closed s b b' (length (marked s)) 0 a (sequence s)
 unfolding several_read sequence
 whole-told {s} h = let le : length (marked s) - 0 ≤ length (marked s) = omega arith in told_more le (told-seen of_closed (reads (items whole at_start 16) (drop 0 (marked s))) h)

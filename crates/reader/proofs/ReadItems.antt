@@ -28,9 +28,7 @@ use Rattle.leaf_answer.specs.declared.LeafRead.{LeafRead}
 use Rattle.leaf_answer.specs.declared.Found.{Found}
 use Rattle.leaf_answer.specs.declared.Found.TheVariants.{Leaf, Tag as TagFound, Odd, Nothing as NoLeaf}
 use Rattle.encoding.specs.ReadAnswers.{View, Held, Tells, no_bytes, of_item, chunked_read, initial_by, Room, Opened, Wrote, After, ReadTold, Strayed, Leafed, Denies}
-use Rattle.encoding.specs.declared.answer.MadeItem.{MadeItem as MadeS}
-use Rattle.encoding.specs.declared.answer.ReadAnswer.{ReadAnswer}
-use Rattle.encoding.specs.declared.answer.ReadAnswer.TheVariants.{Made, Refused}
+use Rattle.encoding.specs.declared.answer.MadeItem.{MadeItem}
 use Rattle.encoding.proofs.ReadTokens.{LeafFine, Fine, next-fine}
 use Rattle.encoding.proofs.ReadSmall.{head-short, head-some}
 use Rattle.encoding.proofs.Telling.{bind-yes, told-ok, told_more, told_stop, token, past}
@@ -42,13 +40,15 @@ use Rattle.opening.specs.Openings.{OpeningTold, Opened as LeafOpened}
 use Rattle.reader.specs.OneItem.{LevelAt, is_leaf, Flat, TagMade}
 use Rattle.opening.specs.declared.Opener.TheVariants.{Nothing}
 use Rattle.opening.specs.declared.Opening.{Opening}
+use Rattle.std.specs.Prelude.{Ok, Err}
+use Rattle.std.specs.Prelude as std
 
 -- THE SAME ANSWER
-module _ {a : ReadAnswer} where
-  pub again_made : {m : MadeS} → a ≡ Made m → Made (record { next = m.next; size = m.size; count = m.count; indicator = m.indicator; binary = m.binary; length = m.length }) ≡ a
+module _ {a : std.Result MadeItem Refusal} where
+  pub again_made : {m : MadeItem} → a ≡ Ok m → Ok (record { next = m.next; size = m.size; count = m.count; indicator = m.indicator; binary = m.binary; length = m.length }) ≡ a
   again_made e = sym e
 
-  pub again_refused : {e : Refusal} → a ≡ Refused e → Refused (record { kind = e.kind; place = e.place }) ≡ a
+  pub again_refused : {e : Refusal} → a ≡ Err e → Err (record { kind = e.kind; place = e.place }) ≡ a
   again_refused e = sym e
 
 pub ruleset again_ways = (again_made, again_refused)
@@ -57,14 +57,14 @@ pub ruleset again_ways = (again_made, again_refused)
 wrote-from : {b b₁ b₂ : List ℕ} {pos : ℕ} {ws : List ℕ} → length b₁ ≡ length b → take pos b₁ ≡ take pos b → Wrote b₁ b₂ pos ws → Wrote b b₂ pos ws
 wrote-from {pos = pos} {ws = ws} l k w = record { same = w.same ∙ l; behind = w.behind; is = λ f. w.is (rw l f) ∙ ap (λ (x : List ℕ). x ++ (ws ++ w.behind)) k }
 
-after-from : {A : Type 0} (v : A → View) (s b b₁ b₂ : List ℕ) (most pos : ℕ) (a : ReadAnswer) (res : Result A) → length b₁ ≡ length b → take pos b₁ ≡ take pos b → After v s b₁ b₂ most pos a res → After v s b b₂ most pos a res
+after-from : {A : Type 0} (v : A → View) (s b b₁ b₂ : List ℕ) (most pos : ℕ) (a : std.Result MadeItem Refusal) (res : Result A) → length b₁ ≡ length b → take pos b₁ ≡ take pos b → After v s b₁ b₂ most pos a res → After v s b b₂ most pos a res
 unfolding After
 after-from v s b b₁ b₂ most pos a (ok x r) l k f =
     let m = f.moved in
     record { made = f.made; is = f.is; moved = record { stands = m.stands; sized = m.sized; counted = m.counted; indicated = m.indicated; tells = m.tells; many = m.many; short = m.short; wrote = wrote-from l k m.wrote } }
 after-from v s b b₁ b₂ most pos a (refuse n q) l k f = f
 
-pub told-from : {A : Type 0} {v : A → View} {s b b₁ b₂ : List ℕ} {at most pos : ℕ} {q : LeafRead} {a : ReadAnswer} {res : Result A} → LeafTold s b b₁ at pos q → ReadTold v s b₁ b₂ most pos a res → ReadTold v s b b₂ most pos a res
+pub told-from : {A : Type 0} {v : A → View} {s b b₁ b₂ : List ℕ} {at most pos : ℕ} {q : LeafRead} {a : std.Result MadeItem Refusal} {res : Result A} → LeafTold s b b₁ at pos q → ReadTold v s b₁ b₂ most pos a res → ReadTold v s b b₂ most pos a res
 told-from lt h = record { after = after-from _ _ _ _ _ _ _ _ _ lt.same lt.kept h.after }
 
 -- A LEAF
@@ -75,8 +75,8 @@ leaf-found TagFound e = absurd (true≢false (sym e))
 leaf-found Odd e = absurd (true≢false (sym e))
 leaf-found NoLeaf e = absurd (true≢false (sym e))
 
-pub item-leaf : {s b b' : List ℕ} {from at pos : ℕ} {q : LeafRead} {v : Bool} {a : ReadAnswer} (d : ℕ) → Skips s from at → LeafTold s b b' at pos q → v ≡ is_leaf q.found → v ≡ true
-    → a ≡ Made (record { next = q.next; size = q.size; count = 1; indicator = 0; binary = q.binary; length = q.length }) → ReadTold of_item s b b' (length (marked s) - from) pos a (reads (one d) (drop from (marked s)))
+pub item-leaf : {s b b' : List ℕ} {from at pos : ℕ} {q : LeafRead} {v : Bool} {a : std.Result MadeItem Refusal} (d : ℕ) → Skips s from at → LeafTold s b b' at pos q → v ≡ is_leaf q.found → v ≡ true
+    → a ≡ Ok (record { next = q.next; size = q.size; count = 1; indicator = 0; binary = q.binary; length = q.length }) → ReadTold of_item s b b' (length (marked s) - from) pos a (reads (one d) (drop from (marked s)))
 unfolding of_item
 item-leaf {s} {from = from} {at = at} {q = q} d sk lt e t f =
     let m = lt.leaf (leaf-found q.found (sym e ∙ t)) in
@@ -96,11 +96,11 @@ item-leaf {s} {from = from} {at = at} {q = q} d sk lt e t f =
 
 -- one that was read when none had been found
 -- what is read from a buffer in which no leaf was found
-module _ {s b b₁ b₂ : List ℕ} {pos at : ℕ} {q : LeafRead} {a : ReadAnswer} (from d : ℕ) where
+module _ {s b b₁ b₂ : List ℕ} {pos at : ℕ} {q : LeafRead} {a : std.Result MadeItem Refusal} (from d : ℕ) where
   pub item-whole : LeafTold s b b₁ at pos q → ReadTold of_item s b₁ b₂ (length (marked s) - from) pos a (reads (one d) (drop from (marked s))) → ReadTold of_item s b b₂ (length (marked s) - from) pos a (reads (one d) (drop from (marked s)))
   item-whole lt h = told-from lt h
 
-  pub item_deep : {a' : ReadAnswer} → LeafTold s b b₁ at pos q → ReadTold of_item s b₁ b₂ (length (marked s) - from) pos a (reads (one d) (drop from (marked s))) → a' ≡ a
+  pub item_deep : {a' : std.Result MadeItem Refusal} → LeafTold s b b₁ at pos q → ReadTold of_item s b₁ b₂ (length (marked s) - from) pos a (reads (one d) (drop from (marked s))) → a' ≡ a
       → ReadTold of_item s b b₂ (length (marked s) - from) pos a' (reads (one d) (drop from (marked s)))
   item_deep lt h e = rw e (told-from lt h)
 
@@ -163,7 +163,7 @@ tells_none : {t : Bool} (n : ℕ) {h : Held} → h ≡ no_bytes → t ≡ false 
 unfolding Tells
 tells_none n e f = rw e f
 
-module _ {s b b' : List ℕ} {pos at : ℕ} {t : Cut} {a : ReadAnswer} (d : ℕ) (tk : Took s at t) where
+module _ {s b b' : List ℕ} {pos at : ℕ} {t : Cut} {a : std.Result MadeItem Refusal} (d : ℕ) (tk : Took s at t) where
   pub flat_none : t.kind ≡ 0 → Strayed d t a → ReadTold of_item s b b' (length (marked s) - at) pos a (reads (one d) (drop at (marked s)))
   flat_none e f = told_stop d _ _ tk f (one-is d (drop at (marked s))) (λ tok r c u. absurd (omega (arith, code-some tok, c)))
 
@@ -233,17 +233,17 @@ level_open l = l.opened
 pub level-skips : {s : List ℕ} {from at d : ℕ} {q : LeafRead} → LevelAt s from at q d → Skips s from at
 level-skips l = l.opened.skips
 
-pub level_odd : {s b b' : List ℕ} {from at pos d : ℕ} {q r : LeafRead} {v : Bool} {a : ReadAnswer} → LevelAt s from at q d → LeafTold s b b' at pos r → v ≡ is_leaf r.found → v ≡ true
-    → a ≡ Made (record { next = r.next; size = r.size; count = 1; indicator = 0; binary = r.binary; length = r.length }) → ReadTold of_item s b b' (length (marked s) - from) pos a (reads (one d) (drop from (marked s)))
+pub level_odd : {s b b' : List ℕ} {from at pos d : ℕ} {q r : LeafRead} {v : Bool} {a : std.Result MadeItem Refusal} → LevelAt s from at q d → LeafTold s b b' at pos r → v ≡ is_leaf r.found → v ≡ true
+    → a ≡ Ok (record { next = r.next; size = r.size; count = 1; indicator = 0; binary = r.binary; length = r.length }) → ReadTold of_item s b b' (length (marked s) - from) pos a (reads (one d) (drop from (marked s)))
 level_odd {d = d} l lt e t f = item-leaf d (level-skips l) lt e t f
 
 pub level-some : {s : List ℕ} {from at d : ℕ} {q : LeafRead} → LevelAt s from at q d → 1 ≤ d
 level-some l = l.some
 
 -- BEHIND THE HEAD OF A TAG
-module _ {n head next' size length' place' : ℕ} {binary r : Bool} {a : ReadAnswer} (e : r ≡ may_tag_by n binary length') where
-  pub tagged-yes : {k : ℕ} → r ≡ true → k ≡ min (head + size) (2 ^ 64 - 1) → a ≡ Made (record { next = next'; size = k; count = 1; indicator = 0; binary = false; length = 0 }) → TagMade n head next' size binary length' place' a
-  tagged-yes t q f = record { refused = λ z. absurd (true≢false (sym t ∙ e ∙ z)); made = λ z. f ∙ ap (λ (x : ℕ). Made (record { next = next'; size = x; count = 1; indicator = 0; binary = false; length = 0 })) q }
+module _ {n head next' size length' place' : ℕ} {binary r : Bool} {a : std.Result MadeItem Refusal} (e : r ≡ may_tag_by n binary length') where
+  pub tagged-yes : {k : ℕ} → r ≡ true → k ≡ min (head + size) (2 ^ 64 - 1) → a ≡ Ok (record { next = next'; size = k; count = 1; indicator = 0; binary = false; length = 0 }) → TagMade n head next' size binary length' place' a
+  tagged-yes t q f = record { refused = λ z. absurd (true≢false (sym t ∙ e ∙ z)); made = λ z. f ∙ ap (λ (x : ℕ). Ok (record { next = next'; size = x; count = 1; indicator = 0; binary = false; length = 0 })) q }
 
   pub tagged-no : r ≡ false → Denies bad_typed_array place' a → TagMade n head next' size binary length' place' a
   tagged-no t f = record { refused = λ z. f; made = λ z. absurd (true≢false (sym z ∙ sym e ∙ t)) }

@@ -21,9 +21,7 @@ use Rattle.notation.specs.Reading.{marked}
 use Rattle.scanning.proofs.Marked.{stands-left}
 use Rattle.token.specs.TokenAnswers.{indicator_number, code_of, mark_of}
 use Rattle.encoding.specs.ReadAnswers.{View, Tells, held_of, of_item, Wrote, Room, ReadTold}
-use Rattle.encoding.specs.declared.answer.MadeItem.{MadeItem as MadeS}
-use Rattle.encoding.specs.declared.answer.ReadAnswer.{ReadAnswer}
-use Rattle.encoding.specs.declared.answer.ReadAnswer.TheVariants.{Made, Refused}
+use Rattle.encoding.specs.declared.answer.MadeItem.{MadeItem}
 use Rattle.encoding.proofs.Wrote.{wrote_nothing, wrote-more}
 use Rattle.encoding.proofs.Telling.{bind-yes, told-ok, told-lost, told_stop, Got, got, lost}
 use Rattle.encoding.proofs.ReadRules.{shape_low}
@@ -37,6 +35,8 @@ use Rattle.closers.specs.declared.Closer.TheVariants.{Square, Curly, Round, Angl
 use Rattle.closing.specs.declared.Closing.{Closing}
 use Rattle.closing.specs.declared.Follow.TheVariants.{On, Over, Stray}
 use Rattle.closing.specs.declared.Follower.{Follower}
+use Rattle.std.specs.Prelude.{Ok, Err}
+use Rattle.std.specs.Prelude as std
 
 -- what was read before others
 unfoldable pub before : List ℕ → ℕ → View → View
@@ -121,7 +121,7 @@ close_mark h j = refl
 
 -- THE START
 module _ {s b : List ℕ} {i pos : ℕ} {h : Closer} {c : Closing} (d : ℕ) (rm : Room s i pos) (st : StartsAt s i h c) where
-  pub several-empty : {a : ReadAnswer} → c.found ≡ true → a ≡ Made (record { next = c.next; size = 0; count = 0; indicator = c.indicator; binary = false; length = 0 })
+  pub several-empty : {a : std.Result MadeItem Refusal} → c.found ≡ true → a ≡ Ok (record { next = c.next; size = 0; count = 0; indicator = c.indicator; binary = false; length = 0 })
       → ReadTold as_seen s b b (length (marked s) - i) pos a (several_read h d (drop i (marked s)))
   unfolding as_seen Tells
   several-empty e f =
@@ -172,15 +172,15 @@ before-added bs n k x v =
     let e : n + (k + v.count) ≡ n + k + v.count = omega arith in
     λ j. record { bytes = sym (append_assoc bs (encode x) v.bytes) j; count = e j; indicator = v.indicator; held = v.held }
 
-module _ {h : Closer} {d : ℕ} {s b₀ : List ℕ} {i pos at n size : ℕ} {key : Bool} {b b' : List ℕ} (a : ReadAnswer)
+module _ {h : Closer} {d : ℕ} {s b₀ : List ℕ} {i pos at n size : ℕ} {key : Bool} {b b' : List ℕ} (a : std.Result MadeItem Refusal)
     (L : Listing h d s b₀ i pos at n size key b) (told : ReadTold of_item s b b' (length (marked s) - at) (pos + size) a (reads (one d) (drop at (marked s)))) where
   whole : several_read h d (drop i (marked s)) ≡ bind (reads (one d) (drop at (marked s))) (λ x r. bind (onward h key d x r) (λ v r'. ok (before L.bytes n v) r'))
   whole = L.left ∙ ap (λ (u : Result View). bind u (λ v r. ok (before L.bytes n v) r)) (tail_is h key d (drop at (marked s)) L.keyed) ∙ bind_assoc (reads (one d) (drop at (marked s))) _ _
 
-  pub several-refused : {b'' : List ℕ} {e : Refusal} → a ≡ Refused e → ReadTold as_seen s b₀ b'' (length (marked s) - i) pos (Refused e) (several_read h d (drop i (marked s)))
+  pub several-refused : {b'' : List ℕ} {e : Refusal} → a ≡ Err e → ReadTold as_seen s b₀ b'' (length (marked s) - i) pos (Err e) (several_read h d (drop i (marked s)))
   several-refused f = told-lost _ _ (lost a told f) whole
 
-  module _ {m : MadeS} (g : a ≡ Made m) where
+  module _ {m : MadeItem} (g : a ≡ Ok m) where
     it : Got of_item s b b' (length (marked s) - at) (pos + size) m (reads (one d) (drop at (marked s)))
     it = got a told g
 
@@ -259,9 +259,9 @@ module _ {h : Closer} {d : ℕ} {s b₀ : List ℕ} {i pos at n size : ℕ} {key
       pub several_less : f.follow ≡ On → length (marked s) - f.next < length (marked s) - at
       several_less e = let o = fo.on e in omega (arith, o.next_at.ahead, o.next_at.inside, stands-left it.moved.stands, it.moved.stands.inside, it.moved.short, some, L.inside)
 
-      module _ {a' : ReadAnswer} where
+      module _ {a' : std.Result MadeItem Refusal} where
         -- the last item
-        ended : (j : ℕ) (nx : ℕ) → a' ≡ Made (record { next = nx; size = size + m.size; count = n + counted key; indicator = j; binary = m.binary; length = m.length }) → key ≡ false → shown_by h j ≡ j → nx ≤ length (marked s) → m.next ≤ nx
+        ended : (j : ℕ) (nx : ℕ) → a' ≡ Ok (record { next = nx; size = size + m.size; count = n + counted key; indicator = j; binary = m.binary; length = m.length }) → key ≡ false → shown_by h j ≡ j → nx ≤ length (marked s) → m.next ≤ nx
             → several_read h d (drop i (marked s)) ≡ ok (before L.bytes n (last_of h x j)) (drop nx (marked s)) → ReadTold as_seen s b₀ b' (length (marked s) - i) pos a' (several_read h d (drop i (marked s)))
         unfolding as_seen before last_of counted
         ended j nx f kf sh le ge q =
@@ -277,12 +277,12 @@ module _ {h : Closer} {d : ℕ} {s b₀ : List ℕ} {i pos at n size : ℕ} {key
               wrote = written;
             })
 
-        pub several-over : {k : ℕ} → f.follow ≡ Over → k ≡ counted key → a' ≡ Made (record { next = f.next; size = size + m.size; count = n + k; indicator = f.indicator; binary = m.binary; length = m.length })
+        pub several-over : {k : ℕ} → f.follow ≡ Over → k ≡ counted key → a' ≡ Ok (record { next = f.next; size = size + m.size; count = n + k; indicator = f.indicator; binary = m.binary; length = m.length })
             → ReadTold as_seen s b₀ b' (length (marked s) - i) pos a' (several_read h d (drop i (marked s)))
         unfolding bind onward
         several-over {k} e ke fe = go (is_single h) refl
           where
-            fe' : a' ≡ Made (record { next = f.next; size = size + m.size; count = n + counted key; indicator = f.indicator; binary = m.binary; length = m.length })
+            fe' : a' ≡ Ok (record { next = f.next; size = size + m.size; count = n + counted key; indicator = f.indicator; binary = m.binary; length = m.length })
             fe' = rw ke at fe
 
             go : (v : Bool) → is_single h ≡ v → ReadTold as_seen s b₀ b' (length (marked s) - i) pos a' (several_read h d (drop i (marked s)))
@@ -300,7 +300,7 @@ module _ {h : Closer} {d : ℕ} {s b₀ : List ℕ} {i pos at n size : ℕ} {key
                 (close_not h key o.by z.0) (close_yes h key o.by z.0))
                 ∙ ap (λ (y : ℕ). ok (before L.bytes n (last_of h x y)) (drop f.next (marked s))) (close_mark h o.by ∙ sym o.is))
 
-        pub several-stray : {a'' : ReadAnswer} → f.follow ≡ Stray → StrayTold s m.next d a'' → a' ≡ a'' → ReadTold as_seen s b₀ b' (length (marked s) - i) pos a' (several_read h d (drop i (marked s)))
+        pub several-stray : {a'' : std.Result MadeItem Refusal} → f.follow ≡ Stray → StrayTold s m.next d a'' → a' ≡ a'' → ReadTold as_seen s b₀ b' (length (marked s) - i) pos a' (several_read h d (drop i (marked s)))
         unfolding bind
         several-stray e st z =
             let t = fo.stray e in

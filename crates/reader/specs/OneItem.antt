@@ -9,9 +9,11 @@ use Rattle.leaf_answer.specs.declared.Found.{Found}
 use Rattle.leaf_answer.specs.declared.Found.TheVariants.{Leaf, Tag as TagFound, Odd, Nothing as NoLeaf}
 use Rattle.leaf_answer.specs.declared.LeafRead.{LeafRead}
 use Rattle.encoding.specs.ReadAnswers.{Denies}
-use Rattle.encoding.specs.declared.answer.ReadAnswer.{ReadAnswer}
-use Rattle.encoding.specs.declared.answer.ReadAnswer.TheVariants.{Made}
 use Rattle.opening.specs.Openings.{Opened}
+use Rattle.std.specs.Prelude.{Ok}
+use Rattle.std.specs.Prelude as std
+use Rattle.encoding.specs.declared.answer.MadeItem.{MadeItem}
+use Rattle.refusal.specs.declared.Refusal.{Refusal}
 
 unfoldable pub is_leaf : Found → Bool
 is_leaf Leaf = true
@@ -29,6 +31,6 @@ pub record Flat (s : List ℕ) (from d : ℕ) : Type 0 where
   pub is : (d ≡ 0 → ⊥) → (op : Opens) (r : List ℕ) → next (drop from (marked s)) ≡ ok (begins (opens op)) r → ⊥
 
 -- what becomes of an item behind a tag's head of some bytes
-pub record TagMade (n head next' size : ℕ) (binary : Bool) (length' place' : ℕ) (a : ReadAnswer) : Type 0 where
+pub record TagMade (n head next' size : ℕ) (binary : Bool) (length' place' : ℕ) (a : std.Result MadeItem Refusal) : Type 0 where
   pub refused : may_tag_by n binary length' ≡ false → Denies bad_typed_array place' a
-  pub made : may_tag_by n binary length' ≡ true → a ≡ Made (record { next = next'; size = min (head + size) (2 ^ 64 - 1); count = 1; indicator = 0; binary = false; length = 0 })
+  pub made : may_tag_by n binary length' ≡ true → a ≡ Ok (record { next = next'; size = min (head + size) (2 ^ 64 - 1); count = 1; indicator = 0; binary = false; length = 0 })

@@ -9,10 +9,12 @@ use Rattle.notation.specs.Form.{at_start, behind_comma, one, items, pairs, stray
 use Rattle.token.specs.TokenAnswers.{shape_code, code_of, mark_of, Took}
 use Rattle.token.specs.declared.Token.{Token as Cut}
 use Rattle.encoding.specs.ReadAnswers.{View, Held, unsaid, held_of, of_item, of_closed, of_pairs, followed, Strayed}
-use Rattle.encoding.specs.declared.answer.ReadAnswer.{ReadAnswer}
 use Rattle.closers.specs.declared.Closer.{Closer}
 use Rattle.closers.specs.declared.Closer.TheVariants.{Square, Curly, Round, Angle, Whole, Nothing}
 use Rattle.closers.specs.CloserTables.{is_single, turned, counted, separator_code, closer_code, shown_by}
+use Rattle.std.specs.Prelude as std
+use Rattle.encoding.specs.declared.answer.MadeItem.{MadeItem}
+use Rattle.refusal.specs.declared.Refusal.{Refusal}
 
 -- WHAT IS READ, as the code sees it
 unfoldable pub as_seen : View → View
@@ -75,7 +77,7 @@ onward h k d x r =
     ]
 
 -- a refusal at the next token, which may not stand there
-pub record StrayTold (s : List ℕ) (from d : ℕ) (a : ReadAnswer) : Type 0 where
+pub record StrayTold (s : List ℕ) (from d : ℕ) (a : std.Result MadeItem Refusal) : Type 0 where
   pub token : Cut
   pub took : Took s from token
   pub strayed : Strayed d token a

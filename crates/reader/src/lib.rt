@@ -13,7 +13,7 @@ ghost use Rattle.reader.specs.Several.{as_seen, several_read, StrayTold};
 
 use closers::{Closer, counted, starts, turned};
 use closing::{Follow, first, followed};
-use encoding::answer::{MadeItem, ReadAnswer, done, listed, refuse, strayed};
+use encoding::answer::{MadeItem, done, listed, refuse, strayed};
 use encoding::close::{enclose, endless, finish, finish_short, is_short};
 use encoding::heads::{leaf, put_head};
 use encoding::room::room_for;
@@ -48,18 +48,18 @@ fn is_leaf(found: Found) -> bool
 }
 
 // The same answer, made anew: an answer that is handed on whole is copied, and the copy waits for it.
-fn again(a: ReadAnswer) -> ReadAnswer
+fn again(a: Result<MadeItem, Refusal>) -> Result<MadeItem, Refusal>
     ensures { result ≡ a }
 {
     match a {
-        ReadAnswer::Refused(e) => {
+        Err(e) => {
             let kind = e.kind;
-            ReadAnswer::Refused(Refusal {
+            Err(Refusal {
                 kind,
                 place: e.place,
             })
         }
-        ReadAnswer::Made(m) => ReadAnswer::Made(MadeItem {
+        Ok(m) => Ok(MadeItem {
             next: m.next,
             size: m.size,
             count: m.count,
@@ -71,7 +71,7 @@ fn again(a: ReadAnswer) -> ReadAnswer
 }
 
 // A refusal at the next token, which may not stand there.
-fn stray(text: &[u8], from: usize, levels: usize) -> ReadAnswer
+fn stray(text: &[u8], from: usize, levels: usize) -> Result<MadeItem, Refusal>
     requires { from ≤ length (marked text.now) }
     ensures { StrayTold text.now from levels result }
 {
@@ -79,7 +79,13 @@ fn stray(text: &[u8], from: usize, levels: usize) -> ReadAnswer
 }
 
 // An item that opens no level, by its token.
-fn whole(text: &[u8], from: usize, levels: usize, buf: &mut [u8], pos: usize) -> ReadAnswer
+fn whole(
+    text: &[u8],
+    from: usize,
+    levels: usize,
+    buf: &mut [u8],
+    pos: usize,
+) -> Result<MadeItem, Refusal>
     requires flat { Flat text.now from levels }
     requires room { Room text.now from pos }
     ensures { ReadTold of_item text.now buf.old buf.new (length (marked text.now) - from) pos result (reads (one levels) (drop from (marked text.now))) }
@@ -102,7 +108,13 @@ fn whole(text: &[u8], from: usize, levels: usize, buf: &mut [u8], pos: usize) ->
 }
 
 // An item that opens no level.
-fn flat(text: &[u8], from: usize, levels: usize, buf: &mut [u8], pos: usize) -> ReadAnswer
+fn flat(
+    text: &[u8],
+    from: usize,
+    levels: usize,
+    buf: &mut [u8],
+    pos: usize,
+) -> Result<MadeItem, Refusal>
     requires flat { Flat text.now from levels }
     requires room { Room text.now from pos }
     ensures { ReadTold of_item text.now buf.old buf.new (length (marked text.now) - from) pos result (reads (one levels) (drop from (marked text.now))) }
@@ -125,7 +137,7 @@ fn tagged(
     binary: bool,
     length: usize,
     place: usize,
-) -> ReadAnswer
+) -> Result<MadeItem, Refusal>
     ensures { TagMade number head next size binary length place result }
 {
     if typed_array::may_tag(number, binary, length) {
@@ -136,7 +148,13 @@ fn tagged(
 
 // One item, a leaf mostly, from a place on, its bytes into the buffer from pos on.
 #[cycle(array_embed_enter_item_level_map_seldom_several_tag)]
-fn item(text: &[u8], from: usize, levels: usize, buf: &mut [u8], pos: usize) -> ReadAnswer
+fn item(
+    text: &[u8],
+    from: usize,
+    levels: usize,
+    buf: &mut [u8],
+    pos: usize,
+) -> Result<MadeItem, Refusal>
     requires { Room text.now from pos }
     ensures { ReadTold of_item text.now buf.old buf.new (length (marked text.now) - from) pos result (reads (one levels) (drop from (marked text.now))) }
 {
@@ -163,7 +181,7 @@ fn enter(
     levels: usize,
     buf: &mut [u8],
     pos: usize,
-) -> ReadAnswer
+) -> Result<MadeItem, Refusal>
     requires level_at { LevelAt text.now from at q levels }
     requires room { Room text.now from pos }
     ensures { ReadTold of_item text.now buf.old buf.new (length (marked text.now) - from) pos result (reads (one levels) (drop from (marked text.now))) }
@@ -187,7 +205,7 @@ fn seldom(
     levels: usize,
     buf: &mut [u8],
     pos: usize,
-) -> ReadAnswer
+) -> Result<MadeItem, Refusal>
     requires level_at { LevelAt text.now from at q levels }
     requires room { Room text.now from pos }
     ensures { ReadTold of_item text.now buf.old buf.new (length (marked text.now) - from) pos result (reads (one levels) (drop from (marked text.now))) }
@@ -211,7 +229,7 @@ fn level(
     levels: usize,
     buf: &mut [u8],
     pos: usize,
-) -> ReadAnswer
+) -> Result<MadeItem, Refusal>
     requires level_at { LevelAt text.now from at q levels }
     requires room { Room text.now from pos }
     ensures { ReadTold of_item text.now buf.old buf.new (length (marked text.now) - from) pos result (reads (one levels) (drop from (marked text.now))) }
@@ -246,31 +264,20 @@ fn array(
     levels: usize,
     buf: &mut [u8],
     pos: usize,
-) -> ReadAnswer
+) -> Result<MadeItem, Refusal>
     requires { Bracketed text.now at pos place indicator }
     ensures { ReadTold of_item text.now buf.old buf.new (length (marked text.now) - at + 1) pos result (behind_opener levels (bracket (indicator_for indicator)) (length (marked text.now) - place) (drop at (marked text.now))) }
 {
-    let a = several(text, at, Closer::Square, levels, buf, pos + 1);
-    match a {
-        ReadAnswer::Refused(e) => {
-            let kind = e.kind;
-            ReadAnswer::Refused(Refusal {
-                kind,
-                place: e.place,
-            })
-        }
-        ReadAnswer::Made(m) => {
-            if is_short(indicator, m.count) {
-                return finish_short(buf, pos, ARRAY, m.count, m.next, m.size);
-            }
-            if indicator == INDEFINITE {
-                return endless(buf, pos, ENDLESS_ARRAY, m.next, m.size, false, 0);
-            }
-            finish(
-                buf, pos, ARRAY, indicator, m.count, m.next, m.size, place, false, 0,
-            )
-        }
+    let m = several(text, at, Closer::Square, levels, buf, pos + 1)?;
+    if is_short(indicator, m.count) {
+        return finish_short(buf, pos, ARRAY, m.count, m.next, m.size);
     }
+    if indicator == INDEFINITE {
+        return endless(buf, pos, ENDLESS_ARRAY, m.next, m.size, false, 0);
+    }
+    finish(
+        buf, pos, ARRAY, indicator, m.count, m.next, m.size, place, false, 0,
+    )
 }
 
 // A map behind its brace.
@@ -283,31 +290,20 @@ fn map(
     levels: usize,
     buf: &mut [u8],
     pos: usize,
-) -> ReadAnswer
+) -> Result<MadeItem, Refusal>
     requires { Bracketed text.now at pos place indicator }
     ensures { ReadTold of_item text.now buf.old buf.new (length (marked text.now) - at + 1) pos result (behind_opener levels (brace (indicator_for indicator)) (length (marked text.now) - place) (drop at (marked text.now))) }
 {
-    let a = several(text, at, Closer::Curly, levels, buf, pos + 1);
-    match a {
-        ReadAnswer::Refused(e) => {
-            let kind = e.kind;
-            ReadAnswer::Refused(Refusal {
-                kind,
-                place: e.place,
-            })
-        }
-        ReadAnswer::Made(m) => {
-            if is_short(indicator, m.count) {
-                return finish_short(buf, pos, MAP, m.count, m.next, m.size);
-            }
-            if indicator == INDEFINITE {
-                return endless(buf, pos, ENDLESS_MAP, m.next, m.size, false, 0);
-            }
-            finish(
-                buf, pos, MAP, indicator, m.count, m.next, m.size, place, false, 0,
-            )
-        }
+    let m = several(text, at, Closer::Curly, levels, buf, pos + 1)?;
+    if is_short(indicator, m.count) {
+        return finish_short(buf, pos, MAP, m.count, m.next, m.size);
     }
+    if indicator == INDEFINITE {
+        return endless(buf, pos, ENDLESS_MAP, m.next, m.size, false, 0);
+    }
+    finish(
+        buf, pos, MAP, indicator, m.count, m.next, m.size, place, false, 0,
+    )
 }
 
 // Items in angles, as a byte string.
@@ -319,22 +315,13 @@ fn embed(
     levels: usize,
     buf: &mut [u8],
     pos: usize,
-) -> ReadAnswer
+) -> Result<MadeItem, Refusal>
     requires { Opened text.now at pos place }
     ensures { ReadTold of_item text.now buf.old buf.new (length (marked text.now) - at + 1) pos result (behind_opener levels embedding (length (marked text.now) - place) (drop at (marked text.now))) }
 {
     let room = room_for(text, at, buf.len(), pos);
-    let a = several(text, at, Closer::Angle, levels, buf, pos + room);
-    match a {
-        ReadAnswer::Refused(e) => {
-            let kind = e.kind;
-            ReadAnswer::Refused(Refusal {
-                kind,
-                place: e.place,
-            })
-        }
-        ReadAnswer::Made(m) => enclose(buf, pos, room, m.indicator, m.next, m.size, place),
-    }
+    let m = several(text, at, Closer::Angle, levels, buf, pos + room)?;
+    enclose(buf, pos, room, m.indicator, m.next, m.size, place)
 }
 
 // A tag behind its number: its head, and the item.
@@ -348,22 +335,13 @@ fn tag(
     levels: usize,
     buf: &mut [u8],
     pos: usize,
-) -> ReadAnswer
+) -> Result<MadeItem, Refusal>
     requires { Opened text.now at pos place }
     ensures { ReadTold (of_tagged first number) text.now buf.old buf.new (length (marked text.now) - at + 1) pos result (tagged_read levels number (length (marked text.now) - place) (drop at (marked text.now))) }
 {
     let size = put_head(buf, pos, first, number);
-    let a = several(text, at, Closer::Round, levels, buf, pos + size);
-    match a {
-        ReadAnswer::Refused(e) => {
-            let kind = e.kind;
-            ReadAnswer::Refused(Refusal {
-                kind,
-                place: e.place,
-            })
-        }
-        ReadAnswer::Made(m) => tagged(number, size, m.next, m.size, m.binary, m.length, place),
-    }
+    let m = several(text, at, Closer::Round, levels, buf, pos + size)?;
+    tagged(number, size, m.next, m.size, m.binary, m.length, place)
 }
 
 // The items up to what closes them.
@@ -375,7 +353,7 @@ fn several(
     levels: usize,
     buf: &mut [u8],
     pos: usize,
-) -> ReadAnswer
+) -> Result<MadeItem, Refusal>
     requires { Room text.now from pos }
     ensures { ReadTold as_seen text.now buf.old buf.new (length (marked text.now) - from) pos result (several_read closer levels (drop from (marked text.now))) }
 {
@@ -389,44 +367,39 @@ fn several(
     let mut size: usize = 0;
     let mut key = starts(closer);
     loop {
-        let a = item(text, at, levels, buf, pos + size);
-        match a {
-            ReadAnswer::Refused(e) => {
-                let kind = e.kind;
-                return ReadAnswer::Refused(Refusal {
-                    kind,
-                    place: e.place,
+        let m = item(text, at, levels, buf, pos + size)?;
+        n += counted(key);
+        size += m.size;
+        let f = followed(text, m.next, closer, key);
+        let follow = f.follow;
+        match follow {
+            Follow::Over => {
+                return Ok(MadeItem {
+                    next: f.next,
+                    size,
+                    count: n,
+                    indicator: f.indicator,
+                    binary: m.binary,
+                    length: m.length,
                 });
             }
-            ReadAnswer::Made(m) => {
-                n += counted(key);
-                size += m.size;
-                let f = followed(text, m.next, closer, key);
-                let follow = f.follow;
-                match follow {
-                    Follow::Over => {
-                        return ReadAnswer::Made(MadeItem {
-                            next: f.next,
-                            size,
-                            count: n,
-                            indicator: f.indicator,
-                            binary: m.binary,
-                            length: m.length,
-                        });
-                    }
-                    Follow::Stray => return again(stray(text, m.next, levels)),
-                    Follow::On => {
-                        at = f.next;
-                        key = turned(closer, key);
-                    }
-                }
+            Follow::Stray => return again(stray(text, m.next, levels)),
+            Follow::On => {
+                at = f.next;
+                key = turned(closer, key);
             }
         }
     }
 }
 
 // One item, and where the text goes on behind it.
-pub fn single(text: &[u8], from: usize, levels: usize, buf: &mut [u8], pos: usize) -> ReadAnswer
+pub fn single(
+    text: &[u8],
+    from: usize,
+    levels: usize,
+    buf: &mut [u8],
+    pos: usize,
+) -> Result<MadeItem, Refusal>
     requires { Room text.now from pos }
     ensures { ReadTold of_item text.now buf.old buf.new (length (marked text.now) - from) pos result (reads (one levels) (drop from (marked text.now))) }
 {
@@ -434,7 +407,7 @@ pub fn single(text: &[u8], from: usize, levels: usize, buf: &mut [u8], pos: usiz
 }
 
 // All items of a text, their bytes at the front of the buffer, if they fit.
-pub fn read_items(text: &[u8], buf: &mut [u8]) -> ReadAnswer
+pub fn read_items(text: &[u8], buf: &mut [u8]) -> Result<MadeItem, Refusal>
     requires { length text.now ≤ most_bytes }
     ensures { ReadTold of_closed text.now buf.old buf.new (length (marked text.now)) 0 result (sequence text.now) }
 {

@@ -7,7 +7,8 @@ use Rattle.cbor.specs.Decode.{most_bytes}
 use Rattle.notation.specs.Reading.{sequence}
 use Rattle.operations.specs.Operations.{and_then, fitting, written}
 use Rattle.outcome.specs.Outcomes.{outcome_of, Roomy}
-use Rattle.outcome.specs.declared.Answer.{Answer}
+use Rattle.std.specs.Prelude as std
+use Rattle.refusal.specs.declared.Refusal.{Refusal}
 
 -- the tokens of a text that passed, and their items
 unfoldable pub items_read : List ℕ → Verdict Items
@@ -18,5 +19,5 @@ pub record Ready (s made : List ℕ) : Type 0 where
   pub short : length s ≤ most_bytes
   pub roomy : Roomy s made
 
-pub record Encodes (s b b' : List ℕ) (r : Answer) : Type 0 where
+pub record Encodes (s b b' : List ℕ) (r : std.Result ℕ Refusal) : Type 0 where
   pub is : outcome_of r b' ≡ written b (λ v. v) (and_then (items_read s) (λ xs. fitting b (encode_all xs)))

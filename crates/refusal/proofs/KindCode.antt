@@ -1,14 +1,11 @@
 -- The numbers of the kinds of refusal, in code.
 use Prim.Native.Nat.{ℕ, suc, ◌-◌, ◌≤◌}
 use native.Mathlib.Omega.{arith}
-use mathlib.Core.Path.{◌≡◌, ap, ◌∙◌, sym}
+use mathlib.Core.Path.{◌≡◌, ◌∙◌, sym}
 use Rattle.refusal.specs.RefusalKinds.{kind_number, Kinded}
 use Rattle.refusal.specs.declared.RefusalKind.{RefusalKind}
 
-pub kind-is : {k k' : RefusalKind} {n : ℕ} → k ≡ k' → n ≡ kind_number k' → n ≡ kind_number k
-kind-is e f = f ∙ sym (ap kind_number e)
-
--- and the kinds of the numbers: a number that is none of 1 to m is above m
+-- a number that is none of 1 to m is above m
 pub record Above (n m : ℕ) : Type 0 where
   pub is : 1 ≤ n → suc m ≤ n
 

@@ -7,7 +7,7 @@ ghost use Rattle.std.specs.Prelude.{◌≡◌};
 ghost use Rattle.refusal.specs.RefusalKinds.{kind_number, Kinded};
 
 // The kinds of refusal, in the order of their numbers, 1 to 17.
-#[derive(Drop)]
+#[derive(Clone, Copy, Debug, PartialEq, Eq)]
 pub enum RefusalKind {
     TooLong,
     NotUtf8,
@@ -28,35 +28,44 @@ pub enum RefusalKind {
     NoSuchPath,
 }
 
-#[derive(Drop)]
+#[derive(Clone, Copy, Debug, PartialEq, Eq)]
 pub struct Refusal {
     pub kind: RefusalKind,
     pub place: usize,
 }
 
 // The customer's number of a kind.
+impl From<RefusalKind> for u8 {
+    ghost from_gives = { λ kind n. n ≡ kind_number kind };
+
+    #[tactic(auto, unfolding(crate::specs::RefusalKinds::kind_number))]
+    fn from(kind: RefusalKind) -> u8 {
+        match kind {
+            RefusalKind::TooLong => 1,
+            RefusalKind::NotUtf8 => 2,
+            RefusalKind::NoToken => 3,
+            RefusalKind::UnknownWord => 4,
+            RefusalKind::Dots => 5,
+            RefusalKind::Float => 6,
+            RefusalKind::OutOfRange => 7,
+            RefusalKind::BadContent => 8,
+            RefusalKind::BadIndicator => 9,
+            RefusalKind::TooDeep => 10,
+            RefusalKind::NotAllowed => 11,
+            RefusalKind::MixedChunks => 12,
+            RefusalKind::BadTypedArray => 13,
+            RefusalKind::NoRoom => 14,
+            RefusalKind::EndsInside => 15,
+            RefusalKind::NotWellFormed => 16,
+            RefusalKind::NoSuchPath => 17,
+        }
+    }
+}
+
 pub fn number(kind: RefusalKind) -> u8
     ensures { result ≡ kind_number kind }
 {
-    match kind {
-        RefusalKind::TooLong => 1,
-        RefusalKind::NotUtf8 => 2,
-        RefusalKind::NoToken => 3,
-        RefusalKind::UnknownWord => 4,
-        RefusalKind::Dots => 5,
-        RefusalKind::Float => 6,
-        RefusalKind::OutOfRange => 7,
-        RefusalKind::BadContent => 8,
-        RefusalKind::BadIndicator => 9,
-        RefusalKind::TooDeep => 10,
-        RefusalKind::NotAllowed => 11,
-        RefusalKind::MixedChunks => 12,
-        RefusalKind::BadTypedArray => 13,
-        RefusalKind::NoRoom => 14,
-        RefusalKind::EndsInside => 15,
-        RefusalKind::NotWellFormed => 16,
-        RefusalKind::NoSuchPath => 17,
-    }
+    u8::from(kind)
 }
 
 // The kind of a number.

@@ -18,9 +18,9 @@ use Rattle.hex_output.proofs.HexCode.{hex-length}
 use Rattle.operations.specs.Programs.{accepted_line, accepted_lines, at_place, refused_line}
 use Rattle.refusal.specs.RefusalKinds.{kind_number}
 use Rattle.refusal.specs.declared.Refusal.{Refusal}
-use Rattle.outcome.specs.declared.Answer.{Answer}
-use Rattle.outcome.specs.declared.Answer.TheVariants.{Written, Refused}
 use Rattle.report_lines.specs.Reports.{Reports, itself, said_of}
+use Rattle.std.specs.Prelude.{Ok, Err}
+use Rattle.std.specs.Prelude as std
 
 pub accepted-count : (n : ℕ) {b b₁ b₂ b₃ : List ℕ} {p q r : ℕ} → Prints b b₁ 0 (ascii "accepted ") p → Prints b₁ b₂ p (decimal_of n) q → Prints b₂ b₃ q (0x0a ∷ []) r → Prints b b₃ 0 (accepted_line n) r
 unfolding accepted_line
@@ -63,18 +63,18 @@ accepted-length w h =
 front_length : (b : List ℕ) → length b ≤ most_bytes → (n : ℕ) → length (take n b) ≤ most_bytes
 front_length b l n = rw (length-take n b) (omega arith)
 
-module _ (b : List ℕ) (l : length b ≤ most_bytes) {a : Answer} {o o' : List ℕ} {r : ℕ} where
-  pub said-bytes : {n : ℕ} {w : List ℕ} → a ≡ Written n → w ≡ take n b → Prints o o' 0 (accepted_lines w) r → Reports o o' (said_of accepted_lines a b) r
+module _ (b : List ℕ) (l : length b ≤ most_bytes) {a : std.Result ℕ Refusal} {o o' : List ℕ} {r : ℕ} where
+  pub said-bytes : {n : ℕ} {w : List ℕ} → a ≡ Ok n → w ≡ take n b → Prints o o' 0 (accepted_lines w) r → Reports o o' (said_of accepted_lines a b) r
   unfolding said_of
   said-bytes {n} i e p = rw i (reported (accepted-length (take n b) (front_length b l n)) (rw e at p))
 
-  pub said-text : {n : ℕ} {w : List ℕ} → a ≡ Written n → w ≡ take n b → Prints o o' 0 w r → Reports o o' (said_of itself a b) r
+  pub said-text : {n : ℕ} {w : List ℕ} → a ≡ Ok n → w ≡ take n b → Prints o o' 0 w r → Reports o o' (said_of itself a b) r
   unfolding said_of itself
   said-text {n} i e p =
       let k = front_length b l n in
       rw i (reported (omega arith) (rw e at p))
 
-pub said-refused : (lines' : List ℕ → List ℕ) (b : List ℕ) {a : Answer} {o o' : List ℕ} {r : ℕ} {e : Refusal} → a ≡ Refused e → Reports o o' (refused_line (kind_number e.kind) e.place) r → Reports o o' (said_of lines' a b) r
+pub said-refused : (lines' : List ℕ → List ℕ) (b : List ℕ) {a : std.Result ℕ Refusal} {o o' : List ℕ} {r : ℕ} {e : Refusal} → a ≡ Err e → Reports o o' (refused_line (kind_number e.kind) e.place) r → Reports o o' (said_of lines' a b) r
 unfolding said_of
 said-refused lines' b i p = rw i p
 

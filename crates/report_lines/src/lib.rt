@@ -8,7 +8,6 @@ ghost use Rattle.text_output.specs.PrintParts.{Prints};
 ghost use Rattle.operations.specs.Programs.{accepted_line, accepted_lines, at_place, refused_line};
 ghost use Rattle.report_lines.specs.Reports.{Reports, itself, said_of};
 
-use outcome::Answer;
 use refusal::Refusal;
 
 // `accepted N`.
@@ -53,30 +52,27 @@ fn refused(e: Refusal, out: &mut [u8]) -> usize
 pub fn front(bytes: &[u8], size: usize) -> &[u8]
     ensures { result.now ≡ take size bytes.now }
 {
-    if bytes.len() < size {
-        return bytes;
-    }
-    &bytes[..size]
+    &bytes[..size.min(bytes.len())]
 }
 
 // What is written of an answer of reading: the lines of the bytes that it left at the front of a buffer, or that of its refusal.
-pub fn said_of_bytes(a: Answer, bytes: &[u8], out: &mut [u8]) -> usize
+pub fn said_of_bytes(a: Result<usize, Refusal>, bytes: &[u8], out: &mut [u8]) -> usize
     requires { length bytes.now ≤ most_bytes }
     ensures { Reports out.old out.new (said_of accepted_lines a bytes.now) result }
 {
     match a {
-        Answer::Written(n) => accepted(front(bytes, n), out),
-        Answer::Refused(e) => refused(e, out),
+        Ok(n) => accepted(front(bytes, n), out),
+        Err(e) => refused(e, out),
     }
 }
 
 // The same of an answer of printing: the text itself, or the line of its refusal.
-pub fn said_of_text(a: Answer, text: &[u8], out: &mut [u8]) -> usize
+pub fn said_of_text(a: Result<usize, Refusal>, text: &[u8], out: &mut [u8]) -> usize
     requires { length text.now ≤ most_bytes }
     ensures { Reports out.old out.new (said_of itself a text.now) result }
 {
     match a {
-        Answer::Written(n) => text_output::put_all(front(text, n), out, 0),
-        Answer::Refused(e) => refused(e, out),
+        Ok(n) => text_output::put_all(front(text, n), out, 0),
+        Err(e) => refused(e, out),
     }
 }

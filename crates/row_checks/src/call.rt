@@ -1,13 +1,10 @@
-// What a turn of a row asks for: the buffers that a call is lent are filled from the line, or with what the turn before kept. Where a
-// field cannot be read a size is FAILED.
+// What a turn of a row asks for: the buffers that a call is lent are filled from the line, or with what the turn before kept. None where
+// a field cannot be read.
 ghost use Rattle.std.specs.Prelude.{◌≡◌, length};
 
-use rows::cut::{FAILED, field, number};
-use rows::fill::{copy, fill_around, fill_field, path};
-use rows::turn::{
-    BACK, CORRECT, CORRECT_USED, EDIT, EDIT_BYTES, LOOK, PRINT, READ, READ_BACK, READ_EDITED,
-    READ_REFUSED, SCAN, SHORT_PRINT, SHORT_READ,
-};
+use rows::cut::{field, number};
+use rows::fill::{Form, copy, fill_around, fill_field, path};
+use rows::turn::Turn;
 
 // What stands in a buffer that is lent, before a call.
 const LENT: u8 = 0xee;
@@ -22,100 +19,102 @@ pub fn lent() -> [u8; 65536]
     [LENT; 65536]
 }
 
+// The functions that are asked.
+#[derive(Clone, Copy, PartialEq, Eq)]
+pub enum Function {
+    Read,
+    Print,
+    Check,
+    Look,
+    Scan,
+    Correct,
+}
+
 // The function that a turn asks.
-pub fn function_of(turn: u64) -> u64 {
+pub fn function_of(turn: Turn) -> Function {
     match turn {
-        SHORT_READ | READ_BACK | EDIT | READ_EDITED | READ_REFUSED => READ,
-        SHORT_PRINT | BACK => PRINT,
-        CORRECT_USED | EDIT_BYTES => CORRECT,
-        _ => turn,
+        Turn::Read
+        | Turn::ShortRead
+        | Turn::ReadBack
+        | Turn::Edit
+        | Turn::ReadEdited
+        | Turn::ReadRefused => Function::Read,
+        Turn::Print | Turn::ShortPrint | Turn::Back => Function::Print,
+        Turn::Check => Function::Check,
+        Turn::Look => Function::Look,
+        Turn::Scan => Function::Scan,
+        Turn::Correct | Turn::CorrectUsed | Turn::EditBytes => Function::Correct,
     }
 }
 
-// Whether a turn takes a text of the line, and not bytes.
-fn takes_text(turn: u64) -> bool {
+// The form of the field that is the input.
+fn input_form(turn: Turn) -> Form {
     match turn {
-        READ | SHORT_READ | CORRECT | CORRECT_USED | EDIT_BYTES => true,
-        _ => false,
+        Turn::Read | Turn::ShortRead | Turn::Correct | Turn::CorrectUsed | Turn::EditBytes => {
+            Form::Text
+        }
+        _ => Form::Hex,
     }
 }
 
-// The number of the field that is the input.
-fn input_field(turn: u64) -> usize {
+// The number of that field.
+fn input_field(turn: Turn) -> usize {
     match turn {
-        CORRECT | CORRECT_USED => 4,
-        EDIT_BYTES => 5,
+        Turn::Correct | Turn::CorrectUsed => 4,
+        Turn::EditBytes => 5,
         _ => 1,
     }
 }
 
 // The input: a text or bytes of the line, or what the turn before kept.
-fn input_of(turn: u64, line: &[u8], before: &[u8], out: &mut [u8]) -> usize {
+fn input_of(turn: Turn, line: &[u8], before: &[u8], out: &mut [u8]) -> Option<usize> {
     match turn {
-        EDIT => fill_around(line, false, 2, out),
-        READ_EDITED | READ_REFUSED => fill_around(line, true, 5, out),
-        READ_BACK => copy(before, out),
-        _ => fill_field(takes_text(turn), line, input_field(turn), 0, out),
+        Turn::Edit => fill_around(line, false, 2, out),
+        Turn::ReadEdited | Turn::ReadRefused => fill_around(line, true, 5, out),
+        Turn::ReadBack => copy(before, out),
+        _ => fill_field(input_form(turn), line, input_field(turn), 0, out),
     }
 }
 
 // The path, where the function takes one.
-fn path_of(turn: u64, line: &[u8], out: &mut [u16]) -> usize {
+fn path_of(turn: Turn, line: &[u8], out: &mut [u16]) -> Option<usize> {
     match turn {
-        LOOK => path(field(line, 2), out),
-        CORRECT | CORRECT_USED => path(field(line, 3), out),
-        EDIT_BYTES => path(field(line, 4), out),
-        _ => 0,
+        Turn::Look => path(field(line, 2), out),
+        Turn::Correct | Turn::CorrectUsed => path(field(line, 3), out),
+        Turn::EditBytes => path(field(line, 4), out),
+        _ => Some(0),
     }
 }
 
 // The place of a scan; or how much of the buffer of a correction is in use, with the bytes of that.
-fn used_of(turn: u64, line: &[u8], before: &[u8], out: &mut [u8]) -> usize {
+fn used_of(turn: Turn, line: &[u8], before: &[u8], out: &mut [u8]) -> Option<usize> {
     match turn {
-        SCAN => number(field(line, 2)),
-        CORRECT | CORRECT_USED => fill_field(false, line, 1, 0, out),
-        EDIT_BYTES => copy(before, out),
-        _ => 0,
+        Turn::Scan => number(field(line, 2)),
+        Turn::Correct | Turn::CorrectUsed => fill_field(Form::Hex, line, 1, 0, out),
+        Turn::EditBytes => copy(before, out),
+        _ => Some(0),
     }
 }
 
-// One byte too few for what the turn before kept.
-fn too_short(kept: usize) -> usize {
-    if kept == 0 {
-        return 0;
-    }
-    kept - 1
-}
-
-// How much is lent: for a correction the used bytes, and the spare ones behind them.
-fn room_of(turn: u64, line: &[u8], kept: usize, used: usize, out: &mut [u8]) -> usize {
+// How much is lent: for a correction the used bytes, and the spare ones behind them; or one byte too few for what the turn before kept.
+fn room_of(turn: Turn, line: &[u8], kept: usize, used: usize, out: &mut [u8]) -> Option<usize> {
     match turn {
-        SHORT_READ | SHORT_PRINT => too_short(kept),
-        CORRECT | CORRECT_USED => fill_field(false, line, 2, used, out),
-        _ => LENT_BYTES,
+        Turn::ShortRead | Turn::ShortPrint => Some(kept.saturating_sub(1)),
+        Turn::Correct | Turn::CorrectUsed => fill_field(Form::Hex, line, 2, used, out),
+        _ => Some(LENT_BYTES),
     }
 }
 
 // The number that is asked with: in the first turn of a correction a used length that is one over the buffer.
-pub fn number_of(turn: u64, used: usize, room: usize) -> usize {
-    if turn == CORRECT {
-        if room <= LENT_BYTES {
-            return room + 1;
-        }
+pub fn number_of(turn: Turn, used: usize, room: usize) -> usize {
+    match turn {
+        Turn::Correct if room <= LENT_BYTES => room + 1,
+        _ => used,
     }
-    used
 }
 
-// The room, where all that a call takes could be read.
-fn granted(input: usize, path: usize, used: usize, room: usize) -> usize {
-    if input < FAILED && path < FAILED && used < FAILED {
-        return room;
-    }
-    FAILED
-}
-
-// How much of each buffer a call takes, and how much it is lent: FAILED where something could not be read.
-#[derive(Drop)]
+// How much of each buffer a call takes, and how much it is lent.
+#[derive(Clone, Copy)]
 pub struct Asked {
     pub input: usize,
     pub path: usize,
@@ -125,21 +124,21 @@ pub struct Asked {
 
 // Fills the buffers of a call. `before` is what the turn before kept.
 pub fn prepare(
-    turn: u64,
+    turn: Turn,
     line: &[u8],
     before: &[u8],
     input: &mut [u8],
     path: &mut [u16],
     out: &mut [u8],
-) -> Asked {
-    let n = input_of(turn, line, before, input);
-    let k = path_of(turn, line, path);
-    let used = used_of(turn, line, before, out);
-    let room = room_of(turn, line, before.len(), used, out);
-    Asked {
-        input: n,
-        path: k,
+) -> Option<Asked> {
+    let input = input_of(turn, line, before, input)?;
+    let path = path_of(turn, line, path)?;
+    let used = used_of(turn, line, before, out)?;
+    let room = room_of(turn, line, before.len(), used, out)?;
+    Some(Asked {
+        input,
+        path,
         used,
-        room: granted(n, k, used, room),
-    }
+        room,
+    })
 }

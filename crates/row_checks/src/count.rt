@@ -1,31 +1,30 @@
 // Counts of rows, and the lines that show them.
-use rows::cut::{FAILED, find, part, pieces};
-use rows::turn::{COMMENT, GROUP, RIGHT};
+use rows::cut::part;
+use rows::turn::Outcome;
 
-// How many rows were right and wrong, in the group and in all; and the place of the line that begins the group.
-#[derive(Clone, Copy)]
-pub struct Tally {
+// How many rows were right and wrong.
+#[derive(Clone, Copy, Default)]
+struct Counts {
     right: u64,
     wrong: u64,
-    all_right: u64,
-    all_wrong: u64,
-    group: usize,
+}
+
+// The counts in the group and in all, and the line that begins the group.
+#[derive(Clone, Copy, Default)]
+pub struct Tally<'a> {
+    group: Option<&'a [u8]>,
+    counts: Counts,
+    all: Counts,
 }
 
 // No rows, of no group: those before the first group are counted in the last line alone.
-pub fn nothing() -> Tally {
-    Tally {
-        right: 0,
-        wrong: 0,
-        all_right: 0,
-        all_wrong: 0,
-        group: FAILED,
-    }
+pub fn nothing<'a>() -> Tally<'a> {
+    Tally::default()
 }
 
 // Counts stop at a million.
 fn one_more(n: u64) -> u64 {
-    if n < 1000000 { n + 1 } else { n }
+    n.saturating_add(1).min(1000000)
 }
 
 // A number with words before it and behind it.
@@ -36,51 +35,44 @@ fn say(before: &[u8], n: u64, behind: &[u8]) {
 }
 
 // A line: what the group is, and its counts.
-fn show(name: &[u8], right: u64, wrong: u64) {
+fn show(name: &[u8], counts: Counts) {
     io::write_all(1, name);
-    say(b": ", right, b" right, ");
-    say(b"", wrong, b" wrong\n");
+    say(b": ", counts.right, b" right, ");
+    say(b"", counts.wrong, b" wrong\n");
 }
 
 // The line of a group, if there is one; its name follows `=` and a blank.
-fn show_group(t: Tally, text: &[u8]) {
-    let at = t.group;
-    if at < text.len() {
-        let end = find(text, at, b'\n');
-        show(part(text, at + 2, end), t.right, t.wrong);
+fn show_group(t: Tally<'_>) {
+    if let Some(line) = t.group {
+        show(part(line, 2, line.len()), t.counts);
     }
 }
 
-// The counts with the line at a place, by what it came to. A row that is not right is wrong.
-pub fn counted(t: Tally, text: &[u8], at: usize, line: u64) -> Tally {
+// The counts with one line more, by its number and by what it came to.
+pub fn counted<'a>(t: Tally<'a>, number: u64, line: &'a [u8], outcome: Outcome) -> Tally<'a> {
     let mut next = t;
-    match line {
-        RIGHT => {
-            next.right = one_more(t.right);
-            next.all_right = one_more(t.all_right);
+    match outcome {
+        Outcome::Comment => {}
+        Outcome::Group => {
+            show_group(t);
+            next.group = Some(line);
+            next.counts = Counts::default();
         }
-        GROUP => {
-            show_group(t, text);
-            next.right = 0;
-            next.wrong = 0;
-            next.group = at;
+        Outcome::Right => {
+            next.counts.right = one_more(t.counts.right);
+            next.all.right = one_more(t.all.right);
         }
-        COMMENT => {}
-        _ => {
-            say(
-                b"line ",
-                pieces(part(text, 0, at), b'\n') as u64,
-                b": wrong\n",
-            );
-            next.wrong = one_more(t.wrong);
-            next.all_wrong = one_more(t.all_wrong);
+        Outcome::Wrong => {
+            say(b"line ", number, b": wrong\n");
+            next.counts.wrong = one_more(t.counts.wrong);
+            next.all.wrong = one_more(t.all.wrong);
         }
     }
     next
 }
 
 // The last group, and all.
-pub fn show_last(t: Tally, text: &[u8]) {
-    show_group(t, text);
-    show(b"all", t.all_right, t.all_wrong);
+pub fn show_last(t: Tally<'_>) {
+    show_group(t);
+    show(b"all", t.all);
 }

@@ -1,87 +1,88 @@
-// What a call answered, told as numbers.
-use checked::{Checked, Scanned};
-use outcome::Answer;
-use part::Located;
+// What a call answered, in the words of a row.
+use checked::ItemAt;
+use part::Part;
 use refusal::Refusal;
-use rows::cut::{part, same};
+use rows::cut::part;
 
-// 0 and what came of it, or the number of a refusal and its place, which is `at`. Where bytes were written `at` is how many. A part starts
-// at `at` and ends before `end`; and so does the content of an item, whose head has the other three numbers.
-#[derive(Clone, Copy)]
-pub struct Reply {
+// The number of a refusal, and its place.
+#[derive(Clone, Copy, PartialEq, Eq)]
+pub struct Refused {
     pub number: u64,
-    pub at: u64,
-    pub end: u64,
+    pub place: u64,
+}
+
+// The head of an item, and where its content starts and ends.
+#[derive(Clone, Copy)]
+pub struct Item {
     pub major: u64,
     pub info: u64,
     pub argument: u64,
+    pub content: u64,
+    pub end: u64,
 }
 
-// What `look_up` returned is not what `locate` found: a number that no refusal has.
-const ANOTHER_PART: u64 = 1000;
+// What came of a call.
+#[derive(Clone, Copy)]
+pub enum Done {
+    Accepted,
+    // So many bytes were written.
+    Written(usize),
+    // A part was found, which starts at the first number and ends before the second.
+    Part(usize, usize),
+    // What `look_up` returned is not what `locate` found.
+    AnotherPart,
+    Item(Item),
+}
 
-// An answer that is no item.
-fn short_reply(number: u64, at: u64, end: u64) -> Reply {
-    Reply {
-        number,
-        at,
-        end,
-        major: 0,
-        info: 0,
-        argument: 0,
+pub type Reply = Result<Done, Refused>;
+
+fn told_refusal(e: Refusal) -> Refused {
+    let kind = e.kind;
+    Refused {
+        number: refusal::number(kind) as u64,
+        place: e.place as u64,
     }
 }
 
-// A refusal.
-fn told_refusal(e: Refusal) -> Reply {
-    let kind = e.kind;
-    short_reply(refusal::number(kind) as u64, e.place as u64, 0)
-}
-
 // What reading, printing or correcting answered.
-pub fn told(a: Answer) -> Reply {
+pub fn told(a: Result<usize, Refusal>) -> Reply {
     match a {
-        Answer::Refused(e) => told_refusal(e),
-        Answer::Written(n) => short_reply(0, n as u64, 0),
+        Err(e) => Err(told_refusal(e)),
+        Ok(n) => Ok(Done::Written(n)),
     }
 }
 
 // What checking answered.
-pub fn told_check(c: Checked) -> Reply {
+pub fn told_check(c: Result<(), Refusal>) -> Reply {
     match c {
-        Checked::Refused(e) => told_refusal(e),
-        Checked::Accepted => short_reply(0, 0, 0),
+        Err(e) => Err(told_refusal(e)),
+        Ok(()) => Ok(Done::Accepted),
     }
 }
 
-// What `locate` answered.
-fn told_located(l: Located) -> Reply {
-    match l {
-        Located::Refused(e) => told_refusal(e),
-        Located::Part(p) => short_reply(0, p.start as u64, p.end as u64),
+// What `locate` answered, where `look_up` returned just that part of the bytes; and no bytes after a refusal.
+pub fn told_part(l: Result<Part, Refusal>, found: &[u8], bytes: &[u8]) -> Reply {
+    let (reply, expected) = match l {
+        Err(e) => (Err(told_refusal(e)), part(bytes, 0, 0)),
+        Ok(p) => (Ok(Done::Part(p.start, p.end)), part(bytes, p.start, p.end)),
+    };
+    if found == expected {
+        reply
+    } else {
+        Ok(Done::AnotherPart)
     }
-}
-
-// The same, where `look_up` returned just that part of the bytes; and no bytes after a refusal, whose end is 0.
-pub fn told_part(l: Located, found: &[u8], bytes: &[u8]) -> Reply {
-    let r = told_located(l);
-    if same(found, part(bytes, r.at as usize, r.end as usize)) {
-        return r;
-    }
-    short_reply(ANOTHER_PART, 0, 0)
 }
 
 // What scanning answered.
-pub fn told_item(s: Scanned) -> Reply {
+pub fn told_item(s: Result<ItemAt, Refusal>) -> Reply {
     match s {
-        Scanned::Refused(e) => told_refusal(e),
-        Scanned::Item(i) => Reply {
-            number: 0,
-            at: i.content as u64,
-            end: i.end as u64,
+        Err(e) => Err(told_refusal(e)),
+        Ok(i) => Ok(Done::Item(Item {
             major: i.major as u64,
             info: i.info as u64,
             argument: i.argument,
-        },
+            content: i.content as u64,
+            end: i.end as u64,
+        })),
     }
 }

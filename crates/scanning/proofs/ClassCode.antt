@@ -5,7 +5,7 @@ use mathlib.Core.List.{List}
 use mathlib.Core.Bool.{Bool, true, false, ◌||◌}
 use Prim.Native.Nat.{ℕ, ◌-◌, ◌≤◌, ◌<◌}
 use native.Mathlib.Omega.{arith}
-use lib.Dec.{T, ltb, eqb, eqb→eq}
+use lib.Dec.{T, eqb, eqb→eq}
 use lib.ListN.{length, get_or, replicate}
 use borrow.Author.Tests.{le-leb, lt-leb, ne_eqb}
 use Rattle.cbor.specs.Utf8.{is_in}
@@ -55,13 +55,9 @@ module _ (b : ℕ) (h : b ≤ 256) where
   hash_at = same-is (is hash b) (eqb b 0x23) (between (λ k. same (is hash k) (eqb k 0x23)) 0 257 tt b (omega arith) (omega arith))
 
 module _ {b : ℕ} where
-  pub blank-tab : b ≡ 0x09 → true ≡ is blank b
-  unfolding is class_number class_of class_in class_rows is_in
-  blank-tab e = rw e
-
-  pub blank_line : b ≡ 0x0a → true ≡ is blank b
-  unfolding is class_number class_of class_in class_rows is_in
-  blank_line e = rw e
+  pub blank_tabs : 0x09 ≤ b → b < 0x0b → true ≡ is blank b
+  unfolding is class_number class_of class_in class_rows is_in same
+  blank_tabs l h = same-is true (is blank b) (between (λ k. same true (is blank k)) 0x09 0x0b tt b l h)
 
   pub blank_return : b ≡ 0x0d → true ≡ is blank b
   unfolding is class_number class_of class_in class_rows is_in
@@ -74,8 +70,6 @@ module _ {b : ℕ} where
   pub blank_none : b < 256 → (b ≡ 0x09 → ⊥) → (b ≡ 0x0a → ⊥) → (b ≡ 0x0d → ⊥) → (b ≡ 0x20 → ⊥) → false ≡ is blank b
   unfolding is_blank
   blank_none h n₁ n₂ n₃ n₄ = sym (blank-is b (omega arith) ∙ simp (is_blank, ne_eqb b 0x09 n₁, ne_eqb b 0x0a n₂, ne_eqb b 0x0d n₃, ne_eqb b 0x20 n₄))
-
-pub ruleset blank_ways = (blank-tab, blank_line, blank_return, blank-space, blank_none)
 
 -- WORDS: between two bounds all bytes are in them, or none
 
@@ -103,11 +97,15 @@ module _ {b : ℕ} where
   unfolding is_word is class_number class_of class_in class_rows is_in same
   word_beyond l h = word_as false 0x5b 0x61 tt l h
 
-  pub word-above : 0x61 ≤ b → b < 256 → ltb b 0x7b ≡ is_word b
+  pub word_lower : 0x61 ≤ b → b < 0x7b → true ≡ is_word b
   unfolding is_word is class_number class_of class_in class_rows is_in same
-  word-above l h = same-is (ltb b 0x7b) (is_word b) (between (λ k. same (ltb k 0x7b) (is_word k)) 0x61 256 tt b l h)
+  word_lower l h = word_as true 0x61 0x7b tt l h
 
-pub ruleset word_ways = (word_below, word-digit, word-between, word_upper, word_beyond, word-above)
+  pub word-above : 0x7b ≤ b → b < 256 → false ≡ is_word b
+  unfolding is_word is class_number class_of class_in class_rows is_in same
+  word-above l h = word_as false 0x7b 256 tt l h
+
+pub ruleset word_ways = (word_below, word-digit, word-between, word_upper, word_beyond, word_lower, word-above)
 
 -- COMMENTS
 

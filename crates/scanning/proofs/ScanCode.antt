@@ -1,13 +1,14 @@
 -- Scanning: what the code knows at each return and each turn of a loop, and that this is what the definitions say.
 -- Assumes nothing.
-use mathlib.Core.Path.{◌≡◌, refl, sym, ap, ◌∙◌}
+use mathlib.Core.Path.{◌≡◌, refl, sym, subst, ap, ◌∙◌}
 use mathlib.Core.List.{List, [], ◌∷◌}
+use Rattle.std.specs.Prelude.{Option}
 use mathlib.Core.Bool.{Bool, true, false, not}
 use Prim.Native.Nat.{ℕ, zero, suc, ◌+◌, ◌-◌, ◌≤◌, ◌<◌}
 use native.Mathlib.Nat.{add-zero}
 use native.Mathlib.Omega.{arith}
 use lib.Dec.{leb, eqb}
-use lib.ListN.{length, take, drop, get_or}
+use lib.ListN.{length, drop, get_or}
 use borrow.Author.Tests.{eqb-true, eqb-false, ne_eqb, eq-eqb, leb-true, leb-false, not-true, not-false}
 use Rattle.cbor.specs.Refusals.{ok}
 use Rattle.cbor.specs.Utf8.{is_in}
@@ -16,9 +17,9 @@ use Rattle.notation.specs.Classes.{blank, class_number, class_rows, class_in, cl
 use Rattle.notation.specs.Scanning.{is_comment, Skipping, between, Skipped, skips, stops, skipped, left_in, skip_from, skip, fault, whether, expect}
 use Rattle.notation.specs.Reading.{marked}
 use Rattle.scanning.specs.TextRuns.{Textual, TextRun}
-use Rattle.scanning.specs.ScanAnswers.{Unblank, Blanks, InComment, in_comment, Ends, Begins, CommentEnd, PastComment, Skips, Ran, is_next, Peeked}
+use Rattle.scanning.specs.ScanAnswers.{Unblank, InComment, in_comment, Ends, Begins, Unbegun, CommentEnd, Passed, Ran, is_next, Peeked}
 use Rattle.scanning.proofs.ClassCode.{slash-at, hash_at, comment_high}
-use Rattle.scanning.proofs.Marked.{tail_is, length_marked, at_byte, at-end, past_end, Running, run-start, run_step, run_stop, run_end}
+use Rattle.scanning.proofs.Marked.{length_marked, at_byte, at-end, past_end, Running, run-start, run_step, run_stop, run_end}
 
 pub eqb_sym : (a b : ℕ) → eqb a b ≡ eqb b a
 eqb_sym a b = go (eqb a b) refl
@@ -42,9 +43,6 @@ pub record Blanking (s : List ℕ) (i at : ℕ) : Type 0 where
   pub inside : at ≤ length (marked s)
   pub ahead : i ≤ at
 
-pub blanks_start : {s : List ℕ} {i : ℕ} → i ≤ length (marked s) → Blanking s i i
-blanks_start h = record { same = refl; inside = h; ahead = omega arith }
-
 module _ {s : List ℕ} {i at : ℕ} (inv : Blanking s i at) where
   module _ {t : Bool} (h : at < length s) (e : t ≡ is blank (get_or s at 0)) where
     pub blanks_on : not t ≡ false → Blanking s i (at + 1)
@@ -57,12 +55,6 @@ module _ {s : List ℕ} {i at : ℕ} (inv : Blanking s i at) where
           ahead = omega (arith, inv.ahead);
         }
 
-    pub blanks_stop : not t ≡ true → Blanks s i at
-    blanks_stop f = record { same = inv.same; ends = record { is = λ g. sym e ∙ not-true t f; inside = inv.inside }; ahead = inv.ahead }
-
-  pub blanks_end : length s ≤ at → Blanks s i at
-  blanks_end h = record { same = inv.same; ends = record { is = λ g. absurd (omega arith); inside = inv.inside }; ahead = inv.ahead }
-
 -- WHERE A COMMENT BEGINS
 
 ends-slash : Ends 0x2f
@@ -74,9 +66,9 @@ unfolding in_comment skipped
 ends_line = record { is = λ c b s h. refl }
 
 module _ {s : List ℕ} {at : ℕ} (u : Unblank s at) where
-  pub comment_past : length s ≤ at → CommentEnd s at 0
+  pub comment_past : length s ≤ at → Unbegun s at
   unfolding skip skip_from skipped left_in is class_number class_of class_in class_rows is_in
-  comment_past h = record { none = λ z. go (leb at (length s)) refl; some = λ n. absurd (n refl); inside = u.inside }
+  comment_past h = record { is = go (leb at (length s)) refl; inside = u.inside }
     where
       go : (t : Bool) → leb at (length s) ≡ t → skip (drop at (marked s)) ≡ drop at (marked s)
       go true q = let f : at ≡ length s = omega (arith, leb-true at (length s) q) in rw (at-end s at f)
@@ -86,44 +78,35 @@ module _ {s : List ℕ} {at : ℕ} (u : Unblank s at) where
     here : {k : Skipping} → skipped between (get_or s at 0) (drop (at + 1) (marked s)) ≡ skips k → skip (drop at (marked s)) ≡ skip_from k (drop (at + 1) (marked s))
     here e = ap skip (at_byte s at h) ∙ skip_by (get_or s at 0) (drop (at + 1) (marked s)) e
 
-    pub comment_slash : get_or s at 0 ≡ 0x2f → CommentEnd s at 0x2f
+    pub comment_slash : get_or s at 0 ≡ 0x2f → Begins s at 0x2f
     unfolding skipped in_comment is class_number class_of class_in class_rows is_in
     comment_slash e =
         record {
-          none = λ z. absurd (omega arith);
-          some = λ n. record {
-            here = h;
-            is = here (rw (at_byte s at h, e));
-            ends = ends-slash;
-            byte = omega arith;
-          };
-          inside = u.inside;
+          here = h;
+          is = here (rw (at_byte s at h, e));
+          ends = ends-slash;
+          byte = omega arith;
         }
 
-    pub comment_hash : get_or s at 0 ≡ 0x23 → CommentEnd s at 0x0a
+    pub comment_hash : get_or s at 0 ≡ 0x23 → Begins s at 0x0a
     unfolding skipped in_comment is class_number class_of class_in class_rows is_in
     comment_hash e =
         record {
-          none = λ z. absurd (omega arith);
-          some = λ n. record {
-            here = h;
-            is = here (rw (at_byte s at h, e));
-            ends = ends_line;
-            byte = omega arith;
-          };
-          inside = u.inside;
+          here = h;
+          is = here (rw (at_byte s at h, e));
+          ends = ends_line;
+          byte = omega arith;
         }
 
-    pub comment_none : (get_or s at 0 ≡ 0x2f → ⊥) → (get_or s at 0 ≡ 0x23 → ⊥) → get_or s at 0 < 256 → CommentEnd s at 0
+    pub comment_none : (get_or s at 0 ≡ 0x2f → ⊥) → (get_or s at 0 ≡ 0x23 → ⊥) → get_or s at 0 < 256 → Unbegun s at
     unfolding skipped
     comment_none n m l =
         let b = get_or s at 0 in
         let k : b ≤ 256 = omega arith in
         record {
-          none = λ z.
+          is =
               ap skip (at_byte s at h)
               ∙ (skip-stops b (drop (at + 1) (marked s)) (simp (skipped, u.is h, slash-at b k, ne_eqb b 0x2f n, hash_at b k, ne_eqb b 0x23 m)) ∙ sym (at_byte s at h));
-          some = λ n. absurd (n refl);
           inside = u.inside;
         }
 
@@ -136,9 +119,6 @@ pub record Commenting (s : List ℕ) (from end at : ℕ) : Type 0 where
   pub same : skip (drop from (marked s)) ≡ skip_from (in_comment end (drop from (marked s))) (drop at (marked s))
   pub inside : at ≤ length s
   pub ahead : from < at
-
-pub comment_start : {s : List ℕ} {from end : ℕ} → Begins s from end → Commenting s from end (from + 1)
-comment_start g = record { begins = g; same = g.is; inside = omega (arith, g.here); ahead = omega arith }
 
 -- a byte of the comment
 module _ {s : List ℕ} {from end at : ℕ} (inv : Commenting s from end at) (h : at < length s) (l : get_or s at 0 < 256) where
@@ -160,8 +140,8 @@ module _ {s : List ℕ} {from end at : ℕ} (inv : Commenting s from end at) (h 
   next-end e = next_is (skips between) (rw (eq-eqb (get_or s at 0) end e))
 
 -- a comment that does not end well
-unended : {s : List ℕ} {from : ℕ} → from < length s → skip (drop from (marked s)) ≡ drop from (marked s) → PastComment s from from
-unended {s} h e = record { bad = λ z. e; good = λ n. absurd (n refl); inside = omega (arith, length_marked s); ahead = omega arith }
+unended : {s : List ℕ} {from : ℕ} → from < length s → skip (drop from (marked s)) ≡ drop from (marked s) → Unbegun s from
+unended {s} h e = record { is = e; inside = omega (arith, length_marked s) }
 
 run_in : {s : List ℕ} {from end at : ℕ} (n : ℕ) → Commenting s from end at → ((j : ℕ) → at ≤ j → j < at + n → Textual end end (get_or s j 0)) → at + n ≤ length s → Commenting s from end (at + n)
 run_in {s} {from} {end} {at} zero inv f l = rw add-zero inv
@@ -172,7 +152,7 @@ run_in {s} {from} {end} {at} (suc n) inv f l =
 
 module _ {s : List ℕ} {from end at : ℕ} (inv : Commenting s from end at) where
   -- at the end mark
-  pub comment_ended : length s ≤ at → PastComment s from from
+  pub comment_ended : length s ≤ at → Unbegun s from
   unfolding skip_from is_comment is class_number class_of class_in class_rows is_in
   comment_ended h =
       let e : at ≡ length s = omega (arith, inv.inside) in
@@ -187,68 +167,30 @@ module _ {s : List ℕ} {from end at : ℕ} (inv : Commenting s from end at) whe
         rw z at (run_in (stop - at) inv (λ j a b. r.is j a (omega arith)) (omega (arith, r.inside)))
 
     module _ (h : stop < length s) where
-      pub comment_closed : get_or s stop 0 ≡ end → PastComment s from (stop + 1)
+      pub comment_closed : get_or s stop 0 ≡ end → Passed s from (stop + 1)
       comment_closed e =
           let i = run_to in
           let l : get_or s stop 0 < 256 = omega (arith, inv.begins.byte) in
-          record { bad = λ z. absurd (omega (arith, i.ahead)); good = λ n. next-end i h l e; inside = omega (arith, length_marked s); ahead = omega (arith, i.ahead) }
+          record { same = next-end i h l e; inside = omega (arith, length_marked s); ahead = omega (arith, i.ahead) }
 
       module _ {t : Bool} (n : get_or s stop 0 ≡ end → ⊥) (x : InComment (get_or s stop 0) t) where
         pub comment_on : not t ≡ false → Commenting s from end (stop + 1)
         comment_on f = next_in run_to h x.byte n (sym x.is ∙ not-false t f)
 
-        pub comment_wrong : not t ≡ true → PastComment s from from
+        pub comment_wrong : not t ≡ true → Unbegun s from
         comment_wrong f = unended inv.begins.here (next_out run_to h x.byte n (sym x.is ∙ not-true t f))
 
-pub comment_open : {s : List ℕ} {from end at stop : ℕ} → Commenting s from end at → TextRun s end end at stop → length s ≤ stop → PastComment s from from
+pub comment_open : {s : List ℕ} {from end at stop : ℕ} → Commenting s from end at → TextRun s end end at stop → length s ≤ stop → Unbegun s from
 comment_open inv r h = comment_ended (run_to inv r) h
 
 pub ruleset comment_ways = (comment_closed, comment_wrong, comment_open, comment_ended)
 
 -- BLANKS AND COMMENTS IN TURN
 
-pub record Skimming (s : List ℕ) (i at end : ℕ) : Type 0 where
+pub record Skimming (s : List ℕ) (i at : ℕ) (end : Option ℕ) : Type 0 where
   pub same : skip (drop i (marked s)) ≡ skip (drop at (marked s))
   pub next : CommentEnd s at end
   pub ahead : i ≤ at
-
-pub skim_start : {s : List ℕ} {i end : ℕ} → CommentEnd s i end → Skimming s i i end
-skim_start x = record { same = refl; next = x; ahead = omega arith }
-
-module _ {s : List ℕ} {i at end : ℕ} (inv : Skimming s i at end) where
-  pub skim_begins : (end ≡ 0 → ⊥) → Begins s at end
-  skim_begins n = inv.next.some n
-
-  stopped : skip (drop at (marked s)) ≡ drop at (marked s) → Skips s i at
-  stopped e = record { stands = record { inside = inv.next.inside; drops = sym (inv.same ∙ e) }; ahead = inv.ahead }
-
-  pub skim_end : end ≡ 0 → Skips s i at
-  skim_end e = stopped (inv.next.none e)
-
-  module _ {next : ℕ} (x : PastComment s at next) where
-    pub skim_stop : next ≡ at → Skips s i at
-    skim_stop e = stopped (x.bad e)
-
-    pub skim_on : {at' end' : ℕ} → (next ≡ at → ⊥) → Blanks s next at' → CommentEnd s at' end' → Skimming s i at' end'
-    skim_on n y z = record { same = inv.same ∙ (x.good n ∙ y.same); next = z; ahead = omega (arith, inv.ahead, x.ahead, y.ahead) }
-
--- the whole text, lent anew
-whole : (s : List ℕ) → take (length s - 0) (drop 0 s) ≡ s
-whole s = tail_is s 0
-
-module _ {s : List ℕ} {i at end : ℕ} (x : Blanks s i at) (y : CommentEnd s at end) where
-  pub skip-here : end ≡ 0 → Skips s i at
-  skip-here e = skim_end (record { same = x.same; next = y; ahead = x.ahead }) e
-
-pub comment_lent : {s : List ℕ} {at end : ℕ} → CommentEnd s at end → CommentEnd (take (length s - 0) (drop 0 s)) at end
-comment_lent {s} x = rw (whole s) x
-
-pub skip-on : {s : List ℕ} {i at r : ℕ} → Blanks s i at → Skips (take (length s - 0) (drop 0 s)) at r → Skips s i r
-skip-on {s} {i} {at} {r} x y =
-    let z : Skips s at r = rw (whole s) at y in
-    record { stands = record { inside = z.stands.inside; drops = z.stands.drops ∙ sym x.same }; ahead = omega (arith, x.ahead, z.ahead) }
-
-pub ruleset skip_ways = (skip-here, skip-on)
 
 -- WORDS
 module _ (s : List ℕ) {i : ℕ} where
@@ -262,9 +204,9 @@ module _ (s : List ℕ) {i : ℕ} where
     pub word_stop : (t : Bool) → at < length s → t ≡ is_word (get_or s at 0) → not t ≡ true → Ran s is_word i at
     word_stop t h e f = run_stop s is_word i r h (sym e ∙ not-true t f)
 
-    pub word_end : length s ≤ at → Ran s is_word i at
+    pub word_end : length s ≤ at → Ran s is_word i (length s)
     unfolding is_word is class_number class_of class_in class_rows is_in
-    word_end h = run_end s is_word i r h refl
+    word_end h = let e : at ≡ length s = omega (arith, r.inside) in subst (Ran s is_word i) e (run_end s is_word i r h refl)
 
 -- THE NEXT ELEMENT
 pub peek_none : (s : List ℕ) (at c : ℕ) → length s ≤ at → c < 256 → Peeked s at c false

@@ -1,5 +1,5 @@
 -- Of the code: what the code that scans answers. s is a text; the definitions read it with its end mark.
-use Rattle.std.specs.Prelude.{ℕ, ◌+◌, ◌≤◌, ◌<◌, ◌≡◌, Bool, true, false, List, [], ◌∷◌, eqb, length, drop, get_or}
+use Rattle.std.specs.Prelude.{ℕ, ◌+◌, ◌≤◌, ◌<◌, ◌≡◌, Bool, true, false, Option, None, Some, List, [], ◌∷◌, eqb, length, drop, get_or}
 use Rattle.cbor.specs.Refusals.{ok}
 use Rattle.notation.specs.Classes.{blank, class_number, class_of, is}
 use Rattle.notation.specs.Scanning.{is_comment, Skipping, between, slashed, hashed, skips, stops, skipped, skip_from, skip, run}
@@ -44,18 +44,26 @@ pub record Begins (s : List ℕ) (at end : ℕ) : Type 0 where
   pub ends : Ends end
   pub byte : end < 256
 
--- at a place where no blank stands: 0 where no comment begins either
-pub record CommentEnd (s : List ℕ) (at end : ℕ) : Type 0 where
-  pub none : end ≡ 0 → skip (drop at (marked s)) ≡ drop at (marked s)
-  pub some : (end ≡ 0 → ⊥) → Begins s at end
+-- no blank and no comment begins at a place
+pub record Unbegun (s : List ℕ) (at : ℕ) : Type 0 where
+  pub is : skip (drop at (marked s)) ≡ drop at (marked s)
   pub inside : at ≤ length (marked s)
 
--- past a comment: `at` itself where it does not end well
-pub record PastComment (s : List ℕ) (at r : ℕ) : Type 0 where
-  pub bad : r ≡ at → skip (drop at (marked s)) ≡ drop at (marked s)
-  pub good : (r ≡ at → ⊥) → skip (drop at (marked s)) ≡ skip (drop r (marked s))
+-- at a place where no blank stands: the byte that ends the comment that begins there
+abbrev pub CommentEnd : List ℕ → ℕ → Option ℕ → Type 0
+CommentEnd s at None = Unbegun s at
+CommentEnd s at (Some end) = Begins s at end
+
+-- a comment stands from one place up to another
+pub record Passed (s : List ℕ) (at r : ℕ) : Type 0 where
+  pub same : skip (drop at (marked s)) ≡ skip (drop r (marked s))
   pub inside : r ≤ length (marked s)
-  pub ahead : at ≤ r
+  pub ahead : at < r
+
+-- past a comment; none where it does not end well
+abbrev pub PastComment : List ℕ → ℕ → Option ℕ → Type 0
+PastComment s at None = Unbegun s at
+PastComment s at (Some r) = Passed s at r
 
 -- from i on there are blanks and comments up to at
 pub record Skips (s : List ℕ) (i at : ℕ) : Type 0 where

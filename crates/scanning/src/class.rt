@@ -331,11 +331,5 @@ pub fn class(b: u8) -> u8
 pub fn is_blank(b: u8) -> bool
     ensures { result ≡ is blank b }
 {
-    match b {
-        0x09 => true,
-        0x0a => true,
-        0x0d => true,
-        0x20 => true,
-        _ => false,
-    }
+    matches!(b, 0x09 | 0x0a | 0x0d | 0x20)
 }

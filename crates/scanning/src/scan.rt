@@ -7,51 +7,43 @@ ghost use Rattle.scanning.specs.ScanAnswers.{Blanks, Begins, CommentEnd, InComme
 use crate::class::is_blank;
 use crate::run::text_run;
 
-// What ends a comment where none begins.
-const NOTHING: u8 = 0;
-
 fn blanks(text: &[u8], from: usize) -> usize
     requires { from ≤ length (marked text.now) }
     ensures { Blanks text.now from result }
 {
-    let mut at = from;
-    while at < text.len() {
+    for at in from..text.len() {
         if !is_blank(text[at]) {
             return at;
         }
-        at += 1;
     }
-    at
+    // Behind the end mark it stays there.
+    from.max(text.len())
 }
 
 // Whether a byte may stand in a comment.
 fn in_comment(b: u8) -> bool
     ensures { InComment b result }
 {
-    if 0x20 <= b {
-        return true;
-    }
-    is_blank(b)
+    0x20 <= b || is_blank(b)
 }
 
-// The byte that ends the comment that begins at a place where no blank stands.
-fn comment_end(text: &[u8], at: usize) -> u8
+// The byte that ends the comment that begins at a place where no blank stands, if one does.
+fn comment_end(text: &[u8], at: usize) -> Option<u8>
     requires { Unblank text.now at }
     ensures { CommentEnd text.now at result }
 {
     if text.len() <= at {
-        return NOTHING;
+        return None;
     }
-    let b = text[at];
-    match b {
-        b'/' => b'/',
-        b'#' => b'\n',
-        _ => NOTHING,
+    match text[at] {
+        b'/' => Some(b'/'),
+        b'#' => Some(b'\n'),
+        _ => None,
     }
 }
 
-// Past a comment that begins at a place and ends with `end`; the place itself where it does not end well.
-fn comment(text: &[u8], from: usize, end: u8) -> usize
+// Past a comment that begins at a place and ends with `end`, if it ends well.
+fn comment(text: &[u8], from: usize, end: u8) -> Option<usize>
     requires { Begins text.now from end }
     ensures { PastComment text.now from result }
 {
@@ -59,32 +51,31 @@ fn comment(text: &[u8], from: usize, end: u8) -> usize
     while at < text.len() {
         let stop = text_run(text, at, end, end);
         if text.len() <= stop {
-            return from;
+            return None;
         }
         let b = text[stop];
         if b == end {
-            return stop + 1;
+            return Some(stop + 1);
         }
         if !in_comment(b) {
-            return from;
+            return None;
         }
         at = stop + 1;
     }
-    from
+    None
 }
 
 // Past the comment that begins at a place, and past blanks and comments behind it.
 fn comments(text: &[u8], from: usize, first: u8) -> usize
-    requires { CommentEnd text.now from first }
+    requires { Begins text.now from first }
     ensures { Skips text.now from result }
 {
     let mut at = from;
-    let mut end = first;
-    while end != NOTHING {
-        let next = comment(text, at, end);
-        if next == at {
+    let mut end = Some(first);
+    while let Some(last) = end {
+        let Some(next) = comment(text, at, last) else {
             return at;
-        }
+        };
         at = blanks(text, next);
         end = comment_end(text, at);
     }
@@ -98,46 +89,25 @@ pub fn skip(text: &[u8], from: usize) -> usize
     ensures { Skips text.now from result }
 {
     let at = blanks(text, from);
-    let end = comment_end(text, at);
-    if end == NOTHING {
-        return at;
+    match comment_end(text, at) {
+        None => at,
+        Some(b'/') => comments(&text[0..], at, b'/'),
+        Some(end) => comments(&text[0..], at, end),
     }
-    if end == b'/' {
-        return comments(&text[0..], at, end);
-    }
-    comments(&text[0..], at, end)
 }
 
 // Whether a letter or a digit.
 fn is_word(b: u8) -> bool
     ensures { result ≡ is_word b }
 {
-    if b < 0x30 {
-        return false;
-    }
-    if b < 0x3a {
-        return true;
-    }
-    if b < 0x41 {
-        return false;
-    }
-    if b < 0x5b {
-        return true;
-    }
-    if b < 0x61 {
-        return false;
-    }
-    b < 0x7b
+    matches!(b, b'0'..=b'9' | b'A'..=b'Z' | b'a'..=b'z')
 }
 
 // Whether the byte c stands at a place.
 pub fn next_is(text: &[u8], at: usize, c: u8) -> bool
     ensures { Peeked text.now at c result }
 {
-    if text.len() <= at {
-        return false;
-    }
-    text[at] == c
+    at < text.len() && text[at] == c
 }
 
 #[derive(Drop)]
@@ -160,13 +130,11 @@ impl TextCursor {
         requires { self.at ≤ length text.now }
         ensures { Ran text.now is_word self.at result.at }
     {
-        let mut at = self.at;
-        while at < text.len() {
+        for at in self.at..text.len() {
             if !is_word(text[at]) {
                 return TextCursor { at };
             }
-            at += 1;
         }
-        TextCursor { at }
+        TextCursor { at: text.len() }
     }
 }

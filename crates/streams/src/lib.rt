@@ -2,159 +2,103 @@
 // interrupted is made again.
 #![tactic(auto)]
 
-ghost use Rattle.std.specs.Prelude.{◌≡◌, ◌^◌, ◌<◌, ◌≤◌, pos, negsuc, Ok, IfOk, IfErr, OnErr, unwrap_or, true, false, length, take};
-ghost use Rattle.std.specs.Io.KnownBytes.{Appends, Consumes, IsAtEnd};
+ghost use Rattle.std.specs.Prelude.{◌≡◌, ◌<◌, pos, Ok, Err, IfOk, IfErr, OnOk, unwrap_or, length, take};
+ghost use Rattle.std.specs.Io.{ReadsAtMost, WritesAtMost};
+ghost use Rattle.std.specs.Io.KnownBytes.{Appends, Consumes, IsAtEnd, ReadConsumes, WriteAppends};
 ghost use Rattle.std.specs.IoError.{raw_os_error};
 ghost use Rattle.io.specs.Counts.{IsPrefixLen};
-ghost use Rattle.transfer.specs.Transfers.{transfer_of};
-ghost use Rattle.transfer.specs.declared.Next.TheVariants.{Stop};
+ghost use Rattle.transfer.specs.Transfers.{after_failure};
+ghost use Rattle.streams.specs.Streams.{count_of};
 
-use std::io::{Eprint, Error, Read, Result, Write};
-use std::str;
-use transfer::{Next, Transfer, meaning};
+use std::io::{Eprint, Error, Read, Write};
+use std::{io, str};
+use transfer::{Failure, meaning};
 
-// How many bytes were read, and whether those are all: the input has ended, or the buffer is full. If not, a read failed, and the system's
-// number of its error stands here; 0 where it has none.
-#[derive(Drop)]
-pub struct Input {
+// What stopped a stream before its end: how many bytes had been moved by then, and the system's number of the error. It is 0 where there is
+// none, as `meaning` and `fail` take it.
+#[derive(Clone, Copy, Debug, PartialEq, Eq)]
+pub struct CutOff {
     pub size: usize,
-    pub is_whole: bool,
     pub error: i32,
-}
-
-// Whether all was written. If not, a write failed, and the system's number of its error stands here; 0 where it has none.
-#[derive(Drop)]
-pub struct Output {
-    pub is_whole: bool,
-    pub error: i32,
-}
-
-// What a call of read or write came to, and the number of its error.
-#[derive(Drop)]
-struct Call {
-    transfer: Transfer,
-    error: i32,
 }
 
 // A proved loop ends, and nothing says that signals do: a number of calls that no run uses up.
 const MOST_CALLS: u64 = u64::MAX;
 
 // What the answer of a call means. A failure with no number is no interruption.
-fn came_to(answer: Result<usize>) -> Call
-    requires { IfOk answer (λ n. n < 2 ^ 63) }
-    ensures moved { IfOk answer (λ n. result.transfer.moved ≡ n) }
-    ensures failed { IfErr answer (λ e. result.transfer ≡ transfer_of (negsuc 0) result.error) }
-    ensures error { IfErr answer (λ e. result.error ≡ unwrap_or (raw_os_error e) (pos 0)) }
-    ensures none { OnErr answer (result.transfer.moved ≡ 0) }
-    ensures stop { result.transfer.next ≡ Stop → answer ≡ Ok 0 }
+#[tactic(auto, unfolding(transfer::specs::Transfers::transfer_of))]
+fn came_to(answer: io::Result<usize>) -> Result<usize, Failure>
+    ensures moved { IfOk answer (λ n. result ≡ Ok n) }
+    ensures failed { IfErr answer (λ e. result ≡ Err (after_failure (unwrap_or (raw_os_error e) (pos 0)))) }
 {
-    match answer {
-        Ok(n) => Call {
-            transfer: meaning(n as isize, 0),
-            error: 0,
-        },
-        Err(e) => {
-            let error = e.raw_os_error().unwrap_or(0);
-            Call {
-                transfer: meaning(-1, error),
-                error,
-            }
-        }
-    }
+    answer.or_else(|e| meaning(-1, e.raw_os_error().unwrap_or(0)))
 }
 
-fn read_some<R: Read>(from: &mut R, buf: &mut [u8]) -> Call
-    ensures bound { result.transfer.moved ≤ length buf.old }
-    ensures bytes { Consumes (R.remaining from.old) (R.remaining from.new) (take result.transfer.moved buf.new) }
-    ensures end { result.transfer.next ≡ Stop → 0 < length buf.old → IsAtEnd (R.remaining from.new) }
+fn read_some<R: Read>(from: &mut R, buf: &mut [u8]) -> Result<usize, Failure>
+    ensures bound { ReadsAtMost result buf.new }
+    ensures bytes { ReadConsumes (R.remaining from.old) (R.remaining from.new) result buf.new }
 {
     came_to(from.read(buf))
 }
 
-fn write_some<W: Write>(to: &mut W, buf: &[u8]) -> Call
-    ensures bound { result.transfer.moved ≤ length buf.now }
-    ensures bytes { Appends (W.contents to.old) (W.contents to.new) (take result.transfer.moved buf.now) }
+fn write_some<W: Write>(to: &mut W, buf: &[u8]) -> Result<usize, Failure>
+    ensures bound { WritesAtMost result buf.now }
+    ensures bytes { WriteAppends (W.contents to.old) (W.contents to.new) result buf.now }
 {
     came_to(to.write(buf))
 }
 
-fn whole(size: usize) -> Input
-    ensures size { result.size ≡ size }
-    ensures whole { result.is_whole ≡ true }
+// Reads until the input ends or the buffer is full, and answers how many bytes it read.
+pub fn read_all<R: Read>(from: &mut R, buf: &mut [u8]) -> Result<usize, CutOff>
+    ensures prefix { IsPrefixLen (count_of result) buf.new }
+    ensures bytes { Consumes (R.remaining from.old) (R.remaining from.new) (take (count_of result) buf.new) }
+    ensures whole { IfOk result (λ n. n < length buf.new → IsAtEnd (R.remaining from.new)) }
 {
-    Input {
-        size,
-        is_whole: true,
+    let mut read = 0;
+    for _ in 0..MOST_CALLS {
+        if read == buf.len() {
+            return Ok(read);
+        }
+        match read_some(from, &mut buf[read..]) {
+            Ok(0) => return Ok(read),
+            Ok(n) => read += n,
+            Err(Failure::Interrupted) => {}
+            Err(Failure::Other(error)) => return Err(CutOff { size: read, error }),
+        }
+    }
+    Err(CutOff {
+        size: read,
         error: 0,
-    }
+    })
 }
 
-fn cut_off(size: usize, error: i32) -> Input
-    ensures size { result.size ≡ size }
-    ensures cut_off { result.is_whole ≡ false }
-    ensures error { result.error ≡ error }
+// Writes all of a slice.
+pub fn write_all<W: Write>(to: &mut W, buf: &[u8]) -> Result<(), CutOff>
+    ensures whole { OnOk result (Appends (W.contents to.old) (W.contents to.new) buf.now) }
+    ensures front { IfErr result (λ e. Appends (W.contents to.old) (W.contents to.new) (take e.size buf.now)) }
 {
-    Input {
-        size,
-        is_whole: false,
-        error,
-    }
-}
-
-// Reads until the input ends or the buffer is full.
-pub fn read_all<R: Read>(from: &mut R, buf: &mut [u8]) -> Input
-    ensures prefix { IsPrefixLen result.size buf.new }
-    ensures bytes { Consumes (R.remaining from.old) (R.remaining from.new) (take result.size buf.new) }
-    ensures whole { result.is_whole ≡ true → result.size < length buf.new → IsAtEnd (R.remaining from.new) }
-{
-    let mut done: usize = 0;
-    let mut calls = MOST_CALLS;
-    while 0 < calls {
-        if done == buf.len() {
-            return whole(done);
+    let mut written = 0;
+    for _ in 0..MOST_CALLS {
+        if written == buf.len() {
+            return Ok(());
         }
-        let got = read_some(from, &mut buf[done..]);
-        done += got.transfer.moved;
-        calls -= 1;
-        let next = got.transfer.next;
-        match next {
-            Next::CallAgain => {}
-            Next::Stop => return whole(done),
-            Next::GiveUp => return cut_off(done, got.error),
-        }
-    }
-    cut_off(done, 0)
-}
-
-// Writes all of a slice, and answers whether it did.
-pub fn write_all<W: Write>(to: &mut W, buf: &[u8]) -> Output
-    ensures { result.is_whole ≡ true → Appends (W.contents to.old) (W.contents to.new) buf.now }
-{
-    let mut done: usize = 0;
-    let mut calls = MOST_CALLS;
-    while 0 < calls {
-        if done == buf.len() {
-            return Output {
-                is_whole: true,
+        match write_some(to, &buf[written..]) {
+            Ok(0) => return Err(CutOff {
+                size: written,
                 error: 0,
-            };
-        }
-        let put = write_some(to, &buf[done..]);
-        done += put.transfer.moved;
-        calls -= 1;
-        let next = put.transfer.next;
-        match next {
-            Next::CallAgain => {}
-            _ => return Output {
-                is_whole: false,
-                error: put.error,
-            },
+            }),
+            Ok(n) => written += n,
+            Err(Failure::Interrupted) => {}
+            Err(Failure::Other(error)) => return Err(CutOff {
+                size: written,
+                error,
+            }),
         }
     }
-    Output {
-        is_whole: false,
+    Err(CutOff {
+        size: written,
         error: 0,
-    }
+    })
 }
 
 // Writes a line to standard error: what failed, a colon, and the system's text of the error of this number.
@@ -164,9 +108,8 @@ pub fn fail<R: Eprint>(rt: &R, what: &str, error: i32) {
     let _ = write!(rest, "{}", Error::from_raw_os_error(error));
     let said = str::from_utf8(&bytes).unwrap_or("");
     // The error's number follows its text.
-    let text = match said.rsplit_once(" (os error ") {
-        Some((text, _)) => text,
-        None => said,
-    };
+    let text = said
+        .rsplit_once(" (os error ")
+        .map_or(said, |(text, _)| text);
     let _ = eprintln!(rt; "{what}: {text}");
 }

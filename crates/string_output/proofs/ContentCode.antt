@@ -2,6 +2,7 @@
 -- Assumes nothing.
 use mathlib.Core.Path.{◌≡◌, refl, sym, ap, ◌∙◌, subst}
 use mathlib.Core.Bool.{Bool, true, false}
+use mathlib.Core.Logic.{◌⊎◌, inl, inr}
 use mathlib.Core.List.{List, [], ◌∷◌, ◌++◌, append-nil}
 use Prim.Native.Nat.{ℕ, ◌+◌, ◌-◌, ◌*◌, ◌^◌, ◌≤◌, ◌<◌}
 use native.Mathlib.Omega.{arith}
@@ -27,25 +28,26 @@ module _ {b b₁ b₂ : List ℕ} {pos p q : ℕ} where
   two f g = prints-more f g
 
 module _ {b b₁ : List ℕ} {c pos p : ℕ} where
-  pub escape-quote : c ≡ 0x22 → Prints b b₁ pos (0x5c ∷ c ∷ []) p → Prints b b₁ pos (escape_of c) p
+  pub escape-marked : (c ≡ 0x22) ⊎ (c ≡ 0x5c) → Prints b b₁ pos (0x5c ∷ c ∷ []) p → Prints b b₁ pos (escape_of c) p
   unfolding escape_of
-  escape-quote e f = prints_as (sym (rw (eq-eqb c 0x22 e, escape_of))) f
+  escape-marked (inl e) f = prints_as (sym (rw (eq-eqb c 0x22 e, escape_of))) f
+  escape-marked (inr e) f = let n : c ≡ 0x22 → ⊥ = λ z. absurd (omega arith) in prints_as (sym (rw (ne_eqb c 0x22 n, eq-eqb c 0x5c e, escape_of))) f
 
-  module _ (n : c ≡ 0x22 → ⊥) where
-    pub escape-slash : c ≡ 0x5c → Prints b b₁ pos (0x5c ∷ c ∷ []) p → Prints b b₁ pos (escape_of c) p
-    unfolding escape_of
-    escape-slash e f = prints_as (sym (rw (ne_eqb c 0x22 n, eq-eqb c 0x5c e, escape_of))) f
+  pub escape-low : {b₂ : List ℕ} {q : ℕ} → c < 0x20 → Prints b b₁ pos (ascii "\\u00") p → Prints b₁ b₂ p (hex_byte_of c) q → Prints b b₂ pos (escape_of c) q
+  unfolding escape_of
+  escape-low h f g =
+      let n : c ≡ 0x22 → ⊥ = λ z. absurd (omega arith) in
+      let m : c ≡ 0x5c → ⊥ = λ z. absurd (omega arith) in
+      prints_as (sym (rw (ne_eqb c 0x22 n, ne_eqb c 0x5c m, escape_of) (rw (lt-ltb c 0x20 h)))) (prints-more f g)
 
-    module _ (m : c ≡ 0x5c → ⊥) where
-      pub escape-low : {b₂ : List ℕ} {q : ℕ} → c < 0x20 → Prints b b₁ pos (ascii "\\u00") p → Prints b₁ b₂ p (hex_byte_of c) q → Prints b b₂ pos (escape_of c) q
-      unfolding escape_of
-      escape-low h f g = prints_as (sym (rw (ne_eqb c 0x22 n, ne_eqb c 0x5c m, escape_of) (rw (lt-ltb c 0x20 h)))) (prints-more f g)
+  pub escape-none : ((c ≡ 0x22) ⊎ (c ≡ 0x5c) → ⊥) → 0x20 ≤ c → Prints b b₁ pos (c ∷ []) p → Prints b b₁ pos (escape_of c) p
+  unfolding escape_of
+  escape-none k h f =
+      let n : c ≡ 0x22 → ⊥ = λ e. k (inl e) in
+      let m : c ≡ 0x5c → ⊥ = λ e. k (inr e) in
+      prints_as (sym (rw (ne_eqb c 0x22 n, ne_eqb c 0x5c m, escape_of) (rw (le-ltb c 0x20 h)))) f
 
-      pub escape-none : 0x20 ≤ c → Prints b b₁ pos (c ∷ []) p → Prints b b₁ pos (escape_of c) p
-      unfolding escape_of
-      escape-none h f = prints_as (sym (rw (ne_eqb c 0x22 n, ne_eqb c 0x5c m, escape_of) (rw (le-ltb c 0x20 h)))) f
-
-pub ruleset escape_ways = (escape-quote, escape-slash, escape-low, escape-none)
+pub ruleset escape_ways = (escape-marked, escape-low, escape-none)
 
 module _ {b b₁ : List ℕ} {t : Bool} {pos p : ℕ} (c : ℕ) where
   pub content-text : t ≡ true → Prints b b₁ pos (escape_of c) p → Prints b b₁ pos (content_of t (c ∷ [])) p
@@ -85,9 +87,6 @@ module _ {t : Bool} {s b : List ℕ} {pos : ℕ} where
     pub fill_end : length s ≤ i → Prints b b' pos (content_of t s) p
     fill_end h = prints_as (ap (content_of t) (take_whole s i h)) inv.done
 
-    pub fill_same : length b' ≡ length b
-    fill_same = inv.done.same
-
 -- COPIES
 
 pub record CopiedTo (s b₀ : List ℕ) (pos i : ℕ) (b : List ℕ) : Type 0 where
@@ -98,17 +97,16 @@ module _ {s b : List ℕ} {pos : ℕ} where
   to_start l h = let z : pos ≡ pos + 0 = omega arith in record { done = subst (Prints b b pos []) z (prints-none l (record { fits = omega arith })) }
 
   module _ {b' : List ℕ} {i : ℕ} (inv : CopiedTo s b pos i b') where
-    pub to_same : length b' ≡ length b
-    to_same = inv.done.same
-
     pub to_on : length b * 1 < 2 ^ 63 → pos + length s ≤ length b → i < length s → CopiedTo s b pos (i + 1) (set b' (pos + i) (get_or s i 0))
     to_on l h k =
         let e = inv.done.same in
         let z : pos + i + 1 ≡ pos + (i + 1) = omega arith in
         record { done = rw z at (prints_as (sym (take_next s i k)) (prints-more inv.done (put_in (omega arith) (omega arith)))) }
 
-    pub to_end : length s ≤ i → Prints b b' pos s (pos + i)
-    to_end h = prints_as (take_whole s i h) inv.done
+    pub to_end : i ≤ length s → length s ≤ i → Prints b b' pos s (pos + length s)
+    to_end g h =
+        let z : pos + i ≡ pos + length s = omega arith in
+        rw z at (prints_as (take_whole s i h) inv.done)
 
 module _ {s b b' : List ℕ} {pos r : ℕ} where
   pub run-copied : AllPlain s → Prints b b' pos s r → Prints b b' pos (content_of true s) r
@@ -133,10 +131,3 @@ fill_less {s} {i} {e} {n} h r b = by (ltb e (length s)) refl
     by : (t : Bool) → ltb e (length s) ≡ t → length s - n < length s - i
     by true q = omega (arith, b.ahead (ltb-true e (length s) q), r.ahead, b.inside)
     by false q = omega (arith, ltb-false e (length s) q, b.behind, b.inside)
-
-module _ (s : List ℕ) {b b' : List ℕ} {t : Bool} {pos r : ℕ} where
-  pub as_text : t ≡ true → Prints b b' pos (content_of true s) r → Prints b b' pos (content_of t s) r
-  as_text e f = rw e f
-
-  pub as_hex : t ≡ false → Prints b b' pos (content_of false s) r → Prints b b' pos (content_of t s) r
-  as_hex e f = rw e f

@@ -25,17 +25,14 @@ fn backslashed(b: u8, out: &mut [u8], pos: usize) -> usize
 fn escaped(b: u8, out: &mut [u8], pos: usize) -> usize
     ensures { Prints out.old out.new pos (escape_of b) result }
 {
-    if b == b'"' {
-        return backslashed(b, out, pos);
+    match b {
+        b'"' | b'\\' => backslashed(b, out, pos),
+        0x00..=0x1f => {
+            let p = put_all(b"\\u00", out, pos);
+            hex_byte(b, out, p)
+        }
+        _ => put(out, pos, b),
     }
-    if b == b'\\' {
-        return backslashed(b, out, pos);
-    }
-    if b < b' ' {
-        let p = put_all(b"\\u00", out, pos);
-        return hex_byte(b, out, p);
-    }
-    put(out, pos, b)
 }
 
 // A byte of a string.
@@ -43,9 +40,10 @@ fn content_byte(text: bool, b: u8, out: &mut [u8], pos: usize) -> usize
     ensures { Prints out.old out.new pos (content_of text (b ∷ [])) result }
 {
     if text {
-        return escaped(b, out, pos);
+        escaped(b, out, pos)
+    } else {
+        hex_byte(b, out, pos)
     }
-    hex_byte(b, out, pos)
 }
 
 // The bytes of a string, one by one.
@@ -53,27 +51,23 @@ fn content_bytes(bytes: &[u8], text: bool, out: &mut [u8], pos: usize) -> usize
     ensures { Prints out.old out.new pos (content_of text bytes.now) result }
 {
     let mut p = pos;
-    let mut i: usize = 0;
-    while i < bytes.len() {
-        p = content_byte(text, bytes[i], out, p);
-        i += 1;
+    for &b in bytes {
+        p = content_byte(text, b, out, p);
     }
     p
 }
 
 // BLOCKS of a content
 
-// Bytes as they are, for which there is room.
+// Bytes as they are, for which there is room. Of the loop the compiler makes wide steps; `copy_from_slice` would call memmove, which the library asks of no caller.
 fn copy(bytes: &[u8], out: &mut [u8], pos: usize) -> usize
     requires { pos + length bytes.now ≤ length out.old }
     ensures { Prints out.old out.new pos bytes.now result }
 {
-    let mut i: usize = 0;
-    while i < bytes.len() {
-        out[pos + i] = bytes[i];
-        i += 1;
+    for (i, &b) in bytes.iter().enumerate() {
+        out[pos + i] = b;
     }
-    pos + i
+    pos + bytes.len()
 }
 
 // A run of bytes that stand for themselves.
@@ -81,13 +75,11 @@ fn run(bytes: &[u8], out: &mut [u8], pos: usize) -> usize
     requires { AllPlain bytes.now }
     ensures { Prints out.old out.new pos (content_of true bytes.now) result }
 {
-    if out.len() < pos {
-        return content_bytes(bytes, true, out, pos);
+    if pos <= out.len() && bytes.len() <= out.len() - pos {
+        copy(bytes, out, pos)
+    } else {
+        content_bytes(bytes, true, out, pos)
     }
-    if out.len() - pos < bytes.len() {
-        return content_bytes(bytes, true, out, pos);
-    }
-    copy(bytes, out, pos)
 }
 
 // A part of a text string.
@@ -95,9 +87,10 @@ fn part(bytes: &[u8], out: &mut [u8], pos: usize) -> usize
     ensures { Prints out.old out.new pos (content_of true bytes.now) result }
 {
     if is_plain(bytes) {
-        return run(bytes, out, pos);
+        run(bytes, out, pos)
+    } else {
+        content_bytes(bytes, true, out, pos)
     }
-    content_bytes(bytes, true, out, pos)
 }
 
 // A block further, or at the end.
@@ -105,10 +98,7 @@ fn block_end(at: usize, size: usize) -> usize
     requires { at ≤ size }
     ensures { Beyond at size result }
 {
-    if size - at < BLOCK {
-        return size;
-    }
-    at + BLOCK
+    at + BLOCK.min(size - at)
 }
 
 fn text_content(bytes: &[u8], out: &mut [u8], pos: usize) -> usize
@@ -129,13 +119,11 @@ fn text_content(bytes: &[u8], out: &mut [u8], pos: usize) -> usize
 fn hex_content(bytes: &[u8], out: &mut [u8], pos: usize) -> usize
     ensures { Prints out.old out.new pos (content_of false bytes.now) result }
 {
-    if out.len() < pos {
-        return content_bytes(bytes, false, out, pos);
+    if pos <= out.len() && bytes.len() <= (out.len() - pos) / 2 {
+        hex_pairs(bytes, out, pos)
+    } else {
+        content_bytes(bytes, false, out, pos)
     }
-    if (out.len() - pos) / 2 < bytes.len() {
-        return content_bytes(bytes, false, out, pos);
-    }
-    hex_pairs(bytes, out, pos)
 }
 
 // The bytes of a string between its quotes: a text string's escaped, a byte string's in hexadecimal.
@@ -143,7 +131,8 @@ pub fn content(bytes: &[u8], text: bool, out: &mut [u8], pos: usize) -> usize
     ensures { Prints out.old out.new pos (content_of text bytes.now) result }
 {
     if text {
-        return text_content(bytes, out, pos);
+        text_content(bytes, out, pos)
+    } else {
+        hex_content(bytes, out, pos)
     }
-    hex_content(bytes, out, pos)
 }

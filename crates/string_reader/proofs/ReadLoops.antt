@@ -20,13 +20,13 @@ use Rattle.notation.specs.Reading.{marked}
 use Rattle.token.specs.TokenAnswers.{shape_code, code_of, Took}
 use Rattle.encoding.specs.ReadAnswers.{View, Tells, Wrote, Room, ReadTold, Strayed}
 use Rattle.token.specs.declared.Token.{Token as Cut}
-use Rattle.encoding.specs.declared.answer.MadeItem.{MadeItem as MadeS}
-use Rattle.encoding.specs.declared.answer.ReadAnswer.{ReadAnswer}
-use Rattle.encoding.specs.declared.answer.ReadAnswer.TheVariants.{Made, Refused}
+use Rattle.encoding.specs.declared.answer.MadeItem.{MadeItem}
 use Rattle.scanning.proofs.Marked.{stands-left}
 use Rattle.encoding.proofs.Wrote.{wrote_nothing, wrote-more}
 use Rattle.encoding.proofs.ReadRules.{indicator_of, step, step_close, step_comma, step-stray, shape_low}
 use Rattle.encoding.proofs.Telling.{bind-yes, told-ok, told-lost, told_stop, Got, got, lost, token, past}
+use Rattle.std.specs.Prelude.{Ok, Err}
+use Rattle.std.specs.Prelude as std
 
 -- a kind of sequence: how it is read, made, and seen by the code
 pub record Row : Type 1 where
@@ -97,14 +97,14 @@ module _ (L : Row) {s : List ℕ} {i : ℕ} where
 pub row_room : (L : Row) {s b₀ : List ℕ} {i pos at n size : ℕ} {b : List ℕ} → Run L s b₀ i pos at n size b → Room s at (pos + size)
 row_room L r = record { inside = r.inside; room = omega (arith, r.room.room, r.short) }
 
-module _ (L : Row) {s b₀ : List ℕ} {i pos at n size : ℕ} {b b' : List ℕ} (a : ReadAnswer)
+module _ (L : Row) {s b₀ : List ℕ} {i pos at n size : ℕ} {b b' : List ℕ} (a : std.Result MadeItem Refusal)
     (run : Run L s b₀ i pos at n size b) (told : ReadTold L.of_elem s b b' (length (marked s) - at) (pos + size) a (L.elem (drop at (marked s)))) where
-  pub row_refused : {b'' : List ℕ} {e : Refusal} → a ≡ Refused e → ReadTold L.of_all s b₀ b'' (length (marked s) - i) pos (Refused e) (L.first (drop i (marked s)))
+  pub row_refused : {b'' : List ℕ} {e : Refusal} → a ≡ Err e → ReadTold L.of_all s b₀ b'' (length (marked s) - i) pos (Err e) (L.first (drop i (marked s)))
   row_refused f =
       told-lost _ _ (lost a told f)
       (run.left ∙ ap (λ (u : Result L.All). bind u (λ xs r. ok (run.front xs) r)) (L.rest-is (drop at (marked s))) ∙ bind_assoc (L.elem (drop at (marked s))) _ _)
 
-  module _ {m : MadeS} (g : a ≡ Made m) where
+  module _ {m : MadeItem} (g : a ≡ Ok m) where
     it : Got L.of_elem s b b' (length (marked s) - at) (pos + size) m (L.elem (drop at (marked s)))
     it = got a told g
 
@@ -162,8 +162,8 @@ module _ (L : Row) {s b₀ : List ℕ} {i pos at n size : ℕ} {b b' : List ℕ}
           let tk' = token tk (λ z. omega arith) in
           omega (arith, past tk tk'.ahead, tk'.seen.next.inside, stands-left it.moved.stands, it.moved.stands.inside, it.moved.short, run.inside)
 
-      module _ {a' : ReadAnswer} where
-        pub row_close : t.kind ≡ shape_code L.closer → a' ≡ Made (record { next = t.next; size = size + m.size; count = n + m.count; indicator = 0; binary = L.binary; length = n + m.count }) → ReadTold L.of_all s b₀ b' (length (marked s) - i) pos a' (L.first (drop i (marked s)))
+      module _ {a' : std.Result MadeItem Refusal} where
+        pub row_close : t.kind ≡ shape_code L.closer → a' ≡ Ok (record { next = t.next; size = size + m.size; count = n + m.count; indicator = 0; binary = L.binary; length = n + m.count }) → ReadTold L.of_all s b₀ b' (length (marked s) - i) pos a' (L.first (drop i (marked s)))
         unfolding bind
         row_close e f =
             let tk' = token tk (λ z. omega (arith, shape_low L.closer)) in

@@ -27,9 +27,7 @@ use Rattle.scanning.specs.Stands.{Stands}
 use Rattle.token.specs.TokenAnswers.{item_code, open_code, kind_code, size_number, begin_code, shape_code, code_of, mark_of, begin_mark, number_of, begin_number, Written, BeginsAs, Seen, Took}
 use Rattle.encoding.specs.ReadAnswers.{held_of, Tells, of_item, of_chunk, of_chunks, chunk_of, chunk_read_by, chunk_read, chunked_read, kind_for, major_by, initial_by, is_bytes_by, MajorBy, Wrote, Room, Opened, Strings, Light, MovedOn, ReadTold, Strayed, Denies, Stringed, LiteralIs, LiteralTold, Ended, ChunksTold}
 use Rattle.token.specs.declared.Token.{Token as Cut}
-use Rattle.encoding.specs.declared.answer.MadeItem.{MadeItem as MadeS}
-use Rattle.encoding.specs.declared.answer.ReadAnswer.{ReadAnswer}
-use Rattle.encoding.specs.declared.answer.ReadAnswer.TheVariants.{Made, Refused}
+use Rattle.encoding.specs.declared.answer.MadeItem.{MadeItem}
 use Rattle.notation_theorems.proofs.ByName.{reads-is}
 use Rattle.notation_theorems.proofs.Equations.{obey_if}
 use Rattle.notation_theorems.proofs.SoundToken.{head-most}
@@ -40,6 +38,8 @@ use Rattle.encoding.proofs.ReadWriting.{width_some, kind-major, string-head}
 use Rattle.encoding.proofs.Telling.{bind-yes, bind-no, told-no, told-ok, told-lost, told_stop, denied, got, lost, token, place_at, place-left, said-refused, made_never}
 use Rattle.encoding.proofs.ReadRules.{step, shape_low, one-is}
 use Rattle.string_reader.proofs.ReadLoops.{Row, Run, row_start, row_room, row_refused, row_fits, row_count, row_comma, row_less, row_close, row_stray}
+use Rattle.std.specs.Prelude.{Ok, Err}
+use Rattle.std.specs.Prelude as std
 
 -- A LITERAL, by its code
 record LiteralTok (tok : Token) : Type 0 where
@@ -115,7 +115,7 @@ literal-size k (definite w) c =
     (omega (arith, l), omega (arith, l, head-most (strings k) w (length c)))
 literal-size k indefinite c = (omega arith, omega arith)
 
-pub item-literal : {s b b' : List ℕ} {at pos : ℕ} {t : Cut} {a : ReadAnswer} (d : ℕ) → Took s at t → Room s at pos → 3 < t.kind → t.kind ≤ 5 → LiteralTold s t b b' pos a
+pub item-literal : {s b b' : List ℕ} {at pos : ℕ} {t : Cut} {a : std.Result MadeItem Refusal} (d : ℕ) → Took s at t → Room s at pos → 3 < t.kind → t.kind ≤ 5 → LiteralTold s t b b' pos a
     → ReadTold of_item s b b' (length (marked s) - at) pos a (reads (one d) (drop at (marked s)))
 unfolding of_item one_rule beginning obey
 item-literal {s} {b} {b'} {at} {pos} {t} {a} d tk rm l h to =
@@ -249,15 +249,15 @@ chunks-strings {kind = kind} {d = d} r = record { room = row_room (chunks_row (k
 pub chunks-place : {s b₀ : List ℕ} {kind d i pos at n size : ℕ} {b : List ℕ} → Chunks-run kind d s b₀ i pos at n size b → Fits bits64 (pos + size)
 chunks-place r = room_fits (chunks-strings r).room
 
-made_kept : (a : ReadAnswer) (m m' : MadeS) → a ≡ Made m → a ≡ Made m' → (v : Bool) → (m.binary ≡ v) × (m.length ≡ m.count) → (m'.binary ≡ v) × (m'.length ≡ m'.count)
+made_kept : (a : std.Result MadeItem Refusal) (m m' : MadeItem) → a ≡ Ok m → a ≡ Ok m' → (v : Bool) → (m.binary ≡ v) × (m.length ≡ m.count) → (m'.binary ≡ v) × (m'.length ≡ m'.count)
 made_kept a m m' f g v h = let e : m ≡ m' = cc in rw e at h
 
-module _ {s b₀ : List ℕ} {kind d i pos at n size : ℕ} {b b' : List ℕ} (a : ReadAnswer)
+module _ {s b₀ : List ℕ} {kind d i pos at n size : ℕ} {b b' : List ℕ} (a : std.Result MadeItem Refusal)
     (run : Chunks-run kind d s b₀ i pos at n size b) (told : ReadTold (of_chunk (kind_for kind)) s b b' (length (marked s) - at) (pos + size) a (chunk_read (kind_for kind) d (drop at (marked s)))) where
-  pub chunks-lost : {b'' : List ℕ} {e : Refusal} → a ≡ Refused e → ChunksTold kind s b₀ b'' (length (marked s) - i) pos (Refused e) (reads (chunks (only (kind_for kind)) d) (drop i (marked s)))
-  chunks-lost {e = e} f = record { told = row_refused (chunks_row (kind_for kind) d) a run.run told f; kept = λ m g. made_never (Refused e) (said-refused (Refused e) e refl) g }
+  pub chunks-lost : {b'' : List ℕ} {e : Refusal} → a ≡ Err e → ChunksTold kind s b₀ b'' (length (marked s) - i) pos (Err e) (reads (chunks (only (kind_for kind)) d) (drop i (marked s)))
+  chunks-lost {e = e} f = record { told = row_refused (chunks_row (kind_for kind) d) a run.run told f; kept = λ m g. made_never (Err e) (said-refused (Err e) e refl) g }
 
-  module _ {m : MadeS} (g : a ≡ Made m) where
+  module _ {m : MadeItem} (g : a ≡ Ok m) where
     pub chunks-fits : Fits bits64 (size + m.size)
     chunks-fits = row_fits (chunks_row (kind_for kind) d) a run.run told g
 
@@ -274,8 +274,8 @@ module _ {s b₀ : List ℕ} {kind d i pos at n size : ℕ} {b b' : List ℕ} (a
       pub chunks_less : t.kind ≡ 11 → length (marked s) - t.next < length (marked s) - at
       chunks_less e = row_less (chunks_row (kind_for kind) d) a run.run told g tk e
 
-      module _ {a' : ReadAnswer} where
-        pub chunks_close : {v : Bool} → t.kind ≡ 14 → v ≡ is_bytes_by kind → a' ≡ Made (record { next = t.next; size = size + m.size; count = n + m.count; indicator = 0; binary = v; length = n + m.count })
+      module _ {a' : std.Result MadeItem Refusal} where
+        pub chunks_close : {v : Bool} → t.kind ≡ 14 → v ≡ is_bytes_by kind → a' ≡ Ok (record { next = t.next; size = size + m.size; count = n + m.count; indicator = 0; binary = v; length = n + m.count })
             → ChunksTold kind s b₀ b' (length (marked s) - i) pos a' (reads (chunks (only (kind_for kind)) d) (drop i (marked s)))
         unfolding shape_code
         chunks_close e w f = record { told = row_close (chunks_row (kind_for kind) d) a run.run told g tk e (rw run.from.kinds (rw w at f)); kept = λ m' q. made_kept a' _ m' f q (is_bytes_by kind) (w, refl) }
@@ -329,9 +329,9 @@ mixed_by k k' (definite w) b p r n m = rw (wanted_other k k' m, chunk_of)
 mixed_by k k' indefinite b p r n m = absurd (n refl)
 
 -- a chunk that was written
-done-by : {s b b' : List ℕ} {at pos size : ℕ} {t : Cut} {a : ReadAnswer} (k k' : Kind) (z : Size) (c r : List ℕ) (res : Result Chunk) → Took s at t → (t.indicator ≡ 1 → ⊥) → k' ≡ k → LiteralIs s t k' z c
+done-by : {s b b' : List ℕ} {at pos size : ℕ} {t : Cut} {a : std.Result MadeItem Refusal} (k k' : Kind) (z : Size) (c r : List ℕ) (res : Result Chunk) → Took s at t → (t.indicator ≡ 1 → ⊥) → k' ≡ k → LiteralIs s t k' z c
     → res ≡ chunk_of k k' z c (place (drop at (marked s))) r → Stands (marked s) t.next r → length c + t.place < t.next → Stringed s t b b' pos size
-    → a ≡ Made (record { next = t.next; size = size; count = t.argument; indicator = 0; binary = false; length = 0 }) → ReadTold (of_chunk k) s b b' (length (marked s) - at) pos a res
+    → a ≡ Ok (record { next = t.next; size = size; count = t.argument; indicator = 0; binary = false; length = 0 }) → ReadTold (of_chunk k) s b b' (length (marked s) - at) pos a res
 unfolding chunk_of size_number of_chunk encode_string head Tells
 done-by k k' indefinite c r res tk n1 same l e sn sh sg f = absurd (n1 l.size)
 done-by {s} {b} {b'} {at} {pos} {size} {t} {a} k k' (definite w) c r res tk n1 same l e sn sh sg f =
@@ -355,7 +355,7 @@ chunk_is : {s : List ℕ} {at : ℕ} {t : Cut} (k : Kind) (d : ℕ) (li : Litera
 unfolding chunk_read chunk_read_by
 chunk_is {s} {at} k d li = bind-yes (next (drop at (marked s))) _ (begins (literal li.kind li.size li.held)) li.rest li.next_is
 
-module _ {s b b' : List ℕ} {at pos kind : ℕ} {t : Cut} {a : ReadAnswer} (d : ℕ) (st : Strings s at pos kind) (tk : Took s at t) where
+module _ {s b b' : List ℕ} {at pos kind : ℕ} {t : Cut} {a : std.Result MadeItem Refusal} (d : ℕ) (st : Strings s at pos kind) (tk : Took s at t) where
   chunk_other : (3 < t.kind → t.kind ≤ 5 → ⊥) → Strayed d t a → ReadTold (of_chunk (kind_for kind)) s b b' (length (marked s) - at) pos a (chunk_read (kind_for kind) d (drop at (marked s)))
   unfolding chunk_read
   chunk_other n f = told_stop d _ _ tk f refl (λ tok r e u. not_literal (kind_for kind) d tok (place (drop at (marked s))) r (λ l h. n (rw e l) (rw e h)))
@@ -379,7 +379,7 @@ module _ {s b b' : List ℕ} {at pos kind : ℕ} {t : Cut} {a : ReadAnswer} (d :
           told-no mixed_chunks (place (drop at (marked s))) _
           (chunk_is (kind_for kind) d li ∙ mixed_by (kind_for kind) li.kind li.size li.held (place (drop at (marked s))) li.rest (λ z. n1 (li.facts.size ∙ z)) (λ e. n (li.facts.code ∙ e ∙ st.kinds))) (denied f (place_at tk))
 
-      pub chunk_done : {size : ℕ} → t.kind ≡ kind → Stringed s t b b' pos size → a ≡ Made (record { next = t.next; size = size; count = t.argument; indicator = 0; binary = false; length = 0 })
+      pub chunk_done : {size : ℕ} → t.kind ≡ kind → Stringed s t b b' pos size → a ≡ Ok (record { next = t.next; size = size; count = t.argument; indicator = 0; binary = false; length = 0 })
           → ReadTold (of_chunk (kind_for kind)) s b b' (length (marked s) - at) pos a (chunk_read (kind_for kind) d (drop at (marked s)))
       chunk_done {size} e sg f =
           let li = literal-here tk st.room l h in
@@ -426,7 +426,7 @@ Whole c r = ok (chunked c.kind c.all) r
 pub open_room : {s : List ℕ} {at place : ℕ} (pos : ℕ) → Opened s at pos place → Room s at (pos + 1)
 open_room pos o = record { inside = o.inside; room = omega (arith, o.room) }
 
-module _ {s b b' : List ℕ} {at pos place' : ℕ} {t : Cut} {a : ReadAnswer} (d : ℕ) (o : Opened s at pos place') (tk : Took s at t) where
+module _ {s b b' : List ℕ} {at pos place' : ℕ} {t : Cut} {a : std.Result MadeItem Refusal} (d : ℕ) (o : Opened s at pos place') (tk : Took s at t) where
   chunked-other : (3 < t.kind → t.kind ≤ 5 → ⊥) → Strayed d t a → ReadTold of_item s b b' (length (marked s) - at + 1) pos a (chunked_read d (drop at (marked s)))
   unfolding chunked_read rules bind
   chunked-other n f =
@@ -439,12 +439,12 @@ module _ {s b b' : List ℕ} {at pos place' : ℕ} {t : Cut} {a : ReadAnswer} (d
   pub chunked-high : 5 < t.kind → Strayed d t a → ReadTold of_item s b b' (length (marked s) - at + 1) pos a (chunked_read d (drop at (marked s)))
   chunked-high h f = chunked-other (λ l m. absurd (omega arith)) f
 
-kind-told : {s b b' : List ℕ} {most pos : ℕ} {m : MadeS} {r : List ℕ} (k : Kind) (cs : Chunks) → m.binary ≡ is_bytes_by (kind_code k) → MovedOn s b b' most pos m (of_chunks k cs) r → cs.kind ≡ k
+kind-told : {s b b' : List ℕ} {most pos : ℕ} {m : MadeItem} {r : List ℕ} (k : Kind) (cs : Chunks) → m.binary ≡ is_bytes_by (kind_code k) → MovedOn s b b' most pos m (of_chunks k cs) r → cs.kind ≡ k
 unfolding of_chunks
 kind-told {m = m} k cs e mv = tells_of m.length cs.kind k cs.all e mv.tells
 
 -- the chunks between their first byte and the break
-whole-told : {s b b' b'' : List ℕ} {at pos place' first : ℕ} {m : MadeS} {a' : ReadAnswer} (k : Kind) (cs : Chunks) (res : Result Item) (r : List ℕ) → res ≡ ok (chunked cs.kind cs.all) r → cs.kind ≡ k
+whole-told : {s b b' b'' : List ℕ} {at pos place' first : ℕ} {m : MadeItem} {a' : std.Result MadeItem Refusal} (k : Kind) (cs : Chunks) (res : Result Item) (r : List ℕ) → res ≡ ok (chunked cs.kind cs.all) r → cs.kind ≡ k
     → first ≡ major_by (kind_code k) * 32 + 31 → MovedOn s b b' (length (marked s) - at) (pos + 1) m (of_chunks k cs) r → Ended b' b'' pos first m.next m.size m.binary m.length a' → Opened s at pos place'
     → ReadTold of_item s b b'' (length (marked s) - at + 1) pos a' res
 unfolding of_item of_chunks encode enclosed opening_head closing_break initial
@@ -471,7 +471,7 @@ chunked-strings pos o tk l h =
     let li = literal-here tk (open_room pos o) l h in
     record { room = open_room pos o; kinds = rw li.facts.code (ap kind_code (kind-back li.kind)) }
 
-module _ {s b b' : List ℕ} {at pos place' : ℕ} {t : Cut} (d : ℕ) (a : ReadAnswer) (o : Opened s at pos place') (tk : Took s at t) (l : 3 < t.kind) (h : t.kind ≤ 5)
+module _ {s b b' : List ℕ} {at pos place' : ℕ} {t : Cut} (d : ℕ) (a : std.Result MadeItem Refusal) (o : Opened s at pos place') (tk : Took s at t) (l : 3 < t.kind) (h : t.kind ≤ 5)
     (ct : ChunksTold t.kind s b b' (length (marked s) - at) (pos + 1) a (reads (chunks (only (kind_for t.kind)) d) (drop at (marked s)))) where
   chunked-is : chunked_read d (drop at (marked s)) ≡ bind (reads (chunks (only (kind_for t.kind)) d) (drop at (marked s))) (λ c r. Whole c r)
   unfolding chunked_read
@@ -480,14 +480,14 @@ module _ {s b b' : List ℕ} {at pos place' : ℕ} {t : Cut} (d : ℕ) (a : Read
       let e : li.kind ≡ kind_for t.kind = sym (kind-back li.kind) ∙ ap kind_for (sym li.facts.code) in
       ap (λ (u : Result Chunks). bind u (λ c r. Whole c r)) (chunks-either d li ∙ ap (λ (k : Kind). reads (chunks (only k) d) (drop at (marked s))) e)
 
-  pub chunked-lost : {b'' : List ℕ} {e : Refusal} → a ≡ Refused e → ReadTold of_item s b b'' (length (marked s) - at + 1) pos (Refused e) (chunked_read d (drop at (marked s)))
+  pub chunked-lost : {b'' : List ℕ} {e : Refusal} → a ≡ Err e → ReadTold of_item s b b'' (length (marked s) - at + 1) pos (Err e) (chunked_read d (drop at (marked s)))
   chunked-lost f = told-lost _ _ (lost a ct.told f) chunked-is
 
-  module _ {m : MadeS} (g : a ≡ Made m) where
+  module _ {m : MadeItem} (g : a ≡ Ok m) where
     pub chunked_light : Light (pos + m.size)
     chunked_light = record { fits = omega (arith, (got a ct.told g).moved.short, o.room) }
 
-    pub chunked-done : {b'' : List ℕ} {a' : ReadAnswer} {major : ℕ} → MajorBy t.kind major → Ended b' b'' pos (major * 32 + 31) m.next m.size m.binary m.length a'
+    pub chunked-done : {b'' : List ℕ} {a' : std.Result MadeItem Refusal} {major : ℕ} → MajorBy t.kind major → Ended b' b'' pos (major * 32 + 31) m.next m.size m.binary m.length a'
         → ReadTold of_item s b b'' (length (marked s) - at + 1) pos a' (chunked_read d (drop at (marked s)))
     chunked-done mj en =
         let it = got a ct.told g in

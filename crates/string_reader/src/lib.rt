@@ -6,11 +6,11 @@ ghost use Rattle.notation.specs.Form.{only, chunks, reads};
 ghost use Rattle.notation.specs.Reading.{marked};
 ghost use Rattle.encoding.specs.ReadAnswers.{chunk_read, chunked_read, kind_for, is_bytes_by, Filled, Opened, Strings, Light, LiteralTold, ReadTold, Stringed, ChunksTold, of_item, of_chunk};
 
-use encoding::answer::{MadeItem, ReadAnswer, done, listed, refuse, strayed};
+use encoding::answer::{MadeItem, done, listed, refuse, strayed};
 use encoding::close::endless;
 use encoding::heads::{head_size, initial, major_by};
 use head::initial::INDEFINITE_LENGTH;
-use refusal::RefusalKind;
+use refusal::{Refusal, RefusalKind};
 use scanning::class::{CLOSE_PAREN, COMMA};
 use token::Token;
 use token::form::{APOSTROPHED, HEX, QUOTED};
@@ -59,7 +59,7 @@ fn string(text: &[u8], t: Token, buf: &mut [u8], pos: usize) -> usize
 }
 
 // A literal that is an item.
-pub fn literal(text: &[u8], t: Token, buf: &mut [u8], pos: usize) -> ReadAnswer
+pub fn literal(text: &[u8], t: Token, buf: &mut [u8], pos: usize) -> Result<MadeItem, Refusal>
     requires { Light (pos + t.argument) }
     ensures { LiteralTold text.now t buf.old buf.new pos result }
 {
@@ -71,7 +71,14 @@ pub fn literal(text: &[u8], t: Token, buf: &mut [u8], pos: usize) -> ReadAnswer
 }
 
 // A chunk of a kind of literals.
-fn chunk(text: &[u8], at: usize, kind: u8, levels: usize, buf: &mut [u8], pos: usize) -> ReadAnswer
+fn chunk(
+    text: &[u8],
+    at: usize,
+    kind: u8,
+    levels: usize,
+    buf: &mut [u8],
+    pos: usize,
+) -> Result<MadeItem, Refusal>
     requires { Strings text.now at pos kind }
     ensures { ReadTold (of_chunk (kind_for kind)) text.now buf.old buf.new (length (marked text.now) - at) pos result (chunk_read (kind_for kind) levels (drop at (marked text.now))) }
 {
@@ -101,7 +108,7 @@ fn chunks(
     levels: usize,
     buf: &mut [u8],
     pos: usize,
-) -> ReadAnswer
+) -> Result<MadeItem, Refusal>
     requires { Strings text.now from pos kind }
     ensures { ChunksTold kind text.now buf.old buf.new (length (marked text.now) - from) pos result (reads (chunks (only (kind_for kind)) levels) (drop from (marked text.now))) }
 {
@@ -109,35 +116,36 @@ fn chunks(
     let mut n: usize = 0;
     let mut size: usize = 0;
     loop {
-        let a = chunk(text, at, kind, levels, buf, pos + size);
-        match a {
-            ReadAnswer::Refused(e) => return ReadAnswer::Refused(e),
-            ReadAnswer::Made(m) => {
-                n += m.count;
-                size += m.size;
-                let t = next_token(text, m.next);
-                let found = t.kind;
-                if found == CLOSE_PAREN {
-                    return ReadAnswer::Made(MadeItem {
-                        next: t.next,
-                        size,
-                        count: n,
-                        indicator: NONE,
-                        binary: is_binary(kind),
-                        length: n,
-                    });
-                }
-                if found != COMMA {
-                    return strayed(levels, t);
-                }
-                at = t.next;
-            }
+        let m = chunk(text, at, kind, levels, buf, pos + size)?;
+        n += m.count;
+        size += m.size;
+        let t = next_token(text, m.next);
+        let found = t.kind;
+        if found == CLOSE_PAREN {
+            return Ok(MadeItem {
+                next: t.next,
+                size,
+                count: n,
+                indicator: NONE,
+                binary: is_binary(kind),
+                length: n,
+            });
         }
+        if found != COMMA {
+            return strayed(levels, t);
+        }
+        at = t.next;
     }
 }
 
 // A string in chunks behind `(_`.
-pub fn chunked(text: &[u8], at: usize, levels: usize, buf: &mut [u8], pos: usize) -> ReadAnswer
+pub fn chunked(
+    text: &[u8],
+    at: usize,
+    levels: usize,
+    buf: &mut [u8],
+    pos: usize,
+) -> Result<MadeItem, Refusal>
     requires { Opened text.now at pos at }
     ensures { ReadTold of_item text.now buf.old buf.new (length (marked text.now) - at + 1) pos result (chunked_read levels (drop at (marked text.now))) }
 {
@@ -149,12 +157,7 @@ pub fn chunked(text: &[u8], at: usize, levels: usize, buf: &mut [u8], pos: usize
     if BYTES < kind {
         return strayed(levels, t);
     }
-    let a = chunks(text, at, kind, levels, buf, pos + 1);
-    match a {
-        ReadAnswer::Refused(e) => ReadAnswer::Refused(e),
-        ReadAnswer::Made(m) => {
-            let first = major_by(kind) * 32 + INDEFINITE_LENGTH;
-            endless(buf, pos, first, m.next, m.size, m.binary, m.length)
-        }
-    }
+    let m = chunks(text, at, kind, levels, buf, pos + 1)?;
+    let first = major_by(kind) * 32 + INDEFINITE_LENGTH;
+    endless(buf, pos, first, m.next, m.size, m.binary, m.length)
 }

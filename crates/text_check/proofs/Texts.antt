@@ -15,19 +15,19 @@ use Rattle.refusal.specs.declared.RefusalKind.TheVariants.{TooLong, NotUtf8}
 use Rattle.cbor.proofs.Results.{refused_not_accepted}
 use Rattle.notation.specs.Reading.{checked}
 use Rattle.text_check.specs.TextAnswers.{text_told, passing}
-use Rattle.text_check.specs.declared.Text.TheVariants.{Good, Refused as TextRefused}
+use Rattle.std.specs.Prelude.{Ok, Err}
 
 -- A TEXT: 1, then 2
 module _ (s : List ℕ) where
-  pub text_long : 65535 < length s → text_told (TextRefused (record { kind = TooLong; place = 0 })) ≡ passing s
+  pub text_long : 65535 < length s → text_told (Err (record { kind = TooLong; place = 0 })) ≡ passing s
   unfolding text_told passing checked kind_number
   text_long h = rw (lt-leb (length s) most_bytes h, checked)
 
-  pub text-good : {k : ℕ} → length s ≤ 65535 → k ≡ first_bad s → k ≡ length s → text_told Good ≡ passing s
+  pub text-good : {k : ℕ} → length s ≤ 65535 → k ≡ first_bad s → k ≡ length s → text_told (Ok tt) ≡ passing s
   unfolding text_told passing checked is_utf8
   text-good h f e = rw (le-leb (length s) most_bytes h, checked) (rw (eq-eqb (first_bad s) (length s) (sym f ∙ e)))
 
-  pub text-bad : {k : ℕ} → length s ≤ 65535 → k ≡ first_bad s → (k ≡ length s → ⊥) → text_told (TextRefused (record { kind = NotUtf8; place = k })) ≡ passing s
+  pub text-bad : {k : ℕ} → length s ≤ 65535 → k ≡ first_bad s → (k ≡ length s → ⊥) → text_told (Err (record { kind = NotUtf8; place = k })) ≡ passing s
   unfolding text_told passing checked is_utf8 kind_number
   text-bad h f e = rw (le-leb (length s) most_bytes h, checked) (rw (ne_eqb (first_bad s) (length s) (λ i. e (f ∙ i)), f))
 

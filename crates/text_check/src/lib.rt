@@ -8,26 +8,20 @@ use refusal::limit::MOST_BYTES;
 use refusal::{Refusal, RefusalKind};
 use utf8::first_bad;
 
-#[derive(Drop)]
-pub enum Text {
-    Good,
-    Refused(Refusal),
-}
-
-pub fn check_text(text: &[u8]) -> Text
+pub fn check_text(text: &[u8]) -> Result<(), Refusal>
     ensures { text_told result ≡ passing text.now }
 {
     if MOST_BYTES < text.len() {
-        return Text::Refused(Refusal {
+        return Err(Refusal {
             kind: RefusalKind::TooLong,
             place: 0,
         });
     }
     let bad = first_bad(text);
     if bad == text.len() {
-        return Text::Good;
+        return Ok(());
     }
-    Text::Refused(Refusal {
+    Err(Refusal {
         kind: RefusalKind::NotUtf8,
         place: bad,
     })

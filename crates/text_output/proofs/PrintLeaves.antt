@@ -64,9 +64,3 @@ module _ {s b : List ℕ} {pos : ℕ} where
   module _ {b' : List ℕ} {i p : ℕ} (inv : Copied s b pos i p b') where
     pub copy_step : {c : List ℕ} {q : ℕ} → i < length s → Prints b' c p (get_or s i 0 ∷ []) q → Copied s b pos (i + 1) q c
     copy_step h f = record { done = prints_as (sym (take_next s i h)) (prints-more inv.done f) }
-
-    pub copy_end : length s ≤ i → Prints b b' pos s p
-    copy_end h = prints_as (take_whole s i h) inv.done
-
-    pub copy_same : length b' ≡ length b
-    copy_same = inv.done.same

@@ -21,10 +21,8 @@ pub fn put_all(text: &[u8], out: &mut [u8], pos: usize) -> usize
     ensures { Prints out.old out.new pos text.now result }
 {
     let mut p = pos;
-    let mut i: usize = 0;
-    while i < text.len() {
-        p = put(out, p, text[i]);
-        i += 1;
+    for &b in text {
+        p = put(out, p, b);
     }
     p
 }

@@ -3,7 +3,7 @@
 use mathlib.Core.Path.{◌≡◌, refl, sym, ap, ◌∙◌}
 use mathlib.Core.List.{List, [], ◌∷◌}
 use mathlib.Core.Bool.{Bool, true, false}
-use Prim.Native.Nat.{ℕ, ◌+◌, ◌-◌, ◌≤◌, ◌<◌}
+use Prim.Native.Nat.{ℕ, ◌+◌, ◌≤◌, ◌<◌}
 use native.Mathlib.Omega.{arith}
 use lib.Dec.{leb}
 use lib.ListN.{length, drop, get_or, length-drop, drop_of_length-le}
@@ -12,7 +12,7 @@ use Rattle.cbor.specs.Refusals.{Result, ok, refuse, no_token, not_allowed}
 use Rattle.cbor.specs.Items.{unsigned}
 use Rattle.notation.specs.Classes.{Class, other, blank, digit, letter, underscore, minus, dot, quote, apostrophe, slash, hash, comma, colon, open_paren, close_paren, open_bracket, close_bracket, open_brace, close_brace, less, greater, end_mark, class_number, class_of, is}
 use Rattle.notation.specs.Scanning.{skip, fault}
-use Rattle.notation.specs.Indicators.{absent, indicator}
+use Rattle.notation.specs.Indicators.{absent}
 use Rattle.notation.specs.Numbers.{number}
 use Rattle.notation.specs.Literals.{quoted}
 use Rattle.notation.specs.Words.{word}

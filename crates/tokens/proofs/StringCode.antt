@@ -9,10 +9,9 @@ use lib.ListN.{length, take, drop, get_or}
 use borrow.Author.Tests.{ne_eqb}
 use Rattle.cbor.specs.Refusals.{Result, ok, bind, no_token, unknown_word, float, bad_indicator}
 use Rattle.cbor.specs.Items.{Kind, byte_string, definite, indefinite}
-use Rattle.cbor.proofs.Tests.{clash}
 use Rattle.notation.specs.Classes.{is_word}
 use Rattle.notation.specs.Scanning.{fault}
-use Rattle.notation.specs.Indicators.{Indicator, absent, indefinitely, unknown, wide, indicator, Chosen, chosen, misfit, choose}
+use Rattle.notation.specs.Indicators.{Indicator, absent, indefinitely, unknown, wide, Chosen, chosen, misfit, choose}
 use Rattle.notation.specs.Quoted.{character, unquote}
 use Rattle.notation.specs.Literals.{literal_token, quoted_token, quoted, body, Content, stands_for, bad, hex_content, base64_content, contained, encoded_literal}
 use Rattle.notation.specs.Tokens.{Token, begins, literal}
@@ -28,8 +27,7 @@ use Rattle.tokens.specs.CutAnswers.{quote_kind, quote_byte, literal_content, Quo
 use Rattle.literal_body.specs.declared.LiteralScan.{LiteralScan}
 use Rattle.numbers.specs.declared.indicator.Mark.{Mark}
 use Rattle.token.specs.declared.Token.{Token as Cut}
-use Rattle.words.specs.declared.Prefix.{Prefix}
-use Rattle.words.specs.declared.Prefix.TheVariants.{Form, Refused as PrefixRefused}
+use Rattle.std.specs.Prelude.{Option, None, Some, Result as Answer, Ok, Err}
 use Rattle.scanning.proofs.Marked.{here}
 use Rattle.scanning.proofs.ScanCode.{whether-yes, whether-no}
 use Rattle.literal_body.proofs.LiteralViews.{scan_good, raw_good, quoted-bad, raw_bad, decodes-bad}
@@ -55,11 +53,11 @@ module _ (form : ℕ) where
   unfolding quote_byte
   quote-bytes n = rw (ne_eqb form 0 n, quote_byte)
 
-  pub content-hex : {r : LiteralScan} (l : List ℕ) → form ≡ 2 → Decodes r (hex_content l) → Decodes r (literal_content form l)
+  pub content-hex : {r : Option LiteralScan} (l : List ℕ) → form ≡ 2 → Decodes r (hex_content l) → Decodes r (literal_content form l)
   unfolding literal_content
   content-hex l e d = rw e d
 
-  pub content_base64 : {r : LiteralScan} (l : List ℕ) → (form ≡ 2 → ⊥) → Decodes r (base64_content l) → Decodes r (literal_content form l)
+  pub content_base64 : {r : Option LiteralScan} (l : List ℕ) → (form ≡ 2 → ⊥) → Decodes r (base64_content l) → Decodes r (literal_content form l)
   unfolding literal_content
   content_base64 l n d = rw (ne_eqb form 2 n, literal_content) d
 
@@ -153,8 +151,8 @@ module _ {form size start place : ℕ} {m : Mark} where
 pub ruleset quoted_tokens = (quoted-empty, quoted-misfit, quoted-literal)
 
 -- QUOTED STRINGS
-pub scan_inside : {s : List ℕ} {at : ℕ} {r : LiteralScan} (res : Result (List ℕ)) → Scans s at r res → r.good ≡ true → r.next ≤ length s
-scan_inside res h e = (scan_good res h e).found.inside
+pub scan_inside : {s : List ℕ} {at : ℕ} {r : LiteralScan} (res : Result (List ℕ)) → Scans s at (Some r) res → r.next ≤ length s
+scan_inside res h = (scan_good res h).found.inside
 
 spelled-quote : (s : List ℕ) (form start stop : ℕ) (b : List ℕ) → form ≤ 1 → QuotedAs s (quote_byte form) start b → Spelled s form start stop b
 unfolding Spelled quote_byte
@@ -162,29 +160,29 @@ spelled-quote s zero start stop b h q = q
 spelled-quote s (suc zero) start stop b h q = q
 spelled-quote s (suc (suc form)) start stop b h q = absurd (omega arith)
 
-module _ {s : List ℕ} {place form : ℕ} {t : Cut} {r : LiteralScan} (p : QuotedAt s place form) {q : ℕ} (e : q ≡ quote_byte form) (h : Scans s (place + 1) r (unquote q character (drop (place + 1) (marked s)))) where
-  pub quoted-good : {m : Mark} → r.good ≡ true → Indicated s r.next m → Quotedly form r.size (place + 1) place m t
-      → Says s place t (quoted (quote_kind form) (quote_byte form) (drop (place + 1) (marked s)))
+module _ {s : List ℕ} {place form : ℕ} {t : Cut} (p : QuotedAt s place form) {q : ℕ} (e : q ≡ quote_byte form) where
+  pub quoted-good : {r : LiteralScan} {m : Mark} → Scans s (place + 1) (Some r) (unquote q character (drop (place + 1) (marked s))) → Indicated s r.next m
+      → Quotedly form r.size (place + 1) place m t → Says s place t (quoted (quote_kind form) (quote_byte form) (drop (place + 1) (marked s)))
   unfolding quoted bind
-  quoted-good {m} g x j =
-      let a = scan_good (unquote q character (drop (place + 1) (marked s))) h g in
+  quoted-good {r} {m} h x j =
+      let a = scan_good (unquote q character (drop (place + 1) (marked s))) h in
       let i : unquote (quote_byte form) character (drop (place + 1) (marked s)) ≡ ok a.all (drop r.next (marked s)) =
       ap (λ (k : ℕ). unquote k character (drop (place + 1) (marked s))) (sym e) ∙ (a.is ∙ ap (λ (l : List ℕ). ok a.all l) (sym a.found.left)) in
       let sp : Spells s form (place + 1) 0 m.next a.all =
       record { is = spelled-quote s form (place + 1) 0 a.all p.quoted (record { rest = drop r.next (marked s); is = i }); inside = x.inside } in
       says_as (rw i (rw x.is)) (j.is s a.all r.next a.found.size x sp)
 
-  pub quoted-wrong : r.good ≡ false → Refused 3 place t → Says s place t (quoted (quote_kind form) (quote_byte form) (drop (place + 1) (marked s)))
+  pub quoted-wrong : Scans s (place + 1) None (unquote q character (drop (place + 1) (marked s))) → Refused 3 place t → Says s place t (quoted (quote_kind form) (quote_byte form) (drop (place + 1) (marked s)))
   unfolding quoted bind
-  quoted-wrong g f =
-      let i : unquote (quote_byte form) character (drop (place + 1) (marked s)) ≡ fault no_token = ap (λ (k : ℕ). unquote k character (drop (place + 1) (marked s))) (sym e) ∙ quoted-bad q h g in
+  quoted-wrong h f =
+      let i : unquote (quote_byte form) character (drop (place + 1) (marked s)) ≡ fault no_token = ap (λ (k : ℕ). unquote k character (drop (place + 1) (marked s))) (sym e) ∙ quoted-bad q h in
       says_as (rw i) (says_refuse 0 f)
 
 -- ENCODED ONES
-decoded : {r : LiteralScan} (res : Content) → Decodes r res → r.good ≡ true → (c : List ℕ) × ((res ≡ stands_for c) × (r.size ≡ length c))
+decoded : {r : LiteralScan} (res : Content) → Decodes (Some r) res → (c : List ℕ) × ((res ≡ stands_for c) × (r.size ≡ length c))
 unfolding decoded_by
-decoded (stands_for c) d e = (c, (refl, d.by.1))
-decoded bad d e = absurd (clash (sym e ∙ d.by))
+decoded (stands_for c) d = (c, (refl, d.by))
+decoded bad d = absurd d.by
 
 spelled-encoded : (s : List ℕ) (form start stop : ℕ) (b : List ℕ) → 2 ≤ form → literal_content form (take (stop - start) (drop start s)) ≡ stands_for b → Spelled s form start stop b
 unfolding Spelled literal_content
@@ -198,82 +196,77 @@ kind-encoded : (form : ℕ) → 2 ≤ form → quote_kind form ≡ byte_string
 unfolding quote_kind
 kind-encoded form h = rw (ne_eqb form 0 (λ e. omega arith), quote_kind)
 
-pub raw_inside : {s : List ℕ} {at : ℕ} {r : LiteralScan} (res : Result (List ℕ)) → Raw s at r res → r.good ≡ true → r.next ≤ length s
-raw_inside res h e = scan_inside res h.scans e
+pub raw_inside : {s : List ℕ} {at : ℕ} {r : LiteralScan} (res : Result (List ℕ)) → Raw s at (Some r) res → r.next ≤ length s
+raw_inside res h = scan_inside res h.scans
 
-pub raw_some : {s : List ℕ} {at : ℕ} {r : LiteralScan} (res : Result (List ℕ)) → Raw s at r res → r.good ≡ true → 1 ≤ r.next
-raw_some res h e = omega (arith, h.next e)
-
-encoded-is : {s : List ℕ} {at form : ℕ} {r : LiteralScan} {m : Mark} → EncodedAt s at form → Raw s at r (body (drop at (marked s))) → r.good ≡ true → (x : Indicated s r.next m)
+encoded-is : {s : List ℕ} {at form : ℕ} {r : LiteralScan} {m : Mark} → EncodedAt s at form → Raw s at (Some r) (body (drop at (marked s))) → (x : Indicated s r.next m)
     → encoded_literal (literal_content form) (drop at (marked s)) ≡ contained (literal_content form (take (r.next - 1 - at) (drop at s))) x.ind (drop m.next (marked s))
 unfolding encoded_literal bind
-encoded-is p h g x = rw (raw_good h g) (rw x.is)
+encoded-is p h x = rw (raw_good h) (rw x.is)
 
-module _ {s : List ℕ} {place at form : ℕ} {t : Cut} {r : LiteralScan} (p : EncodedAt s at form) (h : Raw s at r (body (drop at (marked s)))) where
-  pub encoded-bad : r.good ≡ false → Refused 3 place t → Says s place t (encoded_literal (literal_content form) (drop at (marked s)))
+module _ {s : List ℕ} {place at form : ℕ} {t : Cut} (p : EncodedAt s at form) where
+  pub encoded-bad : Raw s at None (body (drop at (marked s))) → Refused 3 place t → Says s place t (encoded_literal (literal_content form) (drop at (marked s)))
   unfolding encoded_literal bind
-  encoded-bad g f = says_as (rw (raw_bad h g)) (says_refuse 0 f)
+  encoded-bad h f = says_as (rw (raw_bad h)) (says_refuse 0 f)
 
-  module _ (g : r.good ≡ true) {m : Mark} (x : Indicated s r.next m) {c : LiteralScan} (d : Decodes c (literal_content form (take (r.next - 1 - at) (drop at s)))) where
-    pub encoded-wrong : c.good ≡ false → Refused 8 place t → Says s place t (encoded_literal (literal_content form) (drop at (marked s)))
+  module _ {r : LiteralScan} (h : Raw s at (Some r) (body (drop at (marked s)))) {m : Mark} (x : Indicated s r.next m) where
+    pub encoded-wrong : Decodes None (literal_content form (take (r.next - 1 - at) (drop at s))) → Refused 8 place t → Says s place t (encoded_literal (literal_content form) (drop at (marked s)))
     unfolding contained
-    encoded-wrong k f = says_as (encoded-is p h g x ∙ ap (λ (j : Content). contained j x.ind (drop m.next (marked s))) (decodes-bad _ d k)) (says_refuse 0 f)
+    encoded-wrong d f = says_as (encoded-is p h x ∙ ap (λ (j : Content). contained j x.ind (drop m.next (marked s))) (decodes-bad _ d)) (says_refuse 0 f)
 
-    pub encoded-good : c.good ≡ true → Literally form m.mark c.size at (r.next - 1) place m.next t → Says s place t (encoded_literal (literal_content form) (drop at (marked s)))
+    pub encoded-good : {c : LiteralScan} → Decodes (Some c) (literal_content form (take (r.next - 1 - at) (drop at s))) → Literally form m.mark c.size at (r.next - 1) place m.next t
+        → Says s place t (encoded_literal (literal_content form) (drop at (marked s)))
     unfolding contained
-    encoded-good k l =
-        let v = decoded (literal_content form (take (r.next - 1 - at) (drop at s))) d k in
+    encoded-good d l =
+        let v = decoded (literal_content form (take (r.next - 1 - at) (drop at s))) d in
         let sp : Spells s form at (r.next - 1) m.next v.0 = record { is = spelled-encoded s form at (r.next - 1) v.0 p.encoded v.1.0; inside = x.inside } in
-        says_as (encoded-is p h g x ∙ (ap (λ (j : Content). contained j x.ind (drop m.next (marked s))) v.1.0 ∙ ap (λ (k : Kind). literal_token k v.0 x.ind (drop m.next (marked s))) (sym (kind-encoded form p.encoded))))
+        says_as (encoded-is p h x ∙ (ap (λ (j : Content). contained j x.ind (drop m.next (marked s))) v.1.0 ∙ ap (λ (k : Kind). literal_token k v.0 x.ind (drop m.next (marked s))) (sym (kind-encoded form p.encoded))))
         (l.is s v.0 x.ind v.1.1 x.mark sp)
 
-pub ruleset encoded_ways = (encoded-bad, encoded-wrong, encoded-good)
-
 -- WORDS
-abbrev prefixed_by : Prefix → List ℕ → Result Token
-prefixed_by (Form f) r = encoded_literal (literal_content f) r
-prefixed_by (PrefixRefused k) r = fault k
+abbrev prefixed_by : Answer ℕ ℕ → List ℕ → Result Token
+prefixed_by (Ok f) r = encoded_literal (literal_content f) r
+prefixed_by (Err k) r = fault k
 
 prefixed-is : (w r : List ℕ) → prefixed w r ≡ prefixed_by (prefix_word w) r
 unfolding prefixed prefix_word other_word literal_content
 prefixed-is w r = go (same w hex_prefix) (same w base64_prefix) (is_float_word w)
   where
     go : (a b c : Bool) → ◌≡◌ {A = Result Token} (elim a [ true ↦ encoded_literal hex_content r | false ↦ elim b [ true ↦ encoded_literal base64_content r | false ↦ elim c [ true ↦ fault float | false ↦ fault unknown_word ] ] ])
-        (prefixed_by (elim a [ true ↦ Form 2 | false ↦ elim b [ true ↦ Form 3 | false ↦ PrefixRefused (elim c [ true ↦ float | false ↦ unknown_word ]) ] ]) r)
+        (prefixed_by (elim a [ true ↦ Ok 2 | false ↦ elim b [ true ↦ Ok 3 | false ↦ Err (elim c [ true ↦ float | false ↦ unknown_word ]) ] ]) r)
     go true b c = refl
     go false true c = refl
     go false false true = refl
     go false false false = refl
 
 -- a form that a prefix gives is one of an encoded literal
-abbrev Encodes : Prefix → Type 0
-Encodes (Form f) = 2 ≤ f
-Encodes (PrefixRefused k) = Unit
+abbrev Encodes : Answer ℕ ℕ → Type 0
+Encodes (Ok f) = 2 ≤ f
+Encodes (Err k) = Unit
 
 prefix_encodes : (w : List ℕ) → Encodes (prefix_word w)
 unfolding prefix_word
 prefix_encodes w = go (same w hex_prefix) (same w base64_prefix)
   where
-    go : (a b : Bool) → Encodes (elim a [ true ↦ Form 2 | false ↦ elim b [ true ↦ Form 3 | false ↦ PrefixRefused (other_word w) ] ])
+    go : (a b : Bool) → Encodes (elim a [ true ↦ Ok 2 | false ↦ elim b [ true ↦ Ok 3 | false ↦ Err (other_word w) ] ])
     go true b = omega arith
     go false true = omega arith
     go false false = tt
 
-module _ {s : List ℕ} {place end : ℕ} (p : Enclosed s place end) {x : Prefix} (e : x ≡ prefix_word (span place end (marked s))) where
-  pub prefix_encoded : (form : ℕ) → x ≡ Form form → EncodedAt s (end + 1) form
-  prefix_encoded form f = record { inside = p.inside; encoded = rw (sym e ∙ f) at (prefix_encodes (span place end (marked s))) }
+module _ {s : List ℕ} {place end : ℕ} (p : Enclosed s place end) where
+  pub prefix_encoded : {form : ℕ} → Ok form ≡ prefix_word (span place end (marked s)) → EncodedAt s (end + 1) form
+  prefix_encoded e = record { inside = p.inside; encoded = rw (sym e) at (prefix_encodes (span place end (marked s))) }
 
-  prefixed-by : {y : Prefix} → x ≡ y → prefixed (span place end (marked s)) (drop (end + 1) (marked s)) ≡ prefixed_by y (drop (end + 1) (marked s))
-  prefixed-by f = prefixed-is (span place end (marked s)) (drop (end + 1) (marked s)) ∙ ap (λ (y : Prefix). prefixed_by y (drop (end + 1) (marked s))) (sym e ∙ f)
+  prefixed-by : {x : Answer ℕ ℕ} → x ≡ prefix_word (span place end (marked s)) → prefixed (span place end (marked s)) (drop (end + 1) (marked s)) ≡ prefixed_by x (drop (end + 1) (marked s))
+  prefixed-by e = prefixed-is (span place end (marked s)) (drop (end + 1) (marked s)) ∙ ap (λ (y : Answer ℕ ℕ). prefixed_by y (drop (end + 1) (marked s))) (sym e)
 
   module _ {t : Cut} where
-    pub prefixed-encoded : (form : ℕ) → x ≡ Form form → Says s place t (encoded_literal (literal_content form) (drop (end + 1) (marked s))) → Says s place t (prefixed (span place end (marked s)) (drop (end + 1) (marked s)))
-    prefixed-encoded form f h = says_as (prefixed-by f) h
+    pub prefixed-encoded : {form : ℕ} → Ok form ≡ prefix_word (span place end (marked s)) → Says s place t (encoded_literal (literal_content form) (drop (end + 1) (marked s)))
+        → Says s place t (prefixed (span place end (marked s)) (drop (end + 1) (marked s)))
+    prefixed-encoded e h = says_as (prefixed-by e) h
 
-    pub prefixed-refused : (k : ℕ) → x ≡ PrefixRefused k → Refused k place t → Says s place t (prefixed (span place end (marked s)) (drop (end + 1) (marked s)))
-    prefixed-refused k f r = says_as (prefixed-by f) (says_refuse 0 r)
-
-pub ruleset prefixed_ways = (prefixed-encoded, prefixed-refused)
+    pub prefixed-refused : {k : ℕ} → Err k ≡ prefix_word (span place end (marked s)) → Refused k place t → Says s place t (prefixed (span place end (marked s)) (drop (end + 1) (marked s)))
+    prefixed-refused e r = says_as (prefixed-by e) (says_refuse 0 r)
 
 module _ {s : List ℕ} (place : ℕ) {end : ℕ} (r : Ran s is_word (place + 1) end) where
   pub word-part : WordPart s place end

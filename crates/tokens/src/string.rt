@@ -20,24 +20,18 @@ use token::indicator::{INDEFINITE, MISFIT};
 use token::kind::{BYTES, TEXT};
 use token::reason::{BAD_CONTENT, BAD_INDICATOR, NO_REFUSAL, NOTHING};
 use token::{Token, refuse};
-use words::{Prefix, prefix_word, worded};
+use words::{prefix_word, worded};
 
 fn kind_of(form: u8) -> u8
     ensures { result ≡ kind_code (quote_kind form) }
 {
-    if form == QUOTED {
-        return TEXT;
-    }
-    BYTES
+    if form == QUOTED { TEXT } else { BYTES }
 }
 
 fn quote_of(form: u8) -> u8
     ensures { result ≡ quote_byte form }
 {
-    if form == QUOTED {
-        return b'"';
-    }
-    b'\''
+    if form == QUOTED { b'"' } else { b'\'' }
 }
 
 // A literal of `size` bytes: 9, or the token.
@@ -99,22 +93,21 @@ pub(crate) fn quoted(text: &[u8], place: usize, form: u8) -> Token
     ensures { Says text.now place result (quoted (quote_kind form) (quote_byte form) (drop (place + 1) (marked text.now))) }
 {
     let at = place + 1;
-    let q = scan_quoted(text, at, quote_of(form));
-    let good = q.good;
-    if good {
-        let m = indicator_at(text, q.next);
-        return quoted_token(form, q.size, at, place, m);
-    }
-    refuse(NOTHING, place)
+    let Some(q) = scan_quoted(text, at, quote_of(form)) else {
+        return refuse(NOTHING, place);
+    };
+    let m = indicator_at(text, q.next);
+    quoted_token(form, q.size, at, place, m)
 }
 
-fn scan_encoded(text: &[u8], at: usize, end: usize, form: u8) -> LiteralScan
+fn scan_encoded(text: &[u8], at: usize, end: usize, form: u8) -> Option<LiteralScan>
     ensures { Decodes result (literal_content form (take (end - at) (drop at text.now))) }
 {
     if form == HEX {
-        return scan_hex(text, at, end);
+        scan_hex(text, at, end)
+    } else {
+        scan_base64(text, at, end)
     }
-    scan_base64(text, at, end)
 }
 
 // Behind `h'` or `b64'`: 3, then 8, then 9.
@@ -122,19 +115,15 @@ fn encoded(text: &[u8], place: usize, at: usize, form: u8) -> Token
     requires { EncodedAt text.now at form }
     ensures { Says text.now place result (encoded_literal (literal_content form) (drop at (marked text.now))) }
 {
-    let raw = scan_body(text, at);
-    let good = raw.good;
-    if good {
-        let m = indicator_at(text, raw.next);
-        let stop = raw.next - 1;
-        let c = scan_encoded(text, at, stop, form);
-        let right = c.good;
-        if right {
-            return literal(form, m.mark, c.size, at, stop, place, m.next);
-        }
+    let Some(raw) = scan_body(text, at) else {
+        return refuse(NOTHING, place);
+    };
+    let m = indicator_at(text, raw.next);
+    let stop = raw.next - 1;
+    let Some(c) = scan_encoded(text, at, stop, form) else {
         return refuse(BAD_CONTENT, place);
-    }
-    refuse(NOTHING, place)
+    };
+    literal(form, m.mark, c.size, at, stop, place, m.next)
 }
 
 // A word with `'` behind it.
@@ -142,10 +131,9 @@ fn prefixed(text: &[u8], place: usize, end: usize) -> Token
     requires { Enclosed text.now place end }
     ensures { Says text.now place result (prefixed (span place end (marked text.now)) (drop (end + 1) (marked text.now))) }
 {
-    let prefix = prefix_word(text, place, end);
-    match prefix {
-        Prefix::Form(form) => encoded(text, place, end + 1, form),
-        Prefix::Refused(reason) => refuse(reason, place),
+    match prefix_word(text, place, end) {
+        Ok(form) => encoded(text, place, end + 1, form),
+        Err(reason) => refuse(reason, place),
     }
 }
 

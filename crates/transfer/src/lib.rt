@@ -4,48 +4,25 @@
 ghost use Rattle.std.specs.Prelude.{◌≡◌};
 ghost use Rattle.transfer.specs.Transfers.{transfer_of};
 
-// What is to be done after a call of read or write.
-#[derive(Drop)]
-pub enum Next {
-    CallAgain,
-    Stop,
-    GiveUp,
-}
-
-// What a call of read or write came to: how many bytes it moved, and what is to be done.
-#[derive(Drop)]
-pub struct Transfer {
-    pub moved: usize,
-    pub next: Next,
+// Why a call of read or write moved no byte.
+#[derive(Clone, Copy, Debug, PartialEq, Eq)]
+pub enum Failure {
+    // A signal came first: the call is to be made again.
+    Interrupted,
+    // Another error, with the system's number of it.
+    Other(i32),
 }
 
 // Linux's number of the error that a signal came before a byte was moved, EINTR.
 const INTERRUPTED: i32 = 4;
 
-// What a call answered means, with errno.
-pub fn meaning(got: isize, error: i32) -> Transfer
+// What a call answered means, with errno: how many bytes it moved, which are none where a read has met the end of the input.
+pub fn meaning(got: isize, error: i32) -> Result<usize, Failure>
     ensures { result ≡ transfer_of got error }
 {
-    if got > 0 {
-        return Transfer {
-            moved: got as usize,
-            next: Next::CallAgain,
-        };
-    }
-    if got == 0 {
-        return Transfer {
-            moved: 0,
-            next: Next::Stop,
-        };
-    }
-    if error == INTERRUPTED {
-        return Transfer {
-            moved: 0,
-            next: Next::CallAgain,
-        };
-    }
-    Transfer {
-        moved: 0,
-        next: Next::GiveUp,
+    match usize::try_from(got) {
+        Ok(n) => Ok(n),
+        Err(_) if error == INTERRUPTED => Err(Failure::Interrupted),
+        Err(_) => Err(Failure::Other(error)),
     }
 }

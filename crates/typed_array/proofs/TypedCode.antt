@@ -58,5 +58,3 @@ module _ (n : ℕ) (bytes : Bool) (l : ℕ) where
         pub may-bytes : {z : ℕ} → bytes ≡ true → ElementSize n z → eqb (l % z) 0 ≡ may_tag_by n bytes l
         unfolding may_tag_by
         may-bytes m z = rw z.is (rw (typed n g h, asked) (rw (ne_eqb n 76 e) (rw m)))
-
-pub ruleset may_ways = (may-low, may-high, may-reserved, may-other, may-bytes)

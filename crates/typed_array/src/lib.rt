@@ -22,17 +22,9 @@ fn element_size(number: u64) -> usize
 pub fn may_tag(number: u64, bytes: bool, length: usize) -> bool
     ensures { result ≡ may_tag_by number bytes length }
 {
-    if number < 64 {
-        return true;
+    match number {
+        76 => false,
+        64..=87 => bytes && length % element_size(number) == 0,
+        _ => true,
     }
-    if 87 < number {
-        return true;
-    }
-    if number == 76 {
-        return false;
-    }
-    if bytes {
-        return length % element_size(number) == 0;
-    }
-    false
 }

@@ -1,14 +1,13 @@
 -- Runs of ASCII: a block by its largest byte, and the walk over a run.
 -- Assumes nothing.
 use mathlib.Core.Path.{◌≡◌, refl, sym, subst}
-use mathlib.Core.Bool.{Bool, true, false, not, true≢false}
+use mathlib.Core.Bool.{Bool, true, false, true≢false}
 use mathlib.Core.List.{List}
-use Prim.Native.Nat.{ℕ, zero, suc, ◌+◌, ◌-◌, ◌≤◌, ◌<◌, max}
+use Prim.Native.Nat.{ℕ, zero, suc, ◌+◌, ◌-◌, ◌≤◌, ◌<◌}
 use native.Mathlib.Omega.{arith}
 use lib.Dec.{ltb}
 use lib.ListN.{length, get_or}
-use borrow.Author.Count.{below_more}
-use borrow.Author.Tests.{ltb-true, ltb-false, not-false}
+use borrow.Author.Tests.{ltb-true, ltb-false}
 use Rattle.cbor.specs.Utf8.{first_bad}
 use Rattle.cbor.proofs.Sequences.{Walked, walk_start, walk_ascii, walk_end}
 use Rattle.utf8.specs.AsciiRuns.{Block, Ascii, AllAscii}
@@ -17,21 +16,7 @@ use Rattle.utf8.specs.AsciiRuns.{Block, Ascii, AllAscii}
 pub record Topped (s : List ℕ) (at i m : ℕ) : Type 0 where
   pub is : (j : ℕ) → j < i → get_or s (at + j) 0 ≤ m
 
-pub topped_start : {s : List ℕ} {at : ℕ} → Topped s at 0 0
-topped_start = record { is = λ j h. absurd (omega arith) }
-
-module _ {s : List ℕ} {at i m : ℕ} (inv : Topped s at i m) where
-  pub topped_on : {n : ℕ} → n ≡ max m (get_or s (at + i) 0) → Topped s at (i + 1) n
-  topped_on {n} e = record { is = below_more (λ j. get_or s (at + j) 0 ≤ n) i (λ j h. omega (arith, inv.is j h)) (omega arith) }
-
-  pub topped_end : {n : ℕ} → n ≤ i → Block s at n (ltb m 0x80)
-  topped_end l = record { is = λ e j h. let k : j < i = omega arith in omega (arith, ltb-true m 0x80 e, inv.is j k) }
-
--- the loops over a run
-pub ascii-start : {s : List ℕ} {at : ℕ} → at ≤ length s → Ascii s at at
-ascii-start h = record { is = λ j l g. absurd (omega arith); inside = h; ahead = omega arith }
-
--- one run behind the other
+-- the loops over a run: one run behind the other
 pub ascii_join : {s : List ℕ} {from at end : ℕ} → Ascii s from at → Ascii s at end → Ascii s from end
 ascii_join {s} {from} {at} {end} x y = record { is = is; inside = y.inside; ahead = omega (arith, x.ahead, y.ahead) }
   where
@@ -43,19 +28,11 @@ ascii_join {s} {from} {at} {end} x y = record { is = is; inside = y.inside; ahea
         go false e = y.is j (ltb-false j at e) h
 
 module _ {s : List ℕ} {from at : ℕ} (inv : Ascii s from at) where
-  pub ascii-on : at < length s → get_or s at 0 < 0x80 → Ascii s from (at + 1)
-  ascii-on l h =
-      record {
-        is = λ j g k. below_more (λ i. from ≤ i → get_or s i 0 < 0x80) at (λ i a b. inv.is i b a) (λ b. h) j k g;
-        inside = omega arith;
-        ahead = omega (arith, inv.ahead);
-      }
-
-  pub ascii-block : {k : ℕ} {t : Bool} → k ≤ length s - at → Block s at k t → not t ≡ false → Ascii s from (at + k)
+  pub ascii-block : {k : ℕ} {t : Bool} → k ≤ length s - at → Block s at k t → t ≡ true → Ascii s from (at + k)
   ascii-block {k} {t} l x n = let i = inv.inside in ascii_join inv (record { is = is; inside = omega arith; ahead = omega arith })
     where
       is : (j : ℕ) → at ≤ j → j < at + k → get_or s j 0 < 0x80
-      is j g h = let z : at + (j - at) ≡ j = omega arith in rw z at (x.is (not-false t n) (j - at) (omega arith))
+      is j g h = let z : at + (j - at) ≡ j = omega arith in rw z at (x.is n (j - at) (omega arith))
 
 -- the walk passes a run
 walk_run : {s : List ℕ} {at : ℕ} (n : ℕ) → Walked s at → ((j : ℕ) → at ≤ j → j < at + n → get_or s j 0 < 0x80) → at + n ≤ length s → Walked s (at + n)

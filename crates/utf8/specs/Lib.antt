@@ -1,1 +1,2 @@
 pub mod AsciiRuns
+pub mod Measured

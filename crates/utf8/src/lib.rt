@@ -1,84 +1,70 @@
 // UTF-8 (RFC 3629): the place of the first bad sequence.
 #![tactic(auto)]
 
-ghost use Rattle.std.specs.Prelude.{◌≡◌, ◌∷◌, [], ◌+◌, ◌<◌, ◌≤◌, max, length, drop};
+ghost use Rattle.std.specs.Prelude.{◌≡◌, ◌∷◌, [], ◌+◌, ◌<◌, ◌≤◌, length, drop, slice_index};
 ghost use Rattle.cbor.specs.Utf8.{◌to◌, follow, are_in, first_bad};
-ghost use Rattle.cbor.specs.Sequences.{behind_first, Sequence};
+ghost use Rattle.cbor.specs.Sequences.{behind_first};
 ghost use Rattle.utf8.specs.AsciiRuns.{Block, Ascii, AllAscii};
-
-// What a first byte says: how long its sequence is, 0 where none begins so, and the bounds of the second byte.
-#[derive(Drop)]
-struct Lead(u8, u8, u8);
-
-fn lead_of(b: u8) -> Lead
-    ensures { follow b ≡ behind_first result.0 result.1 result.2 }
-{
-    if b < 0xe0 {
-        if b < 0x80 {
-            return Lead(1, 0x80, 0xbf);
-        }
-        if b < 0xc2 {
-            return Lead(0, 0x80, 0xbf);
-        }
-        return Lead(2, 0x80, 0xbf);
-    }
-    if b < 0xf0 {
-        if b < 0xe1 {
-            return Lead(3, 0xa0, 0xbf);
-        }
-        if b < 0xed {
-            return Lead(3, 0x80, 0xbf);
-        }
-        if b < 0xee {
-            return Lead(3, 0x80, 0x9f);
-        }
-        return Lead(3, 0x80, 0xbf);
-    }
-    if b < 0xf1 {
-        return Lead(4, 0x90, 0xbf);
-    }
-    if b < 0xf4 {
-        return Lead(4, 0x80, 0xbf);
-    }
-    if b < 0xf5 {
-        return Lead(4, 0x80, 0x8f);
-    }
-    Lead(0, 0x80, 0xbf)
-}
+ghost use Rattle.utf8.specs.Measured.{Measured};
 
 // Whether a byte stands at a place and is within bounds.
 fn within(bytes: &[u8], at: usize, low: u8, high: u8) -> bool
     ensures { result ≡ are_in ((low to high) ∷ []) (drop at bytes.now) }
 {
-    if bytes.len() <= at {
-        return false;
-    }
-    let b = bytes[at];
-    if b < low {
-        return false;
-    }
-    b <= high
+    at < bytes.len() && low <= bytes[at] && bytes[at] <= high
 }
 
-// The length of the sequence at a place, 0 where it is bad.
-fn sequence(bytes: &[u8], at: usize) -> usize
-    requires { at < length bytes.now }
-    ensures { Sequence bytes.now at result }
+// The length N of the sequence at a place, if the bytes behind its first one are right: the second has bounds of its own.
+fn whole<const N: usize>(bytes: &[u8], at: usize, mut low: u8, mut high: u8) -> Option<usize>
+    requires inside { at < length bytes.now }
+    requires some { 0 < N }
+    requires first { follow (slice_index bytes.now at) ≡ behind_first N low high }
+    ensures { Measured bytes.now at result }
 {
-    let lead = lead_of(bytes[at]);
-    let size = lead.0 as usize;
-    let mut low = lead.1;
-    let mut high = lead.2;
-    let mut i = 1;
-    while i < size {
+    for i in 1..N {
         if !within(bytes, at + i, low, high) {
-            return 0;
+            return None;
         }
         low = 0x80;
         high = 0xbf;
-        i += 1;
     }
-    size
+    Some(N)
+}
+
+// The length of the sequence at a place, if it is good. By tests alone: of a match on single bytes and ranges the compiler makes a
+// jump by a table, and letters of three bytes then take more than twice as long.
+fn sequence(bytes: &[u8], at: usize) -> Option<usize>
+    requires { at < length bytes.now }
+    ensures { Measured bytes.now at result }
+{
+    let b = bytes[at];
+    if b < 0xe0 {
+        if b < 0x80 {
+            Some(1)
+        } else if b < 0xc2 {
+            None
+        } else {
+            whole::<2>(bytes, at, 0x80, 0xbf)
+        }
+    } else if b < 0xf0 {
+        if b < 0xe1 {
+            whole::<3>(bytes, at, 0xa0, 0xbf)
+        } else if b < 0xed {
+            whole::<3>(bytes, at, 0x80, 0xbf)
+        } else if b < 0xee {
+            whole::<3>(bytes, at, 0x80, 0x9f)
+        } else {
+            whole::<3>(bytes, at, 0x80, 0xbf)
+        }
+    } else if b < 0xf1 {
+        whole::<4>(bytes, at, 0x90, 0xbf)
+    } else if b < 0xf4 {
+        whole::<4>(bytes, at, 0x80, 0xbf)
+    } else if b < 0xf5 {
+        whole::<4>(bytes, at, 0x80, 0x8f)
+    } else {
+        None
+    }
 }
 
 // The first byte that is no ASCII.
@@ -91,71 +77,39 @@ const WIDE: usize = 128;
 
 const FEW: usize = 16;
 
-fn larger(a: u8, b: u8) -> u8
-    ensures { result ≡ max a b }
-{
-    if a < b {
-        return b;
-    }
-    a
-}
-
-// Whether a block is ASCII. The loop has no way out, so the compiler makes wide steps of it.
-fn is_ascii_block(bytes: &[u8], at: usize) -> bool
-    requires { at + 32 ≤ length bytes.now }
-    ensures { Block bytes.now at 32 result }
+// Whether N bytes from a place on are ASCII. The loop has no way out, so the compiler makes wide steps of it.
+fn is_ascii_block<const N: usize>(bytes: &[u8], at: usize) -> bool
+    requires { at + N ≤ length bytes.now }
+    ensures { Block bytes.now at N result }
 {
     let mut most: u8 = 0;
-    let mut i: usize = 0;
-    while i < BLOCK {
-        most = larger(most, bytes[at + i]);
-        i += 1;
+    for i in 0..N {
+        most = most.max(bytes[at + i]);
     }
     most < BEHIND_ASCII
 }
 
-// The same of a wide block.
-fn is_wide_block(bytes: &[u8], at: usize) -> bool
-    requires { at + 128 ≤ length bytes.now }
-    ensures { Block bytes.now at 128 result }
-{
-    let mut most: u8 = 0;
-    let mut i: usize = 0;
-    while i < WIDE {
-        most = larger(most, bytes[at + i]);
-        i += 1;
-    }
-    most < BEHIND_ASCII
-}
-
-// Past wide blocks of ASCII.
-fn wide_blocks(bytes: &[u8], from: usize) -> usize
-    requires { from ≤ length bytes.now }
+// Past blocks of N bytes of ASCII.
+fn past_blocks<const N: usize>(bytes: &[u8], from: usize) -> usize
+    requires n { 0 < N }
+    requires from { from ≤ length bytes.now }
     ensures { Ascii bytes.now from result }
 {
+    // A cursor: where it stops is the answer, so no range counts it.
     let mut end = from;
-    while WIDE <= bytes.len() - end {
-        if !is_wide_block(bytes, end) {
-            return end;
-        }
-        end += WIDE;
+    while N <= bytes.len() - end && is_ascii_block::<N>(bytes, end) {
+        end += N;
     }
     end
 }
 
-// Past whole blocks of ASCII.
+// Past wide blocks of ASCII, and then past others.
 fn ascii_blocks(bytes: &[u8], from: usize) -> usize
     requires { from ≤ length bytes.now }
     ensures { Ascii bytes.now from result }
 {
-    let mut end = wide_blocks(bytes, from);
-    while BLOCK <= bytes.len() - end {
-        if !is_ascii_block(bytes, end) {
-            return end;
-        }
-        end += BLOCK;
-    }
-    end
+    let end = past_blocks::<WIDE>(bytes, from);
+    past_blocks::<BLOCK>(bytes, end)
 }
 
 // Whether all is ASCII, as far as blocks show it. The last one may overlap the one before it.
@@ -166,10 +120,7 @@ fn is_ascii(bytes: &[u8]) -> bool
         return false;
     }
     let end = ascii_blocks(bytes, 0);
-    if BLOCK <= bytes.len() - end {
-        return false;
-    }
-    is_ascii_block(bytes, bytes.len() - BLOCK)
+    bytes.len() - end < BLOCK && is_ascii_block::<BLOCK>(bytes, bytes.len() - BLOCK)
 }
 
 // Past ASCII, to where other letters may stand.
@@ -177,17 +128,15 @@ fn ascii_end(bytes: &[u8], from: usize) -> usize
     requires { from ≤ length bytes.now }
     ensures { Ascii bytes.now from result }
 {
-    let mut end = from;
-    while end < bytes.len() {
+    for end in from..bytes.len() {
         if BEHIND_ASCII <= bytes[end] {
             return end;
         }
         if FEW <= end - from {
             return ascii_blocks(bytes, end);
         }
-        end += 1;
     }
-    end
+    bytes.len()
 }
 
 // The place of the first bad sequence, the length where there is none.
@@ -203,10 +152,9 @@ pub fn first_bad(bytes: &[u8]) -> usize
             at = ascii_end(bytes, at + 1);
             continue;
         }
-        let size = sequence(bytes, at);
-        if size == 0 {
+        let Some(size) = sequence(bytes, at) else {
             return at;
-        }
+        };
         at += size;
     }
     at

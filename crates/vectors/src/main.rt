@@ -20,14 +20,13 @@ fn space() -> [u8; 131072]
 // Reads the rows, and runs them.
 fn main(rt: HostRuntime) {
     let mut text = space();
-    let input = streams::read_all(&mut rt.stdin(), &mut text);
-    let n = input.size;
-    if !input.is_whole {
-        streams::fail(&rt, "vectors: standard input cannot be read", input.error);
-        return;
+    match streams::read_all(&mut rt.stdin(), &mut text) {
+        Ok(n) => {
+            if 131071 < n {
+                io::write_all(STDOUT, b"there are more rows than are read\n");
+            }
+            run::run_all(&text[..n]);
+        }
+        Err(e) => streams::fail(&rt, "vectors: standard input cannot be read", e.error),
     }
-    if 131071 < n {
-        io::write_all(STDOUT, b"there are more rows than are read\n");
-    }
-    run::run_all(&text[..n]);
 }

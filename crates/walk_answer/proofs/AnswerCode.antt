@@ -8,29 +8,27 @@ use Rattle.walk_answer.specs.WalkAnswers.{PassTold, passed, pass_refused, pass_t
 use Rattle.refusal.specs.declared.Refusal.{Refusal}
 use Rattle.refusal.specs.declared.RefusalKind.{RefusalKind}
 use Rattle.walk_answer.specs.declared.WalkedItem.{WalkedItem}
-use Rattle.walk_answer.specs.declared.Walked.{Walked}
-use Rattle.walk_answer.specs.declared.Walked.TheVariants.{Made as MadeV, Refused as WalkRefusedV}
 use Rattle.walk_answer.specs.declared.Passage.{Passage}
-use Rattle.walk_answer.specs.declared.Passed.{Passed}
-use Rattle.walk_answer.specs.declared.Passed.TheVariants.{Span as SpanV, Refused as RefusedV}
+use Rattle.std.specs.Prelude.{Ok, Err}
+use Rattle.std.specs.Prelude as std
 
 -- ANSWERS
 
-pub told-span : (end size : ℕ) → pass_told (SpanV (record { end = end; size = size })) ≡ passed end size
+pub told-span : (end size : ℕ) → pass_told (Ok (record { end = end; size = size })) ≡ passed end size
 unfolding pass_told
 told-span end size = refl
 
-pub told-refused : (kind : RefusalKind) (place : ℕ) → pass_told (RefusedV (record { kind = kind; place = place })) ≡ pass_refused (kind_number kind) place
+pub told-refused : (kind : RefusalKind) (place : ℕ) → pass_told (Err (record { kind = kind; place = place })) ≡ pass_refused (kind_number kind) place
 unfolding pass_told
 told-refused kind place = refl
 
-module _ (from size : ℕ) {t : PassTold} {part : Passed} {x y : ℕ} where
-  pub after-made : {m : Passage} → part ≡ SpanV m → x ≡ capped from m.end → y ≡ capped size m.size → t ≡ passed x y → t ≡ after_told from size (pass_told part)
+module _ (from size : ℕ) {t : PassTold} {part : std.Result Passage Refusal} {x y : ℕ} where
+  pub after-made : {m : Passage} → part ≡ Ok m → x ≡ capped from m.end → y ≡ capped size m.size → t ≡ passed x y → t ≡ after_told from size (pass_told part)
   unfolding pass_told after_told
   after-made e i j h = h ∙ rw (e, i, j)
 
-module _ (from size : ℕ) {t : PassTold} {part : Passed} {x : ℕ} where
-  pub after-refused : {e : Refusal} → part ≡ RefusedV e → x ≡ capped from e.place → t ≡ pass_refused (kind_number e.kind) x → t ≡ after_told from size (pass_told part)
+module _ (from size : ℕ) {t : PassTold} {part : std.Result Passage Refusal} {x : ℕ} where
+  pub after-refused : {e : Refusal} → part ≡ Err e → x ≡ capped from e.place → t ≡ pass_refused (kind_number e.kind) x → t ≡ after_told from size (pass_told part)
   unfolding pass_told after_told
   after-refused e i h = h ∙ rw (e, i)
 
@@ -38,23 +36,23 @@ pub ruleset after_ways = (after-made, after-refused)
 
 -- AN ITEM AND WHAT WAS PASSED OVER
 
-module _ (major : ℕ) {span : Passed} where
-  pub major-made : {m : Passage} → span ≡ SpanV m → walk_told (MadeV (record { end = m.end; major = major; size = m.size })) ≡ with_major major (pass_told span)
+module _ (major : ℕ) {span : std.Result Passage Refusal} where
+  pub major-made : {m : Passage} → span ≡ Ok m → walk_told (Ok (record { end = m.end; major = major; size = m.size })) ≡ with_major major (pass_told span)
   unfolding walk_told pass_told with_major
   major-made e = rw e
 
-  pub major-refused : {e : Refusal} → span ≡ RefusedV e → walk_told (WalkRefusedV e) ≡ with_major major (pass_told span)
+  pub major-refused : {e : Refusal} → span ≡ Err e → walk_told (Err e) ≡ with_major major (pass_told span)
   unfolding walk_told pass_told with_major
   major-refused e = rw e
 
 pub ruleset with_ways = (major-made, major-refused)
 
-module _ (from x : ℕ) {inner : Walked} where
-  pub item-after-made : {m : WalkedItem} → inner ≡ MadeV m → x ≡ capped from m.end → walk_told (MadeV (record { end = x; major = m.major; size = m.size })) ≡ item_after from (walk_told inner)
+module _ (from x : ℕ) {inner : std.Result WalkedItem Refusal} where
+  pub item-after-made : {m : WalkedItem} → inner ≡ Ok m → x ≡ capped from m.end → walk_told (Ok (record { end = x; major = m.major; size = m.size })) ≡ item_after from (walk_told inner)
   unfolding walk_told item_after
   item-after-made e h = rw (e, h)
 
-  pub item-after-refused : {e : Refusal} → inner ≡ WalkRefusedV e → x ≡ capped from e.place → walk_told (WalkRefusedV (record { kind = e.kind; place = x })) ≡ item_after from (walk_told inner)
+  pub item-after-refused : {e : Refusal} → inner ≡ Err e → x ≡ capped from e.place → walk_told (Err (record { kind = e.kind; place = x })) ≡ item_after from (walk_told inner)
   unfolding walk_told item_after
   item-after-refused e h = rw (e, h)
 

@@ -16,11 +16,13 @@ use Rattle.walk_answer.specs.WalkAnswers.{PassTold, passed, pass_refused, pass_t
 use Rattle.cbor.specs.Flags.{kind_of}
 use Rattle.refusal.specs.declared.Refusal.{Refusal}
 use Rattle.walk_answer.specs.declared.Passage.{Passage}
-use Rattle.walk_answer.specs.declared.Passed.{Passed}
-use Rattle.walk_answer.specs.declared.Passed.TheVariants.{Span as SpanV, Refused as RefusedV}
 use Rattle.memory.specs.Sums.{capped}
 use Rattle.walk_answer.proofs.Leaves.{Leaves, same, leaves-sized, several_eq, several-leaves}
 use Rattle.walk_answer.proofs.ItemLeaves.{chunk_leaves, entry_leaves, below-leaves}
+use Rattle.std.specs.Prelude.{Ok, Err}
+use Rattle.std.specs.Prelude as std
+use Rattle.walk_answer.specs.declared.Mode.{Mode}
+use Rattle.walk_answer.specs.declared.Mode.TheVariants.{Counted}
 
 -- ANSWERS
 
@@ -33,21 +35,21 @@ pub record Reached (n : ℕ) (m : Passage) (res : Result ℕ) : Type 0 where
   pub is : res ≡ ok m.size rest
   pub ends : m.end ≡ n - length rest
 
-reached_of : (n : ℕ) (m : Passage) (res : Result ℕ) → pass_told (SpanV m) ≡ told_of n res → Reached n m res
+reached_of : (n : ℕ) (m : Passage) (res : Result ℕ) → pass_told (Ok m) ≡ told_of n res → Reached n m res
 unfolding pass_told told_of
 reached_of n m (ok k r) e = let i : m.size ≡ k = cc in record { rest = r; is = ap (λ (x : ℕ). ok x r) (sym i); ends = cc }
 reached_of n m (refuse k l) e = let z : ◌≡◌ {A = ℕ} 0 1 = cc in absurd (omega arith)
 
-pub reached : {n : ℕ} {m : Passage} (res : Result ℕ) (a : Passed) → pass_told a ≡ told_of n res → a ≡ SpanV m → Reached n m res
+pub reached : {n : ℕ} {m : Passage} (res : Result ℕ) (a : std.Result Passage Refusal) → pass_told a ≡ told_of n res → a ≡ Ok m → Reached n m res
 reached res a e i = reached_of _ _ res (rw i at e)
 
-lost_of : (n : ℕ) (e : Refusal) (res : Result ℕ) (go : ℕ → List ℕ → Result ℕ) → pass_told (RefusedV e) ≡ told_of n res → pass_told (RefusedV e) ≡ told_of n (bind res go)
+lost_of : (n : ℕ) (e : Refusal) (res : Result ℕ) (go : ℕ → List ℕ → Result ℕ) → pass_told (Err e) ≡ told_of n res → pass_told (Err e) ≡ told_of n (bind res go)
 unfolding pass_told told_of bind
 lost_of n e (ok k r) go h = let z : ◌≡◌ {A = ℕ} 0 1 = cc in absurd (omega arith)
 lost_of n e (refuse k l) go h = h
 
 -- a part that is refused, and whatever begins with it
-pub lost : (n : ℕ) {e : Refusal} (res : Result ℕ) (go : ℕ → List ℕ → Result ℕ) (a : Passed) → pass_told a ≡ told_of n res → a ≡ RefusedV e → pass_told (RefusedV e) ≡ told_of n (bind res go)
+pub lost : (n : ℕ) {e : Refusal} (res : Result ℕ) (go : ℕ → List ℕ → Result ℕ) (a : std.Result Passage Refusal) → pass_told a ≡ told_of n res → a ≡ Err e → pass_told (Err e) ≡ told_of n (bind res go)
 lost n res go a h i = lost_of n _ res go (rw i at h)
 
 -- the part of a slice from a place on, as the code has it
@@ -195,7 +197,7 @@ all_rest d (suc k) s {z} {r} e = first (one_of 4 d s) refl (sym (all_more 4 d k 
     first (refuse n l) h i ih = let o : ◌≡◌ {A = ℕ} 0 1 = cc in absurd (omega arith)
 
 module _ (n d : ℕ) (s : List ℕ) {t : PassTold} where
-  pub other_entry : {major : ℕ} → major ≡ 5 → t ≡ told_of n (all_of 4 d (until_by 0 2) s) → t ≡ told_of n (one_of major d s)
+  pub other_entry : {major : ℕ} → major ≡ 5 → t ≡ told_of n (all_of 4 d (until_by Counted 2) s) → t ≡ told_of n (one_of major d s)
   unfolding until_by
   other_entry e h = rw e (h ∙ ap (told_of n) (all_double d 1 s ∙ all_one 5 d s))
 
@@ -214,7 +216,7 @@ pub record Run (major d : ℕ) (s : List ℕ) (first : Until) (at size : ℕ) (u
 pub run-start : {major d : ℕ} {s : List ℕ} {u : Until} → Run major d s u 0 0 u
 run-start {major} {d} {s} {u} = record { inside = omega arith; small = omega arith; left = bind-none (all_of major d u s) }
 
-module _ {major d : ℕ} {s : List ℕ} {first : Until} {at size mode n : ℕ} (run : Run major d s first at size (until_by mode n)) {t : Bool} (tu : Turned s at mode n t) where
+module _ {major d : ℕ} {s : List ℕ} {first : Until} {at size : ℕ} {mode : Mode} {n : ℕ} (run : Run major d s first at size (until_by mode n)) {t : Bool} (tu : Turned s at mode n t) where
   run_eq : (x : Step) → step_by t mode n s at ≡ x → all_of major d first s ≡ bind (several_by 0 ◌+◌ (one_of major d) (all_of major d) x (drop at s)) (λ m r. ok (size + m) r)
   run_eq x e =
       run.left ∙ ap (λ (k : Result ℕ). bind k (λ m r. ok (size + m) r)) (all_eq major d (until_by mode n) (drop at s)
@@ -229,7 +231,7 @@ module _ {major d : ℕ} {s : List ℕ} {first : Until} {at size mode n : ℕ} (
       let q : size ≡ size + 0 = omega arith in
       h ∙ (λ j. passed (p j) (q j)) ∙ sym (ap (told_of (length s)) (run_eq (finished (drop (at + behind_by mode) s)) (ap (λ (v : Bool). step_by v mode n s at) tr)))
 
-  module _ (y : not t ≡ true) (one : Passed) (long : length s * 1 < 2 ^ 63) (told : pass_told one ≡ told_of (length (take (length s - at) (drop at s))) (one_of major d (take (length s - at) (drop at s)))) (part : Passed)
+  module _ (y : not t ≡ true) (one : std.Result Passage Refusal) (long : length s * 1 < 2 ^ 63) (told : pass_told one ≡ told_of (length (take (length s - at) (drop at s))) (one_of major d (take (length s - at) (drop at s)))) (part : std.Result Passage Refusal)
       (after : pass_told part ≡ after_told at size (pass_told one)) where
     -- this one, with what was walked over before it, and then the others
     on : all_of major d first s ≡ bind (bind (one_of major d (drop at s)) (λ m r. ok (size + m) r)) (others major d (until_by mode (n - 1)))
@@ -248,10 +250,10 @@ module _ {major d : ℕ} {s : List ℕ} {first : Until} {at size mode n : ℕ} (
     part-told =
         after ∙ ap (after_told at size) (told ∙ ap (λ (t : List ℕ). told_of (length t) (one_of major d t)) (tail_is s at)) ∙ after-told 1 s at size (one_of major d (drop at s)) run.inside run.small (omega arith) (one-leaves major d (drop at s))
 
-    pub run-refused : {x : Refusal} → part ≡ RefusedV x → pass_told (RefusedV x) ≡ told_of (length s) (all_of major d first s)
+    pub run-refused : {x : Refusal} → part ≡ Err x → pass_told (Err x) ≡ told_of (length s) (all_of major d first s)
     run-refused h = lost (length s) (bind (one_of major d (drop at s)) (λ m r. ok (size + m) r)) (others major d (until_by mode (n - 1))) part part-told h ∙ ap (told_of (length s)) (sym on)
 
-    module _ {m : Passage} (h : part ≡ SpanV m) where
+    module _ {m : Passage} (h : part ≡ Ok m) where
       at_part : Reached (length s) m (bind (one_of major d (drop at s)) (λ m r. ok (size + m) r))
       at_part = reached _ part part-told h
 

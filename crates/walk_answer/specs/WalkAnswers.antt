@@ -10,11 +10,13 @@ use Rattle.cbor.specs.Decode.{Until, counted, broken, ended, Step, finished, ano
 use Rattle.refusal.specs.RefusalKinds.{kind_number}
 use Rattle.head.specs.HeadAnswers.{head_told, head_at}
 use Rattle.head.specs.declared.HeadAt.{HeadAt}
-use Rattle.head.specs.declared.HeadRead.TheVariants.{Head as HeadV}
-use Rattle.walk_answer.specs.declared.Walked.{Walked}
-use Rattle.walk_answer.specs.declared.Walked.TheVariants.{Made as MadeV, Refused as RefusedV}
-use Rattle.walk_answer.specs.declared.Passed.{Passed}
-use Rattle.walk_answer.specs.declared.Passed.TheVariants.{Span as SpanV, Refused as PassRefusedV}
+use Rattle.std.specs.Prelude.{Ok, Err}
+use Rattle.std.specs.Prelude as std
+use Rattle.refusal.specs.declared.Refusal.{Refusal}
+use Rattle.walk_answer.specs.declared.Passage.{Passage}
+use Rattle.walk_answer.specs.declared.WalkedItem.{WalkedItem}
+use Rattle.walk_answer.specs.declared.Mode.{Mode}
+use Rattle.walk_answer.specs.declared.Mode.TheVariants.{Counted, Broken, Ended}
 
 -- THE ANSWER
 
@@ -23,18 +25,18 @@ pub data PassTold : Type 0 where
   passed : ℕ → ℕ → PassTold
   pass_refused : ℕ → ℕ → PassTold
 
-unfoldable pub pass_told : Passed → PassTold
-pass_told (SpanV m) = passed m.end m.size
-pass_told (PassRefusedV e) = pass_refused (kind_number e.kind) e.place
+unfoldable pub pass_told : std.Result Passage Refusal → PassTold
+pass_told (Ok m) = passed m.end m.size
+pass_told (Err e) = pass_refused (kind_number e.kind) e.place
 
 -- of an item: its major type as well, between the two
 pub data WalkTold : Type 0 where
   item_passed : ℕ → ℕ → ℕ → WalkTold
   walk_refused : ℕ → ℕ → WalkTold
 
-unfoldable pub walk_told : Walked → WalkTold
-walk_told (MadeV m) = item_passed m.end m.major m.size
-walk_told (RefusedV e) = walk_refused (kind_number e.kind) e.place
+unfoldable pub walk_told : std.Result WalkedItem Refusal → WalkTold
+walk_told (Ok m) = item_passed m.end m.major m.size
+walk_told (Err e) = walk_refused (kind_number e.kind) e.place
 
 unfoldable pub with_major : ℕ → PassTold → WalkTold
 with_major m (passed e k) = item_passed e m k
@@ -108,23 +110,27 @@ all_of major d u s = several 0 ◌+◌ (one_of major d) u s
 unfoldable pub tag_of : ℕ → ℕ → ℕ → List ℕ → Result ℕ
 tag_of n d left s = bind (item d s) (λ x r. elim (may_tag n x) [ true ↦ ok (contents x) r | false ↦ refuse bad_typed_array left ])
 
--- how far they go, by the code's numbers: 0 a number of them, 1 to a break, else to the end of the bytes
-unfoldable pub until_by : ℕ → ℕ → Until
-until_by mode n = elim (eqb mode 0) [ true ↦ counted n | false ↦ elim (eqb mode 1) [ true ↦ broken | false ↦ ended ] ]
+-- how far they go, as the code says it: a number of them, to a break, to the end of the bytes
+unfoldable pub until_by : Mode → ℕ → Until
+until_by Counted n = counted n
+until_by Broken n = broken
+until_by Ended n = ended
 
-unfoldable pub mode_by : ℕ → ℕ
-mode_by i = elim (eqb i 31) [ true ↦ 1 | false ↦ 0 ]
+unfoldable pub mode_by : ℕ → Mode
+mode_by i = elim (eqb i 31) [ true ↦ Broken | false ↦ Counted ]
 
 -- a break is passed
-unfoldable pub behind_by : ℕ → ℕ
-behind_by mode = elim (eqb mode 1) [ true ↦ 1 | false ↦ 0 ]
+unfoldable pub behind_by : Mode → ℕ
+behind_by Counted = 0
+behind_by Broken = 1
+behind_by Ended = 0
 
-unfoldable pub step_by : Bool → ℕ → ℕ → List ℕ → ℕ → Step
+unfoldable pub step_by : Bool → Mode → ℕ → List ℕ → ℕ → Step
 step_by true mode n s at = finished (drop (at + behind_by mode) s)
 step_by false mode n s at = another (until_by mode (n - 1))
 
 -- r: none of them is left
-pub record Turned (s : List ℕ) (at mode n : ℕ) (r : Bool) : Type 0 where
+pub record Turned (s : List ℕ) (at : ℕ) (mode : Mode) (n : ℕ) (r : Bool) : Type 0 where
   pub is : step_at (until_by mode n) (drop at s) ≡ step_by r mode n s at
   pub inside : r ≡ true → at ≤ length s → at + behind_by mode ≤ length s
 
@@ -139,10 +145,10 @@ item_after from (walk_refused i p) = walk_refused i (capped from p)
 
 -- the head at the front
 pub record Headed (s : List ℕ) (h : HeadAt) : Type 0 where
-  pub is : head_told (HeadV h) ≡ head_at s 0
+  pub is : head_told (Ok h) ≡ head_at s 0
 
 -- the head at the front is refused, and so is each item that begins with it
-pub record Headless (s : List ℕ) (r : Passed) : Type 0 where
+pub record Headless (s : List ℕ) (r : std.Result Passage Refusal) : Type 0 where
   pub is : (d : ℕ) → pass_told r ≡ pass_of (length s) (item d s)
 
 pub record Within (s : List ℕ) (from : ℕ) : Type 0 where

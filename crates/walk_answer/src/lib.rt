@@ -18,12 +18,6 @@ pub struct WalkedItem {
     pub size: usize,
 }
 
-#[derive(Drop)]
-pub enum Walked {
-    Made(WalkedItem),
-    Refused(Refusal),
-}
-
 // Several items, or a part of one: an entry, a chunk, what stands behind a head.
 #[derive(Drop)]
 pub struct Passage {
@@ -31,115 +25,105 @@ pub struct Passage {
     pub size: usize,
 }
 
-#[derive(Drop)]
-pub enum Passed {
-    Span(Passage),
-    Refused(Refusal),
-}
-
-pub fn reached(end: usize, size: usize) -> Passed
+pub fn reached(end: usize, size: usize) -> Result<Passage, Refusal>
     ensures { pass_told result ≡ passed end size }
 {
-    Passed::Span(Passage { end, size })
+    Ok(Passage { end, size })
 }
 
-pub fn refuse(kind: RefusalKind, place: usize) -> Passed
+pub fn refuse(kind: RefusalKind, place: usize) -> Result<Passage, Refusal>
     ensures { pass_told result ≡ pass_refused (kind_number kind) place }
 {
-    Passed::Refused(Refusal { kind, place })
+    Err(Refusal { kind, place })
 }
 
 // The item of a major type that was passed over.
-pub fn with_major(major: u8, span: Passed) -> Walked
+pub fn with_major(major: u8, span: Result<Passage, Refusal>) -> Result<WalkedItem, Refusal>
     ensures { walk_told result ≡ with_major major (pass_told span) }
 {
-    match span {
-        Passed::Span(m) => Walked::Made(WalkedItem {
-            end: m.end,
-            major,
-            size: m.size,
-        }),
-        Passed::Refused(e) => Walked::Refused(e),
-    }
+    let m = span?;
+    Ok(WalkedItem {
+        end: m.end,
+        major,
+        size: m.size,
+    })
 }
 
 // The answer for a part, as that for the whole: the part starts at `from`, and `size` bytes of strings stand before it.
-pub fn after(from: usize, size: usize, part: Passed) -> Passed
+pub fn after(from: usize, size: usize, part: Result<Passage, Refusal>) -> Result<Passage, Refusal>
     ensures { pass_told result ≡ after_told from size (pass_told part) }
 {
     match part {
-        Passed::Span(m) => reached(sum(from, m.end), sum(size, m.size)),
-        Passed::Refused(e) => {
-            let kind = e.kind;
-            refuse(kind, sum(from, e.place))
-        }
+        Ok(m) => reached(sum(from, m.end), sum(size, m.size)),
+        Err(Refusal { kind, place }) => refuse(kind, sum(from, place)),
     }
 }
 
 // The answer for an item that starts at `from`, as that for the whole.
-pub fn item_after(from: usize, inner: Walked) -> Walked
+pub fn item_after(from: usize, inner: Result<WalkedItem, Refusal>) -> Result<WalkedItem, Refusal>
     ensures { walk_told result ≡ item_after from (walk_told inner) }
 {
     match inner {
-        Walked::Made(m) => Walked::Made(WalkedItem {
+        Ok(m) => Ok(WalkedItem {
             end: sum(from, m.end),
             major: m.major,
             size: m.size,
         }),
-        Walked::Refused(e) => {
-            let kind = e.kind;
-            Walked::Refused(Refusal {
-                kind,
-                place: sum(from, e.place),
-            })
-        }
+        Err(Refusal { kind, place }) => Err(Refusal {
+            kind,
+            place: sum(from, place),
+        }),
     }
 }
 
 // HOW FAR
 
-// Several go on by `mode`: a number of them; to a break; to the end of the bytes.
-pub const COUNTED: u8 = 0;
+// How several go on: a number of them; to a break; to the end of the bytes.
+#[derive(Clone, Copy)]
+pub enum Mode {
+    Counted,
+    Broken,
+    Ended,
+}
 
-pub const BROKEN: u8 = 1;
-
-pub const ENDED: u8 = 2;
+// Entries of a map are walked over as twice as many items, where these can be counted.
+pub const MOST_ENTRIES: u64 = 0xffff_ffff;
 
 // How several behind a head go on.
-pub fn mode_of(info: u8) -> u8
+pub fn mode_of(info: u8) -> Mode
     ensures { result ≡ mode_by info }
 {
     if info == INDEFINITE_LENGTH {
-        BROKEN
+        Mode::Broken
     } else {
-        COUNTED
+        Mode::Counted
     }
 }
 
 // Whether none of them is left at a place; `n` of them are, where they are counted.
-pub fn is_over(bytes: &[u8], at: usize, mode: u8, n: u64) -> bool
+pub fn is_over(bytes: &[u8], at: usize, mode: Mode, n: u64) -> bool
     ensures { Turned bytes.now at mode n result }
 {
-    if mode == COUNTED {
-        return n == 0;
-    }
-    if mode == BROKEN {
-        if bytes.len() <= at {
-            return false;
+    match mode {
+        Mode::Counted => n == 0,
+        Mode::Broken => {
+            if bytes.len() <= at {
+                return false;
+            }
+            bytes[at] == BREAK
         }
-        return bytes[at] == BREAK;
+        Mode::Ended => bytes.len() <= at,
     }
-    bytes.len() <= at
 }
 
 // Behind the break, if there is one.
-pub fn past(at: usize, mode: u8) -> usize
+pub fn past(at: usize, mode: Mode) -> usize
     ensures { result ≡ capped at (behind_by mode) }
 {
-    if mode == BROKEN {
-        return sum(at, 1);
+    match mode {
+        Mode::Broken => sum(at, 1),
+        _ => at,
     }
-    at
 }
 
 pub fn less(n: u64) -> u64

@@ -21,10 +21,9 @@ use Rattle.cbor.specs.Flags.{kind_of}
 use Rattle.refusal.specs.declared.Refusal.{Refusal}
 use Rattle.refusal.specs.declared.RefusalKind.TheVariants.{NotUtf8, EndsInside, NotWellFormed}
 use Rattle.head.specs.declared.HeadAt.{HeadAt}
-use Rattle.head.specs.declared.HeadRead.{HeadRead}
-use Rattle.head.specs.declared.HeadRead.TheVariants.{Head as HeadV, Refused as HeadRefusedV}
-use Rattle.walk_answer.specs.declared.Passed.TheVariants.{Refused as RefusedV}
 use Rattle.walk_answer.proofs.ItemLeaves.{LowSize, HeadLeft, head-left}
+use Rattle.std.specs.Prelude.{Ok, Err}
+use Rattle.std.specs.Prelude as std
 
 -- STRINGS
 
@@ -95,7 +94,7 @@ pub record Got (s : List ℕ) (h : HeadAt) : Type 0 where
   pub ends : h.end ≡ length s - length rest
   pub drops : drop h.end s ≡ rest
 
-got_of : (s : List ℕ) (h : HeadAt) (res : Result Head) → next_head s ≡ res → head_told (HeadV h) ≡ head_from (length s) res → Got s h
+got_of : (s : List ℕ) (h : HeadAt) (res : Result Head) → next_head s ≡ res → head_told (Ok h) ≡ head_from (length s) res → Got s h
 unfolding head_told head_from
 got_of s h (ok d r) i e =
     let l = head-left s i in
@@ -110,7 +109,7 @@ got {s} {h} e = got_of s h (next_head s) refl e.is
 pub got_both : {X : Type 0} {s : List ℕ} {h : HeadAt} (g : Got s h) (f : ℕ → List ℕ → X) → f h.argument (drop h.end s) ≡ f g.head.argument g.rest
 got_both g f = λ j. f (g.argument j) (g.drops j)
 
-pub headed : (s : List ℕ) {h : HeadAt} (a : HeadRead) → head_told a ≡ head_at s 0 → a ≡ HeadV h → Headed s h
+pub headed : (s : List ℕ) {h : HeadAt} (a : std.Result HeadAt Refusal) → head_told a ≡ head_at s 0 → a ≡ Ok h → Headed s h
 headed s a e i = record { is = rw i at e }
 
 pub head-room : {s : List ℕ} {h : HeadAt} → Headed s h → Within s h.end
@@ -120,8 +119,8 @@ pub head-inside : {s : List ℕ} {h : HeadAt} → Headed s h → h.end ≤ lengt
 head-inside e = (head-room e).inside
 
 -- a head that is refused, and whatever begins with it
-lost_of : {A : Type 0} (f : A → ℕ) (s : List ℕ) (e : Refusal) (res : Result Head) (go : Head → List ℕ → Result A) → head_told (HeadRefusedV e) ≡ head_from (length s) res
-    → pass_told (RefusedV e) ≡ told_of (length s) (map_result f (bind res go))
+lost_of : {A : Type 0} (f : A → ℕ) (s : List ℕ) (e : Refusal) (res : Result Head) (go : Head → List ℕ → Result A) → head_told (Err e) ≡ head_from (length s) res
+    → pass_told (Err e) ≡ told_of (length s) (map_result f (bind res go))
 unfolding head_told head_from pass_told told_of map_result bind
 lost_of f s e (ok d r) go h = let z : ◌≡◌ {A = ℕ} 0 1 = cc in absurd (omega arith)
 lost_of f s e (refuse n left) go h =
@@ -129,8 +128,8 @@ lost_of f s e (refuse n left) go h =
     let j : e.place ≡ length s - left = cc in
     λ k. pass_refused (i k) (j k)
 
-pub head-lost : {A : Type 0} (s : List ℕ) {e : Refusal} (f : A → ℕ) (go : Head → List ℕ → Result A) (a : HeadRead) → head_told a ≡ head_at s 0 → a ≡ HeadRefusedV e
-    → pass_told (RefusedV e) ≡ told_of (length s) (map_result f (bind (next_head s) go))
+pub head-lost : {A : Type 0} (s : List ℕ) {e : Refusal} (f : A → ℕ) (go : Head → List ℕ → Result A) (a : std.Result HeadAt Refusal) → head_told a ≡ head_at s 0 → a ≡ Err e
+    → pass_told (Err e) ≡ told_of (length s) (map_result f (bind (next_head s) go))
 unfolding head_at
 head-lost s {e} f go a h i = lost_of f s e (next_head s) go (rw i at h)
 
@@ -179,11 +178,11 @@ unfolding chunk_at
 chunk_is k [] n i h = absurd (n refl)
 chunk_is k (b ∷ s) n i h = rw (eq-eqb (b / 32) (major_number (strings k)) (h ∙ i), chunk_at)
 
-module _ (k : Bool) (s : List ℕ) {m : ℕ} (n : length s ≡ 0 → ⊥) (i : m ≡ major_number (strings (kind_of k))) (j : get_or s 0 0 / 32 ≡ m) (a : HeadRead) (told : head_told a ≡ head_at s 0) where
-  pub chunk_lost : {e : Refusal} → a ≡ HeadRefusedV e → pass_told (RefusedV e) ≡ told_of (length s) (map_result chunk_contents (chunk_at (kind_of k) s))
+module _ (k : Bool) (s : List ℕ) {m : ℕ} (n : length s ≡ 0 → ⊥) (i : m ≡ major_number (strings (kind_of k))) (j : get_or s 0 0 / 32 ≡ m) (a : std.Result HeadAt Refusal) (told : head_told a ≡ head_at s 0) where
+  pub chunk_lost : {e : Refusal} → a ≡ Err e → pass_told (Err e) ≡ told_of (length s) (map_result chunk_contents (chunk_at (kind_of k) s))
   chunk_lost h = rw (chunk_is (kind_of k) s n i j) (head-lost s chunk_contents _ a told h)
 
-  module _ {h : HeadAt} (e : a ≡ HeadV h) where
+  module _ {h : HeadAt} (e : a ≡ Ok h) where
     pub chunk_room : Within s h.end
     chunk_room = head-room (headed s a told e)
 

@@ -24,12 +24,7 @@ use Rattle.cbor.specs.Flags.{kind_of}
 use Rattle.refusal.specs.declared.Refusal.{Refusal}
 use Rattle.refusal.specs.declared.RefusalKind.TheVariants.{TooLong, TooDeep, BadTypedArray, NotWellFormed}
 use Rattle.head.specs.declared.HeadAt.{HeadAt}
-use Rattle.head.specs.declared.HeadRead.{HeadRead}
-use Rattle.head.specs.declared.HeadRead.TheVariants.{Head as HeadV, Refused as HeadRefusedV}
 use Rattle.walk_answer.specs.declared.Passage.{Passage}
-use Rattle.walk_answer.specs.declared.Walked.{Walked}
-use Rattle.walk_answer.specs.declared.Passed.{Passed}
-use Rattle.walk_answer.specs.declared.Passed.TheVariants.{Span as SpanV, Refused as RefusedV}
 use Rattle.cbor.proofs.DecodeEncode.{enter_at, by-head}
 use Rattle.cbor.proofs.Heads.{major-back, major-most}
 use Rattle.cbor.proofs.Table.{byte}
@@ -37,6 +32,11 @@ use Rattle.walk_answer.proofs.Leaves.{Leaves, same}
 use Rattle.walk_answer.proofs.ItemLeaves.{LowSize, head-left, chunks-sized, elements-sized, entries-sized, item-leaves}
 use Rattle.walk_parts.proofs.StringCode.{Got, got, got_both, head-room, head-lost, sized-made, size-definite, size-indefinite}
 use Rattle.walk_answer.proofs.WalkCycle.{at_front, tail_is, after-told, all-leaves, one-item, all_one, all_double}
+use Rattle.std.specs.Prelude.{Ok, Err, Some, None}
+use Rattle.std.specs.Prelude as std
+use Rattle.walk_answer.specs.declared.WalkedItem.{WalkedItem}
+use Rattle.walk_answer.specs.declared.Mode.{Mode}
+use Rattle.walk_answer.specs.declared.Mode.TheVariants.{Counted, Broken, Ended}
 
 -- THE MAJOR TYPE
 
@@ -101,7 +101,7 @@ unfolding bind
 bind-zero (ok m r) = let e : 0 + m ≡ m = omega arith in ap (λ (n : ℕ). ok n r) e
 bind-zero (refuse n l) = refl
 
-pub part-told : (k : ℕ) (s : List ℕ) (at : ℕ) (rd : List ℕ → Result ℕ) (inner part : Passed) → at ≤ length s → length s * 1 < 2 ^ 63 → ((t : List ℕ) → Leaves k same t (rd t))
+pub part-told : (k : ℕ) (s : List ℕ) (at : ℕ) (rd : List ℕ → Result ℕ) (inner part : std.Result Passage Refusal) → at ≤ length s → length s * 1 < 2 ^ 63 → ((t : List ℕ) → Leaves k same t (rd t))
     → pass_told inner ≡ told_of (length (take (length s - at) (drop at s))) (rd (take (length s - at) (drop at s))) → pass_told part ≡ after_told at 0 (pass_told inner)
     → pass_told part ≡ told_of (length s) (rd (drop at s))
 part-told k s at rd inner part h long one told after =
@@ -110,7 +110,7 @@ part-told k s at rd inner part h long one told after =
     ∙ ap (told_of (length s)) (bind-zero (rd (drop at s)))
 
 -- several from a place on, in a part of the bytes
-pub all_told : (major d : ℕ) (u : Until) {s : List ℕ} {from : ℕ} (inner part : Passed) → Within s from → length s * 1 < 2 ^ 63
+pub all_told : (major d : ℕ) (u : Until) {s : List ℕ} {from : ℕ} (inner part : std.Result Passage Refusal) → Within s from → length s * 1 < 2 ^ 63
     → pass_told inner ≡ told_of (length (take (length s - from) (drop from s))) (all_of major d u (take (length s - from) (drop from s))) → pass_told part ≡ after_told from 0 (pass_told inner)
     → pass_told part ≡ told_of (length s) (all_of major d u (drop from s))
 all_told major d u {s} {from} inner part w long = part-told 0 s from (all_of major d u) inner part w.inside long (all-leaves major d u)
@@ -126,7 +126,7 @@ after-item s at (refuse k q) h l v =
     let p : min (at + (length (drop at s) - q)) (2 ^ 64 - 1) ≡ length s - q = omega arith in
     ap (walk_refused k) p
 
-pub item-told : (d : ℕ) (s : List ℕ) (at : ℕ) (inner part : Walked) → at ≤ length s → length s * 1 < 2 ^ 63
+pub item-told : (d : ℕ) (s : List ℕ) (at : ℕ) (inner part : std.Result WalkedItem Refusal) → at ≤ length s → length s * 1 < 2 ^ 63
     → walk_told inner ≡ walk_of (length (take (length s - at) (drop at s))) (item d (take (length s - at) (drop at s))) → walk_told part ≡ item_after at (walk_told inner)
     → walk_told part ≡ walk_of (length s) (item d (drop at s))
 item-told d s at inner part h long told after =
@@ -152,7 +152,7 @@ pub may-tag : (n : ℕ) (x : Item) → may_tag n x ≡ may_tag_by n (eqb (major_
 unfolding may_tag may_tag_by
 may-tag n x = ap (asked n) (divides-by (element_size n) x)
 
-tag-lost : (size : ℕ) (e : Refusal) (res : Result Item) (go : Item → List ℕ → Result ℕ) → pass_told (RefusedV e) ≡ told_of size (map_result contents res) → pass_told (RefusedV e) ≡ told_of size (bind res go)
+tag-lost : (size : ℕ) (e : Refusal) (res : Result Item) (go : Item → List ℕ → Result ℕ) → pass_told (Err e) ≡ told_of size (map_result contents res) → pass_told (Err e) ≡ told_of size (bind res go)
 unfolding pass_told map_result told_of bind
 tag-lost size e (ok x r) go h = let z : ◌≡◌ {A = ℕ} 0 1 = cc in absurd (omega arith)
 tag-lost size e (refuse k l) go h = h
@@ -161,7 +161,7 @@ tag-lost size e (refuse k l) go h = h
 abbrev tag_told : ℕ → Passage → Bool → PassTold
 tag_told size m v = elim v [ true ↦ passed m.end m.size | false ↦ pass_refused bad_typed_array (size - size) ]
 
-tag-told : (n size : ℕ) (m : Passage) (j : Major) (v : Bool) (res : Result Item) → pass_told (SpanV m) ≡ told_of size (map_result contents res) → MajorIn j res → v ≡ may_tag_by n (eqb (major_number j) 2) m.size
+tag-told : (n size : ℕ) (m : Passage) (j : Major) (v : Bool) (res : Result Item) → pass_told (Ok m) ≡ told_of size (map_result contents res) → MajorIn j res → v ≡ may_tag_by n (eqb (major_number j) 2) m.size
     → tag_told size m v ≡ told_of size (bind res (λ x r. elim (may_tag n x) [ true ↦ ok (contents x) r | false ↦ refuse bad_typed_array size ]))
 unfolding pass_told map_result told_of bind
 tag-told n size m j v (ok x r) h i e = ap (tag_told size m) may ∙ by (may_tag n x)
@@ -178,20 +178,20 @@ tag-told n size m j v (ok x r) h i e = ap (tag_told size m) may ∙ by (may_tag 
 tag-told n size m j v (refuse k l) h i e = let z : ◌≡◌ {A = ℕ} 0 1 = cc in absurd (omega arith)
 
 -- the item at the front, as the only one of several
-pub only_one : (d : ℕ) (s : List ℕ) → all_of 4 (suc d) (until_by 0 1) s ≡ map_result contents (item d s)
+pub only_one : (d : ℕ) (s : List ℕ) → all_of 4 (suc d) (until_by Counted 1) s ≡ map_result contents (item d s)
 unfolding until_by one_of below
 only_one d s = all_one 4 (suc d) s
 
-module _ (n d : ℕ) {s : List ℕ} {from : ℕ} (w : Within s from) (inner : Passed) (long : length s * 1 < 2 ^ 63)
-    (told : pass_told inner ≡ told_of (length (take (length s - from) (drop from s))) (all_of 4 (suc d) (until_by 0 1) (take (length s - from) (drop from s)))) (part : Passed) (after : pass_told part ≡ after_told from 0 (pass_told inner)) where
+module _ (n d : ℕ) {s : List ℕ} {from : ℕ} (w : Within s from) (inner : std.Result Passage Refusal) (long : length s * 1 < 2 ^ 63)
+    (told : pass_told inner ≡ told_of (length (take (length s - from) (drop from s))) (all_of 4 (suc d) (until_by Counted 1) (take (length s - from) (drop from s)))) (part : std.Result Passage Refusal) (after : pass_told part ≡ after_told from 0 (pass_told inner)) where
   part-is : pass_told part ≡ told_of (length s) (map_result contents (item d (drop from s)))
-  part-is = all_told 4 (suc d) (until_by 0 1) inner part w long told after ∙ ap (told_of (length s)) (only_one d (drop from s))
+  part-is = all_told 4 (suc d) (until_by Counted 1) inner part w long told after ∙ ap (told_of (length s)) (only_one d (drop from s))
 
-  pub tag-refused : {e : Refusal} → part ≡ RefusedV e → pass_told (RefusedV e) ≡ told_of (length s) (tag_of n d (length s) (drop from s))
+  pub tag-refused : {e : Refusal} → part ≡ Err e → pass_told (Err e) ≡ told_of (length s) (tag_of n d (length s) (drop from s))
   unfolding tag_of
   tag-refused h = tag-lost (length s) _ (item d (drop from s)) _ (rw h at part-is)
 
-  module _ {m : Passage} (h : part ≡ SpanV m) {x : ℕ} (i : x ≡ major_number (major_of (get_or s from 0 / 32))) {v : Bool} (j : v ≡ may_tag_by n (eqb x 2) m.size) where
+  module _ {m : Passage} (h : part ≡ Ok m) {x : ℕ} (i : x ≡ major_number (major_of (get_or s from 0 / 32))) {v : Bool} (j : v ≡ may_tag_by n (eqb x 2) m.size) where
     tag_is : tag_told (length s) m v ≡ told_of (length s) (tag_of n d (length s) (drop from s))
     unfolding tag_of
     tag_is =
@@ -222,7 +222,7 @@ pub major-byte : (b : ℕ) → Fits bits8 b → b / 32 ≡ major_number (major_o
 unfolding major_number major_of
 major-byte b u = let h : b < 256 = omega arith in sym (eqb→eq (major_number (major_of (b / 32))) (b / 32) (byte (λ k. eqb (major_number (major_of (k / 32))) (k / 32)) tt b h))
 
-pub item-is : (d : ℕ) (s : List ℕ) (span : Passed) {m : ℕ} {t : WalkTold} → m ≡ major_number (major_of (get_or s 0 0 / 32)) → pass_told span ≡ told_of (length s) (all_of 4 (suc d) (until_by 0 1) s) → t ≡ with_major m (pass_told span)
+pub item-is : (d : ℕ) (s : List ℕ) (span : std.Result Passage Refusal) {m : ℕ} {t : WalkTold} → m ≡ major_number (major_of (get_or s 0 0 / 32)) → pass_told span ≡ told_of (length s) (all_of 4 (suc d) (until_by Counted 1) s) → t ≡ with_major m (pass_told span)
     → t ≡ walk_of (length s) (item d s)
 unfolding pass_of
 item-is d s span i e f =
@@ -354,7 +354,7 @@ module _ {s : List ℕ} {h : HeadAt} (hd : Headed s h) where
   unfolding until_by mode_by extent
   until_is = by (eqb h.info 31) refl
     where
-      by : (v : Bool) → eqb h.info 31 ≡ v → until_by (elim v [ true ↦ 1 | false ↦ 0 ]) h.argument ≡ extent g.head.size h.argument
+      by : (v : Bool) → eqb h.info 31 ≡ v → until_by (elim v [ true ↦ Broken | false ↦ Counted ]) h.argument ≡ extent g.head.size h.argument
       by true i = sym (ap (λ (z : Size). extent z h.argument) (size-indefinite g.left (sym g.info ∙ eqb-true h.info 31 i)))
       by false i = size-definite g.left (λ z. counted h.argument ≡ extent z h.argument) (λ x. eqb-false h.info 31 i (g.info ∙ x)) (λ w. refl)
 
@@ -414,19 +414,19 @@ module _ {s : List ℕ} {h : HeadAt} (hd : Headed s h) where
               let k : suc (d - 1) ≡ d = omega arith in
               known (several-at g.head.size (e ∙ (λ z. told_of (length s) (all_of h.major (k z) (until_is z) (drop h.end s)))))
 
-          pub behind-map : (h.major ≡ 4 → ⊥) → {mode : ℕ} → mode ≡ mode_by h.info → t ≡ told_of (length s) (all_of 5 (suc (d - 1)) (until_by mode h.argument) (drop h.end s)) → t ≡ pass_of (length s) (item d s)
+          pub behind-map : (h.major ≡ 4 → ⊥) → {mode : Mode} → mode ≡ mode_by h.info → t ≡ told_of (length s) (all_of 5 (suc (d - 1)) (until_by mode h.argument) (drop h.end s)) → t ≡ pass_of (length s) (item d s)
           behind-map r m e =
               let five : 5 ≡ h.major = omega (arith, g.major, major-most g.head.major) in
               inside (e ∙ (λ z. told_of (length s) (all_of (five z) (suc (d - 1)) (until_by (m z) h.argument) (drop h.end s))))
 
 -- what is inside, walked over in a part of the bytes
-module _ {s : List ℕ} {h : HeadAt} (hd : Headed s h) (d : ℕ) (inner part : Passed) (long : length s * 1 < 2 ^ 63) (after : pass_told part ≡ after_told h.end 0 (pass_told inner)) where
+module _ {s : List ℕ} {h : HeadAt} (hd : Headed s h) (d : ℕ) (inner part : std.Result Passage Refusal) (long : length s * 1 < 2 ^ 63) (after : pass_told part ≡ after_told h.end 0 (pass_told inner)) where
   pub behind-chunks : 1 < h.major → h.major ≤ 3 → h.info ≡ 31
-      → pass_told inner ≡ told_of (length (take (length s - h.end) (drop h.end s))) (all_of h.major (suc d) (until_by 1 0) (take (length s - h.end) (drop h.end s))) → pass_told part ≡ pass_of (length s) (item d s)
+      → pass_told inner ≡ told_of (length (take (length s - h.end) (drop h.end s))) (all_of h.major (suc d) (until_by Broken 0) (take (length s - h.end) (drop h.end s))) → pass_told part ≡ pass_of (length s) (item d s)
   unfolding until_by
   behind-chunks l u o told = chunks_in hd d l u (suc d) o (all_told h.major (suc d) broken inner part (head-room hd) long told after)
 
-  pub behind-array : (d ≡ 0 → ⊥) → h.major ≡ 4 → {mode : ℕ} → mode ≡ mode_by h.info
+  pub behind-array : (d ≡ 0 → ⊥) → h.major ≡ 4 → {mode : Mode} → mode ≡ mode_by h.info
       → pass_told inner ≡ told_of (length (take (length s - h.end) (drop h.end s))) (all_of 4 (suc (d - 1)) (until_by mode h.argument) (take (length s - h.end) (drop h.end s))) → pass_told part ≡ pass_of (length s) (item d s)
   behind-array p r {mode} m told =
       inside hd d (omega arith) (omega arith) p (omega arith)
@@ -436,8 +436,8 @@ module _ {s : List ℕ} {h : HeadAt} (hd : Headed s h) (d : ℕ) (inner part : P
 pub ruleset behind_ways = (behind-string, behind-chunks, behind_deep, behind-tag, behind-array, behind-map)
 
 -- the entries of a map
-module _ (d : ℕ) {s : List ℕ} {from : ℕ} (w : Within s from) (inner : Passed) (long : length s * 1 < 2 ^ 63) (part : Passed) (after : pass_told part ≡ after_told from 0 (pass_told inner)) (mode count : ℕ) where
-  pub map_twice : mode ≡ 0 → pass_told inner ≡ told_of (length (take (length s - from) (drop from s))) (all_of 4 (suc d) (until_by 0 (count * 2)) (take (length s - from) (drop from s)))
+module _ (d : ℕ) {s : List ℕ} {from : ℕ} (w : Within s from) (inner : std.Result Passage Refusal) (long : length s * 1 < 2 ^ 63) (part : std.Result Passage Refusal) (after : pass_told part ≡ after_told from 0 (pass_told inner)) (mode : Mode) (count : ℕ) where
+  pub map_twice : mode ≡ Counted → pass_told inner ≡ told_of (length (take (length s - from) (drop from s))) (all_of 4 (suc d) (until_by Counted (count * 2)) (take (length s - from) (drop from s)))
       → pass_told part ≡ told_of (length s) (all_of 5 (suc d) (until_by mode count) (drop from s))
   unfolding until_by
   map_twice e told = rw e (all_told 4 (suc d) (counted (count * 2)) inner part w long told after ∙ ap (told_of (length s)) (all_double (suc d) count (drop from s)))
@@ -450,33 +450,33 @@ pub ruleset map_ways = (map_twice, map-several)
 
 -- AN ITEM BY WHERE ITS HEAD ENDS
 
-pub no-head : {s : List ℕ} {at r : ℕ} → HeadEnd s at r → r ≡ 0 → HeadEnd s at 0
+pub no-head : {s : List ℕ} {at : ℕ} {r : std.Option ℕ} → HeadEnd s at r → r ≡ None → HeadEnd s at None
 no-head h e = rw e at h
 
-module _ {s : List ℕ} (he : HeadEnd s 0 0) (a : HeadRead) (told : head_told a ≡ head_at s 0) where
-  pub headless_refused : {e : Refusal} → a ≡ HeadRefusedV e → Headless s (RefusedV e)
+module _ {s : List ℕ} (he : HeadEnd s 0 None) (a : std.Result HeadAt Refusal) (told : head_told a ≡ head_at s 0) where
+  pub headless_refused : {e : Refusal} → a ≡ Err e → Headless s (Err e)
   unfolding pass_of
   headless_refused i = record { is = λ d. rw (item_eq d s) (head-lost s contents _ a told i) }
 
-  pub headless_not : {h : HeadAt} {r : Passed} → a ≡ HeadV h → Headless s r
+  pub headless_not : {h : HeadAt} {r : std.Result Passage Refusal} → a ≡ Ok h → Headless s r
   unfolding head_told
   headless_not {h} i = absurd (he.lost refl h.major h.info h.argument h.end (rw i at told))
 
 pub ruleset headless_ways = (headless_refused, headless_not)
 
-pub one_headless : (d : ℕ) {s : List ℕ} {r : Passed} → Headless s r → pass_told r ≡ told_of (length s) (one_of 4 (suc d) s)
+pub one_headless : (d : ℕ) {s : List ℕ} {r : std.Result Passage Refusal} → Headless s r → pass_told r ≡ told_of (length s) (one_of 4 (suc d) s)
 one_headless d {s} h = one-item (length s) d s (h.is d)
 
-module _ {s : List ℕ} {end : ℕ} (he : HeadEnd s 0 end) (nz : end ≡ 0 → ⊥) where
+module _ {s : List ℕ} {end : ℕ} {r : std.Option ℕ} (he : HeadEnd s 0 r) (is : r ≡ Some end) where
   pub one-room : HeadRoom s 0
-  one-room = he.room nz
+  one-room = (he.ends end is).room
 
   pub one_inside : 0 < length s
-  one_inside = omega (arith, (he.room nz).inside)
+  one_inside = omega (arith, one-room.inside)
 
   pub one_headed : {n : ℕ} → n ≡ argument_at s 0 → Headed s (record { major = get_or s 0 0 / 32; info = get_or s 0 0 % 32; argument = n; end = end })
   unfolding head_told
-  one_headed e = record { is = ap (λ (n : ℕ). head_found (get_or s 0 0 / 32) (get_or s 0 0 % 32) n end) e ∙ he.found nz }
+  one_headed e = record { is = ap (λ (n : ℕ). head_found (get_or s 0 0 / 32) (get_or s 0 0 % 32) n end) e ∙ (he.ends end is).found }
 
   module _ (d : ℕ) {t : PassTold} where
     pub one-leaf : get_or s 0 0 / 32 ≤ 1 → t ≡ passed end 0 → t ≡ told_of (length s) (one_of 4 (suc d) s)
@@ -496,7 +496,7 @@ pub all_long : (s : List ℕ) {t : PassTold} → 65535 < length s → t ≡ pass
 unfolding walk_all_of decode map_result told_of kind_number
 all_long s h e = e ∙ rw (lt-leb (length s) 65535 h, decode) (at_front too_long (length s))
 
-pub all_short : (s : List ℕ) {t : PassTold} → length s ≤ 65535 → t ≡ told_of (length s) (all_of 4 (suc 16) (until_by 2 0) s) → t ≡ walk_all_of (length s) (decode s)
+pub all_short : (s : List ℕ) {t : PassTold} → length s ≤ 65535 → t ≡ told_of (length s) (all_of 4 (suc 16) (until_by Ended 0) s) → t ≡ walk_all_of (length s) (decode s)
 unfolding walk_all_of decode until_by below
 all_short s h e = e ∙ ap (told_of (length s)) (all-items 17 ended s) ∙ sym (rw (le-leb (length s) 65535 h, decode))
 

@@ -1,7 +1,7 @@
 // What a walk passes over outside its cycle, at the front of a slice: the content of a string, a chunk, a head that is refused.
 #![tactic(auto)]
 
-ghost use Rattle.std.specs.Prelude.{◌≡◌, ◌/◌, length, drop, get_or};
+ghost use Rattle.std.specs.Prelude.{◌≡◌, None, ◌/◌, length, drop, get_or};
 ghost use Rattle.cbor.specs.Heads.{major_number, major_of, strings};
 ghost use Rattle.cbor.specs.Decode.{content_at, chunk_at};
 ghost use Rattle.cbor.specs.Valid.{is_text};
@@ -9,10 +9,9 @@ ghost use Rattle.cbor.specs.Flags.{kind_of};
 ghost use Rattle.head.specs.HeadAnswers.{HeadEnd};
 ghost use Rattle.walk_answer.specs.WalkAnswers.{pass_told, map_result, told_of, chunk_contents, Headless, Within};
 
-use head::HeadRead;
 use head::initial::{BYTE_STRING, INDEFINITE_LENGTH, TEXT_STRING};
-use refusal::RefusalKind;
-use walk_answer::{Passed, reached, refuse};
+use refusal::{Refusal, RefusalKind};
+use walk_answer::{Passage, reached, refuse};
 
 // STRINGS
 
@@ -27,7 +26,7 @@ pub fn is_text(bytes: &[u8], text: bool) -> bool
 }
 
 // The content of a string: `n` bytes behind its head, which is at the front.
-pub fn content(bytes: &[u8], from: usize, n: u64, text: bool) -> Passed
+pub fn content(bytes: &[u8], from: usize, n: u64, text: bool) -> Result<Passage, Refusal>
     requires { Within bytes.now from }
     ensures { pass_told result ≡ told_of (length bytes.now) (map_result length (content_at (kind_of text) n (length bytes.now) (drop from bytes.now))) }
 {
@@ -48,7 +47,7 @@ fn string_major(text: bool) -> u8
 }
 
 // A chunk of a string.
-pub fn chunk(bytes: &[u8], text: bool) -> Passed
+pub fn chunk(bytes: &[u8], text: bool) -> Result<Passage, Refusal>
     ensures { pass_told result ≡ told_of (length bytes.now) (map_result chunk_contents (chunk_at (kind_of text) bytes.now)) }
 {
     if bytes.len() == 0 {
@@ -57,16 +56,11 @@ pub fn chunk(bytes: &[u8], text: bool) -> Passed
     if bytes[0] / 32 != string_major(text) {
         return refuse(RefusalKind::NotWellFormed, 0);
     }
-    let read = head::read_head(bytes, 0);
-    match read {
-        HeadRead::Refused(e) => Passed::Refused(e),
-        HeadRead::Head(h) => {
-            if h.info == INDEFINITE_LENGTH {
-                return refuse(RefusalKind::NotWellFormed, 0);
-            }
-            content(bytes, h.end, h.argument, text)
-        }
+    let h = head::read_head(bytes, 0)?;
+    if h.info == INDEFINITE_LENGTH {
+        return refuse(RefusalKind::NotWellFormed, 0);
     }
+    content(bytes, h.end, h.argument, text)
 }
 
 // HEADS
@@ -88,13 +82,10 @@ pub fn major_at(bytes: &[u8], at: usize) -> u8
 }
 
 // The refusal of a head that is refused.
-pub fn headless(bytes: &[u8]) -> Passed
-    requires { HeadEnd bytes.now 0 0 }
+pub fn headless(bytes: &[u8]) -> Result<Passage, Refusal>
+    requires { HeadEnd bytes.now 0 None }
     ensures { Headless bytes.now result }
 {
-    let read = head::read_head(bytes, 0);
-    match read {
-        HeadRead::Refused(e) => Passed::Refused(e),
-        HeadRead::Head(h) => reached(h.end, 0),
-    }
+    let h = head::read_head(bytes, 0)?;
+    reached(h.end, 0)
 }

@@ -10,41 +10,37 @@ use head::initial::{
     ARRAY, BREAK, BYTE_STRING, INDEFINITE_LENGTH, MAP, NEGATIVE_INTEGER, SIMPLE_VALUE, TAG,
     TEXT_STRING,
 };
-use refusal::RefusalKind;
-use walk_answer::{BROKEN, COUNTED, Passed, after, is_over, less, mode_of, past, reached, refuse};
+use refusal::{Refusal, RefusalKind};
+use walk_answer::{
+    MOST_ENTRIES, Mode, Passage, after, is_over, less, mode_of, past, reached, refuse,
+};
 use walk_parts::{chunk, content, headless, major_at};
 
 // Items, one behind the other.
 #[cycle(behind_map_one_other_several_slowly_tag)]
-pub fn slowly(bytes: &[u8], mode: u8, count: u64, levels: usize) -> Passed
+pub fn slowly(bytes: &[u8], mode: Mode, count: u64, levels: usize) -> Result<Passage, Refusal>
     ensures { pass_told result ≡ told_of (length bytes.now) (all_of 4 (suc levels) (until_by mode count) bytes.now) }
 {
     let mut at = 0;
     let mut size: usize = 0;
     let mut left = count;
     while !is_over(bytes, at, mode, left) {
-        let part = after(at, size, one(&bytes[at..], levels));
-        match part {
-            Passed::Refused(e) => return Passed::Refused(e),
-            Passed::Span(m) => {
-                at = m.end;
-                size = m.size;
-                left = less(left);
-            }
-        }
+        let part = after(at, size, one(&bytes[at..], levels))?;
+        at = part.end;
+        size = part.size;
+        left = less(left);
     }
     reached(past(at, mode), size)
 }
 
 // The item at the front, with levels left.
 #[cycle(behind_map_one_other_several_slowly_tag)]
-pub fn one(bytes: &[u8], levels: usize) -> Passed
+pub fn one(bytes: &[u8], levels: usize) -> Result<Passage, Refusal>
     ensures { pass_told result ≡ told_of (length bytes.now) (one_of 4 (suc levels) bytes.now) }
 {
-    let end = head::head_end(bytes, 0);
-    if end == 0 {
+    let Some(end) = head::head_end(bytes, 0) else {
         return headless(bytes);
-    }
+    };
     let initial = bytes[0];
     let major = initial / 32;
     if major <= NEGATIVE_INTEGER {
@@ -68,14 +64,25 @@ pub fn one(bytes: &[u8], levels: usize) -> Passed
 
 // A string, an array, a map or a tag at the front, by its head.
 #[cycle(behind_map_one_other_several_slowly_tag)]
-fn behind(bytes: &[u8], major: u8, info: u8, argument: u64, end: usize, levels: usize) -> Passed
+fn behind(
+    bytes: &[u8],
+    major: u8,
+    info: u8,
+    argument: u64,
+    end: usize,
+    levels: usize,
+) -> Result<Passage, Refusal>
     requires headed { Headed bytes.now (record { major = major; info = info; argument = argument; end = end }) }
     requires lt_major { (1 < major) × (major ≡ 7 → ⊥) }
     ensures { pass_told result ≡ pass_of (length bytes.now) (item levels bytes.now) }
 {
     if major <= TEXT_STRING {
         if info == INDEFINITE_LENGTH {
-            return after(end, 0, several(&bytes[end..], BROKEN, 0, major, levels));
+            return after(
+                end,
+                0,
+                several(&bytes[end..], Mode::Broken, 0, major, levels),
+            );
         }
         return content(bytes, end, argument, major == TEXT_STRING);
     }
@@ -97,39 +104,42 @@ fn behind(bytes: &[u8], major: u8, info: u8, argument: u64, end: usize, levels: 
 
 // A tag's item, behind its head.
 #[cycle(behind_map_one_other_several_slowly_tag)]
-fn tag(bytes: &[u8], from: usize, n: u64, levels: usize) -> Passed
+fn tag(bytes: &[u8], from: usize, n: u64, levels: usize) -> Result<Passage, Refusal>
     requires { Within bytes.now from }
     ensures { pass_told result ≡ told_of (length bytes.now) (tag_of n levels (length bytes.now) (drop from bytes.now)) }
 {
-    let inner = after(from, 0, slowly(&bytes[from..], COUNTED, 1, levels));
-    match inner {
-        Passed::Refused(e) => Passed::Refused(e),
-        Passed::Span(m) => {
-            if typed_array::may_tag(n, major_at(bytes, from) == BYTE_STRING, m.size) {
-                return reached(m.end, m.size);
-            }
-            refuse(RefusalKind::BadTypedArray, 0)
-        }
+    let inner = after(from, 0, slowly(&bytes[from..], Mode::Counted, 1, levels))?;
+    if typed_array::may_tag(n, major_at(bytes, from) == BYTE_STRING, inner.size) {
+        return reached(inner.end, inner.size);
     }
+    refuse(RefusalKind::BadTypedArray, 0)
 }
 
 // The entries of a map, behind its head. They are walked over as twice as many items, where these can be counted.
 #[cycle(behind_map_one_other_several_slowly_tag)]
-fn map(bytes: &[u8], from: usize, mode: u8, count: u64, levels: usize) -> Passed
+fn map(bytes: &[u8], from: usize, mode: Mode, count: u64, levels: usize) -> Result<Passage, Refusal>
     requires { Within bytes.now from }
     ensures { pass_told result ≡ told_of (length bytes.now) (all_of 5 (suc levels) (until_by mode count) (drop from bytes.now)) }
 {
-    if mode == COUNTED {
-        if count <= 0xffff_ffff {
-            return after(from, 0, slowly(&bytes[from..], COUNTED, count * 2, levels));
-        }
+    match mode {
+        Mode::Counted if count <= MOST_ENTRIES => after(
+            from,
+            0,
+            slowly(&bytes[from..], Mode::Counted, count * 2, levels),
+        ),
+        _ => after(from, 0, several(&bytes[from..], mode, count, MAP, levels)),
     }
-    after(from, 0, several(&bytes[from..], mode, count, MAP, levels))
 }
 
 // Entries of a map, or chunks of a string, one by one.
 #[cycle(behind_map_one_other_several_slowly_tag)]
-fn several(bytes: &[u8], mode: u8, count: u64, major: u8, levels: usize) -> Passed
+fn several(
+    bytes: &[u8],
+    mode: Mode,
+    count: u64,
+    major: u8,
+    levels: usize,
+) -> Result<Passage, Refusal>
     requires { major ≡ 4 → ⊥ }
     ensures { pass_told result ≡ told_of (length bytes.now) (all_of major (suc levels) (until_by mode count) bytes.now) }
 {
@@ -137,27 +147,22 @@ fn several(bytes: &[u8], mode: u8, count: u64, major: u8, levels: usize) -> Pass
     let mut size: usize = 0;
     let mut left = count;
     while !is_over(bytes, at, mode, left) {
-        let part = after(at, size, other(&bytes[at..], major, levels));
-        match part {
-            Passed::Refused(e) => return Passed::Refused(e),
-            Passed::Span(m) => {
-                at = m.end;
-                size = m.size;
-                left = less(left);
-            }
-        }
+        let part = after(at, size, other(&bytes[at..], major, levels))?;
+        at = part.end;
+        size = part.size;
+        left = less(left);
     }
     reached(past(at, mode), size)
 }
 
 // An entry of a map, which is two items, or a chunk of a string.
 #[cycle(behind_map_one_other_several_slowly_tag)]
-fn other(bytes: &[u8], major: u8, levels: usize) -> Passed
+fn other(bytes: &[u8], major: u8, levels: usize) -> Result<Passage, Refusal>
     requires { major ≡ 4 → ⊥ }
     ensures { pass_told result ≡ told_of (length bytes.now) (one_of major (suc levels) bytes.now) }
 {
     if major == MAP {
-        return slowly(bytes, COUNTED, 2, levels);
+        return slowly(bytes, Mode::Counted, 2, levels);
     }
     chunk(bytes, major == TEXT_STRING)
 }

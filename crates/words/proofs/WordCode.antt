@@ -2,12 +2,12 @@
 -- Assumes nothing.
 use mathlib.Core.Path.{◌≡◌, refl, sym, ap, ◌∙◌}
 use mathlib.Core.List.{List, [], ◌∷◌, ◌++◌}
-use mathlib.Core.Bool.{Bool, true, false, ◌&&◌, not}
+use mathlib.Core.Bool.{Bool, true, false}
 use Prim.Native.Nat.{ℕ, suc, ◌+◌, ◌-◌, ◌≤◌, ◌<◌}
 use native.Mathlib.Omega.{arith}
 use lib.Dec.{leb, eqb}
-use lib.ListN.{length, drop, get_or, drop_of_length-le}
-use borrow.Author.Tests.{le-leb, lt-leb, eq-eqb, ne_eqb, not-true, not-false}
+use lib.ListN.{length, take, drop, get_or, length-drop}
+use borrow.Author.Tests.{le-leb, lt-leb, eq-eqb, ne_eqb}
 use Rattle.cbor.specs.Refusals.{Result, bind, no_token, unknown_word, float}
 use Rattle.cbor.specs.Items.{simple}
 use Rattle.cbor.specs.Valid.{is_simple}
@@ -20,7 +20,7 @@ use Rattle.notation.specs.Words.{same, false_word, true_word, null_word, undefin
 use Rattle.notation.specs.Cutting.{starts_with, after_minus}
 use Rattle.notation.specs.Reading.{marked}
 use Rattle.scanning.specs.Stands.{span}
-use Rattle.scanning.specs.ScanAnswers.{Classed, is_next, Peeked}
+use Rattle.scanning.specs.ScanAnswers.{Classed, Peeked}
 use Rattle.token.specs.TokenAnswers.{item_code, begin_code, code_of, item_mark, begin_mark, mark_of, item_number, begin_number, number_of, BeginsAs, Written, Says, Refused, TokenMade}
 use Rattle.amounts.specs.AmountAnswers.{heavy, Counts, ScansDigits, Counted}
 use Rattle.numbers.specs.NumberAnswers.{DigitAt}
@@ -31,77 +31,46 @@ use Rattle.amounts.specs.declared.Amount.{Amount}
 use Rattle.amounts.specs.declared.Digits.{Digits}
 use Rattle.token.specs.declared.Token.{Token as Cut}
 use Rattle.words.specs.declared.WordMeaning.{WordMeaning}
-use Rattle.words.specs.declared.WordMeaning.TheVariants.{Value, SimpleOf, Refused as WordRefused}
-use Rattle.words.specs.declared.Prefix.TheVariants.{Form, Refused as PrefixRefused}
+use Rattle.words.specs.declared.WordMeaning.TheVariants.{Value, SimpleOf}
+use Rattle.std.specs.Prelude.{Ok, Err, Result as Answer}
+use Rattle.std.proofs.lemmas.List.{drop-append-le, take-append-le}
+use Rattle.std.specs.List.{starts_with as begins_with}
+use lib.Pointwise.{pointwise}
 use Rattle.notation_theorems.proofs.ScanningElements.{class-digit}
-use Rattle.scanning.proofs.Marked.{front, length_marked, at_byte, at-end, past_end, span_none, span_split, span-length}
-use Rattle.scanning.proofs.ScanCode.{eqb_sym, peeked_yes, whether-yes, whether-no, expect-yes, expect-no}
+use Rattle.scanning.proofs.Marked.{length_marked, tail_is, at_byte, at-end, past_end, span_none, span-length}
+use Rattle.scanning.proofs.ScanCode.{whether-yes, whether-no, expect-yes, expect-no}
 use Rattle.numbers.proofs.NumberCode.{says_as, says_refuse, says_made}
 
--- A WORD AT A PLACE: the state of the loop
-pub record Matching (s : List ℕ) (at : ℕ) (u : List ℕ) (i : ℕ) : Type 0 where
-  pub same : starts_with u (drop at (marked s)) ≡ starts_with (drop i u) (drop (at + i) (marked s))
-  pub inside : i ≤ length u
+-- A WORD AT A PLACE
 
-starts_not : (a : ℕ) (u r : List ℕ) → is_next a r ≡ false → starts_with (a ∷ u) r ≡ false
-unfolding starts_with is_next
-starts_not a u [] h = refl
-starts_not a u (b ∷ r) h = rw (eqb_sym a b, h)
-
-module _ (s : List ℕ) (at : ℕ) (u : List ℕ) where
-  pub match_start : Matching s at u 0
-  match_start = let e : at + 0 ≡ at = omega arith in record { same = rw e; inside = omega arith }
-
-  module _ {i : ℕ} (m : Matching s at u i) where
-    pub match_step : {t : Bool} → i < length u → Peeked s (at + i) (get_or u i 0) t → not t ≡ false → Matching s at u (i + 1)
-    unfolding starts_with
-    match_step {t} h p n =
-        let e : at + i + 1 ≡ at + (i + 1) = omega arith in
-        let a = get_or u i 0 in
-        record {
-          same = m.same ∙ (rw (front u i h, peeked_yes p (not-false t n)) (rw (eq-eqb a a refl) (rw e)));
-          inside = omega arith;
-        }
-
-    pub match_stop : {t : Bool} → i < length u → Peeked s (at + i) (get_or u i 0) t → not t ≡ true → false ≡ starts_with u (drop at (marked s))
-    match_stop {t} h p n = sym (m.same ∙ (rw (front u i h) (starts_not (get_or u i 0) (drop (i + 1) u) (drop (at + i) (marked s)) (sym p.is ∙ not-true t n))))
-
-    pub match_end : length u ≤ i → true ≡ starts_with u (drop at (marked s))
-    unfolding starts_with
-    match_end h = sym (m.same ∙ rw (drop_of_length-le u h))
-
--- SAME WORDS
-same_length : (a b : List ℕ) → (length a ≡ length b → ⊥) → false ≡ same a b
+-- the library's comparison of two lists is this one
+same-is : (a b : List ℕ) → pointwise eqb a b ≡ same a b
 unfolding same
-same_length [] [] n = absurd (n refl)
-same_length [] (y ∷ b) n = refl
-same_length (x ∷ a) [] n = refl
-same_length (x ∷ a) (y ∷ b) n = rw (sym (same_length a b (λ e. n (ap suc e)))) (none (eqb x y))
-  where
-    none : (t : Bool) → false ≡ (t && false)
-    none true = refl
-    none false = refl
+same-is [] [] = refl
+same-is [] (y ∷ b) = refl
+same-is (x ∷ a) [] = refl
+same-is (x ∷ a) (y ∷ b) = rw (same-is a b)
 
-same-starts : (a b r : List ℕ) → length a ≡ length b → starts_with b (a ++ r) ≡ same a b
-unfolding same starts_with
-same-starts [] [] r e = refl
-same-starts [] (y ∷ b) r e = absurd (omega arith)
-same-starts (x ∷ a) [] r e = absurd (omega arith)
-same-starts (x ∷ a) (y ∷ b) r e = let h = same-starts a b r (omega arith) in rw (h, eqb_sym y x)
+starts-is : (u r : List ℕ) → ((k : ℕ) → get_or u k 0 < 256) → pointwise eqb u (take (length u) r) ≡ starts_with u (r ++ 256 ∷ [])
+unfolding starts_with
+starts-is [] r f = refl
+starts-is (x ∷ u) [] f = let h = f 0 in let n : x ≡ 256 → ⊥ = omega arith in rw (ne_eqb x 256 n)
+starts-is (x ∷ u) (y ∷ r) f = rw (starts-is u r (λ k. f (suc k)))
+
+pub starts-at : (s u : List ℕ) (at : ℕ) {t : Bool} → at ≤ length s → ((k : ℕ) → get_or u k 0 < 256) → t ≡ begins_with eqb (take (length s - at) (drop at s)) u → t ≡ starts_with u (drop at (marked s))
+unfolding marked
+starts-at s u at h f e = e ∙ (ap (λ (r : List ℕ). pointwise eqb u (take (length u) r)) (tail_is s at) ∙ starts-is u (drop at s) f ∙ ap (starts_with u) (sym (drop-append-le at s (256 ∷ []) h)))
 
 module _ {s : List ℕ} {from end : ℕ} (u : List ℕ) (p : WordPart s from end) where
-  pub part-inside : from ≤ length s
-  part-inside = omega (arith, p.ahead, p.inside)
+  pub part-is : span from end (marked s) ≡ take (end - from) (drop from s)
+  unfolding span marked
+  part-is =
+      let h : from ≤ length s = omega (arith, p.ahead, p.inside) in
+      let l : end - from ≤ length (drop from s) = simp length-drop (omega (arith, p.inside)) in
+      ap (take (end - from)) (drop-append-le from s (256 ∷ []) h) ∙ take-append-le (end - from) (drop from s) (256 ∷ []) l
 
-  size : length (span from end (marked s)) ≡ end - from
-  size = span-length from end (marked s) p.ahead (omega (arith, p.inside, length_marked s))
-
-  pub same_word : (t : Bool) → end - from ≡ length u → t ≡ starts_with u (drop from (marked s)) → t ≡ same (span from end (marked s)) u
-  same_word t e h =
-      h ∙ (ap (starts_with u) (span_split from end (marked s) p.ahead) ∙ same-starts (span from end (marked s)) u (drop end (marked s)) (size ∙ e))
-
-  pub other-size : (end - from ≡ length u → ⊥) → false ≡ same (span from end (marked s)) u
-  other-size n = same_length (span from end (marked s)) u (λ e. n (sym size ∙ e))
+  pub same_word : {t : Bool} → t ≡ pointwise eqb (take (end - from) (drop from s)) u → t ≡ same (span from end (marked s)) u
+  same_word e = e ∙ (same-is _ u ∙ ap (λ (w : List ℕ). same w u) (sym part-is))
 
 -- WHAT WORDS STAND FOR
 module _ (w : List ℕ) (a : Bool) (e₁ : a ≡ same w nan_word) where
@@ -120,49 +89,49 @@ module _ (w : List ℕ) (a : Bool) (e₁ : a ≡ same w nan_word) where
 pub ruleset other_ways = (other_nan, other_infinity, other_unknown)
 
 module _ (w : List ℕ) (a : Bool) (e₁ : a ≡ same w false_word) where
-  pub value_false : a ≡ true → Value 20 ≡ value_word w
+  pub value_false : a ≡ true → Ok (Value 20) ≡ value_word w
   unfolding value_word
   value_false h = rw (sym e₁ ∙ h, value_word)
 
   module _ (h₁ : a ≡ false) (b : Bool) (e₂ : b ≡ same w true_word) where
-    pub value_true : b ≡ true → Value 21 ≡ value_word w
+    pub value_true : b ≡ true → Ok (Value 21) ≡ value_word w
     unfolding value_word
     value_true h = rw (sym e₁ ∙ h₁, value_word) (rw (sym e₂ ∙ h))
 
     module _ (h₂ : b ≡ false) (c : Bool) (e₃ : c ≡ same w null_word) where
-      pub value_null : c ≡ true → Value 22 ≡ value_word w
+      pub value_null : c ≡ true → Ok (Value 22) ≡ value_word w
       unfolding value_word
       value_null h = rw (sym e₁ ∙ h₁, value_word) (rw (sym e₂ ∙ h₂) (rw (sym e₃ ∙ h)))
 
       module _ (h₃ : c ≡ false) (d : Bool) (e₄ : d ≡ same w undefined_word) where
-        pub value_undefined : d ≡ true → Value 23 ≡ value_word w
+        pub value_undefined : d ≡ true → Ok (Value 23) ≡ value_word w
         unfolding value_word
         value_undefined h = rw (sym e₁ ∙ h₁, value_word) (rw (sym e₂ ∙ h₂) (rw (sym e₃ ∙ h₃) (rw (sym e₄ ∙ h))))
 
         module _ (h₄ : d ≡ false) (f : Bool) (e₅ : f ≡ same w simple_word) where
-          pub value-simple : f ≡ true → SimpleOf ≡ value_word w
+          pub value-simple : f ≡ true → Ok SimpleOf ≡ value_word w
           unfolding value_word
           value-simple h = rw (sym e₁ ∙ h₁, value_word) (rw (sym e₂ ∙ h₂) (rw (sym e₃ ∙ h₃) (rw (sym e₄ ∙ h₄) (rw (sym e₅ ∙ h)))))
 
-          pub value-other : (k : ℕ) → f ≡ false → k ≡ other_word w → WordRefused k ≡ value_word w
+          pub value-other : (k : ℕ) → f ≡ false → k ≡ other_word w → Err k ≡ value_word w
           unfolding value_word
-          value-other k h g = rw (sym e₁ ∙ h₁, value_word) (rw (sym e₂ ∙ h₂) (rw (sym e₃ ∙ h₃) (rw (sym e₄ ∙ h₄) (rw (sym e₅ ∙ h) (ap WordRefused g)))))
+          value-other k h g = rw (sym e₁ ∙ h₁, value_word) (rw (sym e₂ ∙ h₂) (rw (sym e₃ ∙ h₃) (rw (sym e₄ ∙ h₄) (rw (sym e₅ ∙ h) (ap Err g)))))
 
 pub ruleset value_ways = (value_false, value_true, value_null, value_undefined, value-simple, value-other)
 
 module _ (w : List ℕ) (a : Bool) (e₁ : a ≡ same w hex_prefix) where
-  pub prefix_hex : a ≡ true → Form 2 ≡ prefix_word w
+  pub prefix_hex : a ≡ true → Ok 2 ≡ prefix_word w
   unfolding prefix_word
   prefix_hex h = rw (sym e₁ ∙ h, prefix_word)
 
   module _ (h₁ : a ≡ false) (b : Bool) (e₂ : b ≡ same w base64_prefix) where
-    pub prefix_base64 : b ≡ true → Form 3 ≡ prefix_word w
+    pub prefix_base64 : b ≡ true → Ok 3 ≡ prefix_word w
     unfolding prefix_word
     prefix_base64 h = rw (sym e₁ ∙ h₁, prefix_word) (rw (sym e₂ ∙ h))
 
-    pub prefix_other : (k : ℕ) → b ≡ false → k ≡ other_word w → PrefixRefused k ≡ prefix_word w
+    pub prefix_other : (k : ℕ) → b ≡ false → k ≡ other_word w → Err k ≡ prefix_word w
     unfolding prefix_word
-    prefix_other k h g = rw (sym e₁ ∙ h₁, prefix_word) (rw (sym e₂ ∙ h) (ap PrefixRefused g))
+    prefix_other k h g = rw (sym e₁ ∙ h₁, prefix_word) (rw (sym e₂ ∙ h) (ap Err g))
 
 pub ruleset prefix_ways = (prefix_hex, prefix_base64, prefix_other)
 
@@ -219,11 +188,18 @@ module _ (a : Amount) where
     unfolding is_simple
     simple_gap h g = record { is = λ n c. rw (amount_is n c, lt-leb a.value 23 h, lt-leb 32 a.value g) }
 
-    pub simple-high : 23 < a.value → 32 ≤ a.value → Simples a (leb a.value 255)
+    pub simple-high : 32 ≤ a.value → a.value ≤ 255 → Simples a true
     unfolding is_simple
-    simple-high h g = record { is = λ n c. rw (amount_is n c, lt-leb a.value 23 h, le-leb 32 a.value g) }
+    simple-high h g = let h' : 23 < a.value = omega arith in record { is = λ n c. rw (amount_is n c, lt-leb a.value 23 h', le-leb 32 a.value h, le-leb a.value 255 g) }
 
-pub ruleset simple_tests = (simple-over, simple-low, simple_gap, simple-high)
+    pub simple-above : 255 < a.value → Simples a false
+    unfolding is_simple
+    simple-above g =
+        let h' : 23 < a.value = omega arith in
+        let h : 32 ≤ a.value = omega arith in
+        record { is = λ n c. rw (amount_is n c, lt-leb a.value 23 h', le-leb 32 a.value h, lt-leb a.value 255 g) }
+
+pub ruleset simple_tests = (simple-over, simple-low, simple_gap, simple-high, simple-above)
 
 simple-value : (a : Amount) (n : ℕ) → Counts a n → is_simple n ≡ true → a.value ≡ n
 unfolding heavy
@@ -282,10 +258,10 @@ module _ {s : List ℕ} {at place : ℕ} {t : Cut} {u : Bool} (p : Peeked s at 0
 pub ruleset simple_tokens = (simple_bare, simple_open, simple-whole)
 
 -- A WORD WITH NO QUOTE
-abbrev worded_by : WordMeaning → List ℕ → Result Token
-worded_by (Value v) r = value v r
-worded_by SimpleOf r = simple_token r
-worded_by (WordRefused k) r = fault k
+abbrev worded_by : Answer WordMeaning ℕ → List ℕ → Result Token
+worded_by (Ok (Value v)) r = value v r
+worded_by (Ok SimpleOf) r = simple_token r
+worded_by (Err k) r = fault k
 
 worded-is : (w r : List ℕ) → worded w r ≡ worded_by (value_word w) r
 unfolding worded value_word other_word
@@ -298,10 +274,10 @@ worded-is w r = go (same w false_word) (same w true_word) (same w null_word) (sa
         | false ↦ elim c [ true ↦ value 22 r | false ↦ elim d [ true ↦ value 23 r | false ↦ elim e [ true ↦ simple_token r | false ↦ elim f [ true ↦ fault float | false ↦ fault unknown_word ] ] ] ]
       ]
     ]) (worded_by (elim a [
-      | true ↦ Value 20
+      | true ↦ Ok (Value 20)
       | false ↦ elim b [
-        | true ↦ Value 21
-        | false ↦ elim c [ true ↦ Value 22 | false ↦ elim d [ true ↦ Value 23 | false ↦ elim e [ true ↦ SimpleOf | false ↦ WordRefused (elim f [ true ↦ float | false ↦ unknown_word ]) ] ] ]
+        | true ↦ Ok (Value 21)
+        | false ↦ elim c [ true ↦ Ok (Value 22) | false ↦ elim d [ true ↦ Ok (Value 23) | false ↦ elim e [ true ↦ Ok SimpleOf | false ↦ Err (elim f [ true ↦ float | false ↦ unknown_word ]) ] ] ]
       ]
     ]) r)
     go true b c d e f = refl
@@ -312,19 +288,19 @@ worded-is w r = go (same w false_word) (same w true_word) (same w null_word) (sa
     go false false false false false true = refl
     go false false false false false false = refl
 
-by_meaning : (w r : List ℕ) {m n : WordMeaning} → m ≡ value_word w → m ≡ n → worded w r ≡ worded_by n r
-by_meaning w r e f = worded-is w r ∙ ap (λ (k : WordMeaning). worded_by k r) (sym e ∙ f)
+by_meaning : (w r : List ℕ) {m : Answer WordMeaning ℕ} → m ≡ value_word w → worded w r ≡ worded_by m r
+by_meaning w r e = worded-is w r ∙ ap (λ (k : Answer WordMeaning ℕ). worded_by k r) (sym e)
 
-module _ {s : List ℕ} {place end : ℕ} {t : Cut} (p : WordPart s place end) {m : WordMeaning} (e : m ≡ value_word (span place end (marked s))) where
-  pub worded-value : (v : ℕ) → m ≡ Value v → TokenMade 3 0 v place end t → Says s place t (worded (span place end (marked s)) (drop end (marked s)))
+module _ {s : List ℕ} {place end : ℕ} {t : Cut} (p : WordPart s place end) where
+  pub worded-value : (v : ℕ) → Ok (Value v) ≡ value_word (span place end (marked s)) → TokenMade 3 0 v place end t → Says s place t (worded (span place end (marked s)) (drop end (marked s)))
   unfolding value code_of begin_code item_code mark_of begin_mark item_mark number_of begin_number item_number Written BeginsAs
-  worded-value v f h = says_as (by_meaning (span place end (marked s)) (drop end (marked s)) e f) (says_made h (begins (leaf (simple v))) refl refl refl tt p.inside)
+  worded-value v e h = says_as (by_meaning (span place end (marked s)) (drop end (marked s)) e) (says_made h (begins (leaf (simple v))) refl refl refl tt p.inside)
 
-  pub worded-simple : m ≡ SimpleOf → Says s place t (simple_token (drop end (marked s))) → Says s place t (worded (span place end (marked s)) (drop end (marked s)))
-  worded-simple f h = says_as (by_meaning (span place end (marked s)) (drop end (marked s)) e f) h
+  pub worded-simple : Ok SimpleOf ≡ value_word (span place end (marked s)) → Says s place t (simple_token (drop end (marked s))) → Says s place t (worded (span place end (marked s)) (drop end (marked s)))
+  worded-simple e h = says_as (by_meaning (span place end (marked s)) (drop end (marked s)) e) h
 
-  pub worded-refused : (k : ℕ) → m ≡ WordRefused k → Refused k place t → Says s place t (worded (span place end (marked s)) (drop end (marked s)))
-  worded-refused k f r = says_as (by_meaning (span place end (marked s)) (drop end (marked s)) e f) (says_refuse 0 r)
+  pub worded-refused : (k : ℕ) → Err k ≡ value_word (span place end (marked s)) → Refused k place t → Says s place t (worded (span place end (marked s)) (drop end (marked s)))
+  worded-refused k e r = says_as (by_meaning (span place end (marked s)) (drop end (marked s)) e) (says_refuse 0 r)
 
 pub ruleset worded_ways = (worded-value, worded-simple, worded-refused)
 

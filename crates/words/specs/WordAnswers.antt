@@ -1,5 +1,5 @@
 -- Of the code: what the code that reads words answers. s is a text.
-use Rattle.std.specs.Prelude.{ℕ, ◌+◌, ◌≤◌, ◌<◌, ◌≡◌, Bool, true, false, List, [], ◌∷◌, length, drop}
+use Rattle.std.specs.Prelude.{ℕ, ◌+◌, ◌≤◌, ◌<◌, ◌≡◌, Bool, true, false, Result, Ok, Err, List, [], ◌∷◌, length, drop}
 use Rattle.cbor.specs.Refusals.{unknown_word, float}
 use Rattle.cbor.specs.Valid.{is_simple}
 use Rattle.notation.specs.Classes.{class_number, class_of}
@@ -12,9 +12,7 @@ use Rattle.amounts.specs.AmountAnswers.{Counts}
 use Rattle.amounts.specs.declared.Amount.{Amount}
 use Rattle.token.specs.declared.Token.{Token as Cut}
 use Rattle.words.specs.declared.WordMeaning.{WordMeaning}
-use Rattle.words.specs.declared.WordMeaning.TheVariants.{Value, SimpleOf, Refused as WordRefused}
-use Rattle.words.specs.declared.Prefix.{Prefix}
-use Rattle.words.specs.declared.Prefix.TheVariants.{Form, Refused as PrefixRefused}
+use Rattle.words.specs.declared.WordMeaning.TheVariants.{Value, SimpleOf}
 
 -- a part of a text
 pub record WordPart (s : List ℕ) (from end : ℕ) : Type 0 where
@@ -30,23 +28,23 @@ pub record Enclosed (s : List ℕ) (from end : ℕ) : Type 0 where
 unfoldable pub other_word : List ℕ → ℕ
 other_word w = elim (is_float_word w) [ true ↦ float | false ↦ unknown_word ]
 
--- what a word stands for
-unfoldable pub value_word : List ℕ → WordMeaning
+-- what a word stands for, or why it is refused
+unfoldable pub value_word : List ℕ → Result WordMeaning ℕ
 value_word w =
     elim (same w false_word) [
-      | true ↦ Value 20
+      | true ↦ Ok (Value 20)
       | false ↦ elim (same w true_word) [
-        | true ↦ Value 21
+        | true ↦ Ok (Value 21)
         | false ↦ elim (same w null_word) [
-          | true ↦ Value 22
-          | false ↦ elim (same w undefined_word) [ true ↦ Value 23 | false ↦ elim (same w simple_word) [ true ↦ SimpleOf | false ↦ WordRefused (other_word w) ] ]
+          | true ↦ Ok (Value 22)
+          | false ↦ elim (same w undefined_word) [ true ↦ Ok (Value 23) | false ↦ elim (same w simple_word) [ true ↦ Ok SimpleOf | false ↦ Err (other_word w) ] ]
         ]
       ]
     ]
 
--- the form of literal that a prefix gives: 2 is `h`, and 3 `b64`
-unfoldable pub prefix_word : List ℕ → Prefix
-prefix_word w = elim (same w hex_prefix) [ true ↦ Form 2 | false ↦ elim (same w base64_prefix) [ true ↦ Form 3 | false ↦ PrefixRefused (other_word w) ] ]
+-- the form of literal that a prefix gives, 2 for `h` and 3 for `b64`, or why it is refused
+unfoldable pub prefix_word : List ℕ → Result ℕ ℕ
+prefix_word w = elim (same w hex_prefix) [ true ↦ Ok 2 | false ↦ elim (same w base64_prefix) [ true ↦ Ok 3 | false ↦ Err (other_word w) ] ]
 
 -- whether an amount is a simple value
 pub record Simples (a : Amount) (r : Bool) : Type 0 where

@@ -19,19 +19,11 @@ use token::kind::{BEHIND, END, SIMPLE};
 use token::reason::{BAD_CONTENT, FLOAT, NOTHING, UNKNOWN_WORD};
 use token::{Token, made, refuse};
 
-// What a word stands for: a simple value, or `simple`, behind which one stands in brackets; or why it is refused.
-#[derive(Drop)]
+// What a word stands for: a simple value, or `simple`, behind which one stands in brackets.
+#[derive(Clone, Copy)]
 enum WordMeaning {
     Value(u8),
     SimpleOf,
-    Refused(u8),
-}
-
-// The form of literal that a prefix gives, or why it is refused.
-#[derive(Drop)]
-pub enum Prefix {
-    Form(u8),
-    Refused(u8),
 }
 
 // The simple values that have words (RFC 8949, section 3.3).
@@ -48,14 +40,7 @@ fn starts_with(text: &[u8], at: usize, word: &[u8]) -> bool
     requires { at ≤ length text.now }
     ensures { result ≡ starts_with word.now (drop at (marked text.now)) }
 {
-    let mut i: usize = 0;
-    while i < word.len() {
-        if !next_is(text, at + i, word[i]) {
-            return false;
-        }
-        i += 1;
-    }
-    true
+    text[at..].starts_with(word)
 }
 
 // Whether a part of a text is a word.
@@ -63,10 +48,7 @@ fn is_same(text: &[u8], from: usize, end: usize, word: &[u8]) -> bool
     requires { WordPart text.now from end }
     ensures { result ≡ same (span from end (marked text.now)) word.now }
 {
-    if end - from == word.len() {
-        return starts_with(text, from, word);
-    }
-    false
+    &text[from..end] == word
 }
 
 // Why a word is refused.
@@ -74,48 +56,48 @@ fn other_word(text: &[u8], from: usize, end: usize) -> u8
     requires { WordPart text.now from end }
     ensures { result ≡ other_word (span from end (marked text.now)) }
 {
-    if is_same(text, from, end, b"NaN") {
-        return FLOAT;
+    if is_same(text, from, end, b"NaN") || is_same(text, from, end, b"Infinity") {
+        FLOAT
+    } else {
+        UNKNOWN_WORD
     }
-    if is_same(text, from, end, b"Infinity") {
-        return FLOAT;
-    }
-    UNKNOWN_WORD
 }
 
-fn value_word(text: &[u8], from: usize, end: usize) -> WordMeaning
+// What a word stands for, or why it is refused.
+fn value_word(text: &[u8], from: usize, end: usize) -> Result<WordMeaning, u8>
     requires { WordPart text.now from end }
     ensures { result ≡ value_word (span from end (marked text.now)) }
 {
     if is_same(text, from, end, b"false") {
-        return WordMeaning::Value(FALSE);
+        return Ok(WordMeaning::Value(FALSE));
     }
     if is_same(text, from, end, b"true") {
-        return WordMeaning::Value(TRUE);
+        return Ok(WordMeaning::Value(TRUE));
     }
     if is_same(text, from, end, b"null") {
-        return WordMeaning::Value(NULL);
+        return Ok(WordMeaning::Value(NULL));
     }
     if is_same(text, from, end, b"undefined") {
-        return WordMeaning::Value(UNDEFINED);
+        return Ok(WordMeaning::Value(UNDEFINED));
     }
     if is_same(text, from, end, b"simple") {
-        return WordMeaning::SimpleOf;
+        return Ok(WordMeaning::SimpleOf);
     }
-    WordMeaning::Refused(other_word(text, from, end))
+    Err(other_word(text, from, end))
 }
 
-pub fn prefix_word(text: &[u8], from: usize, end: usize) -> Prefix
+// The form of literal that a prefix gives, or why it is refused.
+pub fn prefix_word(text: &[u8], from: usize, end: usize) -> Result<u8, u8>
     requires { WordPart text.now from end }
     ensures { result ≡ prefix_word (span from end (marked text.now)) }
 {
     if is_same(text, from, end, b"h") {
-        return Prefix::Form(HEX);
+        return Ok(HEX);
     }
     if is_same(text, from, end, b"b64") {
-        return Prefix::Form(BASE64);
+        return Ok(BASE64);
     }
-    Prefix::Refused(other_word(text, from, end))
+    Err(other_word(text, from, end))
 }
 
 // Whether digits are a decimal without leading zero.
@@ -123,14 +105,11 @@ fn plain_decimal(text: &[u8], from: usize, end: usize) -> bool
     requires { WordPart text.now from end }
     ensures { result ≡ is_plain_decimal (span from end (marked text.now)) }
 {
-    let size = end - from;
-    if size == 0 {
-        return false;
+    match end - from {
+        0 => false,
+        1 => true,
+        _ => b'1' <= text[from],
     }
-    if size == 1 {
-        return true;
-    }
-    b'1' <= text[from]
 }
 
 // The simple values are two stretches of numbers (RFC 8949, section 3.3).
@@ -143,18 +122,7 @@ const LAST_HIGH: u64 = 255;
 fn is_simple(a: Amount) -> bool
     ensures { Simples a result }
 {
-    let value = a.value;
-    let over = a.over;
-    if over {
-        return false;
-    }
-    if value <= LAST_LOW {
-        return true;
-    }
-    if value < FIRST_HIGH {
-        return false;
-    }
-    value <= LAST_HIGH
+    !a.over && matches!(a.value, 0..=LAST_LOW | FIRST_HIGH..=LAST_HIGH)
 }
 
 // The digits in `simple(..)`.
@@ -194,11 +162,10 @@ pub fn worded(text: &[u8], place: usize, end: usize) -> Token
     requires { WordPart text.now place end }
     ensures { Says text.now place result (worded (span place end (marked text.now)) (drop end (marked text.now))) }
 {
-    let meaning = value_word(text, place, end);
-    match meaning {
-        WordMeaning::Value(v) => made(SIMPLE, NONE, v as u64, place, end),
-        WordMeaning::SimpleOf => simple_token(text, place, end),
-        WordMeaning::Refused(reason) => refuse(reason, place),
+    match value_word(text, place, end) {
+        Ok(WordMeaning::Value(v)) => made(SIMPLE, NONE, v as u64, place, end),
+        Ok(WordMeaning::SimpleOf) => simple_token(text, place, end),
+        Err(reason) => refuse(reason, place),
     }
 }
 

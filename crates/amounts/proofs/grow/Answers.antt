@@ -3,8 +3,8 @@
 use Rattle.amounts.proofs.AmountCode.{grow_ways, grow_mul, grow_add}
 use Rattle.amounts.proofs.grow.Goals as goal
 
-pub returns-then-over : goal.returns-then-over
-returns-then-over c = search grow_ways
+pub returns-then-a : goal.returns-then-a
+returns-then-a c = search grow_ways
 
 pub overflow_mul-result : goal.overflow_mul-result
 overflow_mul-result c = search grow_mul

@@ -1,31 +1,20 @@
 -- `amounts::makes_float` meets its contract.
 -- Assumes nothing.
-use Rattle.amounts.proofs.AmountCode.{float_ways}
+use native.Mathlib.Omega.{arith}
+use Rattle.amounts.proofs.AmountCode.{float_ten, float_ten_none, float_sixteen, float_sixteen_none, float-other}
 use Rattle.amounts.proofs.makes_float.Goals as goal
 
 pub returns-in-46 : goal.returns-in-46
-returns-in-46 c = search float_ways
+returns-in-46 c = float_ten c.args.radix c.args.b c.in-10.is c.in-46.is
 
-pub returns-in-101 : goal.returns-in-101
-returns-in-101 c = search float_ways
+pub returns-in_default-matches : goal.returns-in_default-matches
+returns-in_default-matches c = float_ten_none c.args.radix c.args.b c.in-10.is (grind arith) (grind arith) (grind arith)
 
-pub returns-in-69 : goal.returns-in-69
-returns-in-69 c = search float_ways
+pub returns-in-46-matches : goal.returns-in-46-matches
+returns-in-46-matches c = float_sixteen c.args.radix c.args.b c.in-16.is c.in-46-matches.is
+
+pub returns-in_default-matches-2 : goal.returns-in_default-matches-2
+returns-in_default-matches-2 c = float_sixteen_none c.args.radix c.args.b c.in-16.is (grind arith) (grind arith) (grind arith)
 
 pub returns-in_default : goal.returns-in_default
-returns-in_default c = search float_ways
-
-pub returns-in-46-b : goal.returns-in-46-b
-returns-in-46-b c = search float_ways
-
-pub returns-in-112 : goal.returns-in-112
-returns-in-112 c = search float_ways
-
-pub returns-in-80 : goal.returns-in-80
-returns-in-80 c = search float_ways
-
-pub returns-in_default-b : goal.returns-in_default-b
-returns-in_default-b c = search float_ways
-
-pub returns : goal.returns
-returns c = search float_ways
+returns-in_default c = float-other c.args.radix c.args.b (omega arith) (omega arith)

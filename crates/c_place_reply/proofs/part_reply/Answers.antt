@@ -3,8 +3,8 @@
 use Rattle.c_place_reply.proofs.PlaceReplying.{part_ways}
 use Rattle.c_place_reply.proofs.part_reply.Goals as goal
 
-pub returns-in-Refused : goal.returns-in-Refused
-returns-in-Refused c = search part_ways
+pub returns-in-Err : goal.returns-in-Err
+returns-in-Err c = search part_ways
 
-pub returns-in-Part : goal.returns-in-Part
-returns-in-Part c = search part_ways
+pub returns-in-Ok : goal.returns-in-Ok
+returns-in-Ok c = search part_ways

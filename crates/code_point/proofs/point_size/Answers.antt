@@ -3,14 +3,14 @@
 use Rattle.code_point.proofs.PointCode.{size_ways}
 use Rattle.code_point.proofs.point_size.Goals as goal
 
-pub returns-then-c-lt128 : goal.returns-then-c-lt128
-returns-then-c-lt128 c = search size_ways
+pub returns-in-0-to-127 : goal.returns-in-0-to-127
+returns-in-0-to-127 c = search size_ways
 
-pub returns-then-c-lt2048 : goal.returns-then-c-lt2048
-returns-then-c-lt2048 c = search size_ways
+pub returns-in-128-to-2047 : goal.returns-in-128-to-2047
+returns-in-128-to-2047 c = search size_ways
 
-pub returns-then-c-lt65536 : goal.returns-then-c-lt65536
-returns-then-c-lt65536 c = search size_ways
+pub returns-in-2048-to-65535 : goal.returns-in-2048-to-65535
+returns-in-2048-to-65535 c = search size_ways
 
-pub returns : goal.returns
-returns c = search size_ways
+pub returns-in_default : goal.returns-in_default
+returns-in_default c = search size_ways

@@ -1,10 +1,11 @@
 -- `correcting::replace` meets its contract.
 -- Assumes nothing.
+use Rattle.std.proofs.lemmas.Result.{err_from_is_err_and}
 use Rattle.correcting.proofs.Deciding.{replace_ways}
 use Rattle.correcting.proofs.replace.Goals as goal
 
-pub returns-in-Refused : goal.returns-in-Refused
-returns-in-Refused c = search replace_ways
+pub returns-in_err-m : goal.returns-in_err-m
+returns-in_err-m c = let w = c.in_err-m.was {u = tt} in let p = err_from_is_err_and c.from_residual.result c.from_residual.ensures.1 in rw (p.1, p.2) (search replace_ways)
 
-pub returns-in-Made : goal.returns-in-Made
-returns-in-Made c = search replace_ways
+pub returns : goal.returns
+returns c = let w = c.in_ok-m.was {u = tt} in search replace_ways

@@ -1,13 +1,11 @@
 -- `escapes::escaped` meets its contract.
 -- Assumes nothing.
-use Rattle.escapes.proofs.EscapeCode.{escaped_ways}
+use native.Mathlib.Omega.{arith}
+use Rattle.escapes.proofs.EscapeCode.{escaped_ways, escaped_itself, escaped_none}
 use Rattle.escapes.proofs.escaped.Goals as goal
 
 pub returns-in-92 : goal.returns-in-92
-returns-in-92 c = search escaped_ways
-
-pub returns-in-47 : goal.returns-in-47
-returns-in-47 c = search escaped_ways
+returns-in-92 c = escaped_itself c.in-92.is
 
 pub returns-in-98 : goal.returns-in-98
 returns-in-98 c = search escaped_ways
@@ -25,4 +23,4 @@ pub returns-in-116 : goal.returns-in-116
 returns-in-116 c = search escaped_ways
 
 pub returns-in_default : goal.returns-in_default
-returns-in_default c = search escaped_ways
+returns-in_default c = escaped_none (λ e. grind arith) (λ e. grind arith) (λ e. omega arith) (λ e. omega arith) (λ e. omega arith) (λ e. omega arith) (λ e. omega arith)

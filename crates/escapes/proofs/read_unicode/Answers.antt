@@ -1,29 +1,15 @@
 -- `escapes::read_unicode` meets its contract.
 -- Assumes nothing.
 use native.Mathlib.Omega.{arith}
-use Rattle.escapes.proofs.EscapeCode.{unicode_ways}
+use Rattle.std.proofs.lemmas.Grind.{common_steps}
+use Rattle.escapes.proofs.EscapeCode.{unicode-pair, unicode_lone, unicode-plain}
 use Rattle.escapes.proofs.read_unicode.Goals as goal
 
-pub returns-then-unit-ge-NO_UNIT : goal.returns-then-unit-ge-NO_UNIT
-returns-then-unit-ge-NO_UNIT c = search unicode_ways
+pub returns-then-contains : goal.returns-then-contains
+returns-then-contains c = let a = c.if-contains.ensures.cases in unicode-pair c.in_ok-unit.ensures (grind (arith, common_steps)) (grind (arith, common_steps)) c.read_low.ensures
 
-pub overflow_add-at : goal.overflow_add-at
-overflow_add-at c = omega (arith, c.read_unit-unit.ensures.inside (omega arith))
-
-pub returns-then-unit-lt-HIGH : goal.returns-then-unit-lt-HIGH
-returns-then-unit-lt-HIGH c = search unicode_ways
-
-pub overflow_add-at-then-unit-lt-LOW : goal.overflow_add-at-then-unit-lt-LOW
-overflow_add-at-then-unit-lt-LOW c = omega (arith, c.read_unit-unit.ensures.inside (omega arith))
-
-pub returns-then-unit-lt-LOW : goal.returns-then-unit-lt-LOW
-returns-then-unit-lt-LOW c = search unicode_ways
-
-pub returns-then-unit-lt-BEYOND : goal.returns-then-unit-lt-BEYOND
-returns-then-unit-lt-BEYOND c = search unicode_ways
-
-pub overflow_add-at-2 : goal.overflow_add-at-2
-overflow_add-at-2 c = omega (arith, c.read_unit-unit.ensures.inside (omega arith))
+pub returns-then-contains-2 : goal.returns-then-contains-2
+returns-then-contains-2 c = let a = c.if-contains-2.ensures.cases in unicode_lone c.in_ok-unit.ensures (grind (arith, common_steps)) (grind (arith, common_steps))
 
 pub returns : goal.returns
-returns c = search unicode_ways
+returns c = let a = c.if-contains.ensures.cases in let b = c.if-contains-2.ensures.cases in unicode-plain c.in_ok-unit.ensures (λ h. grind (arith, common_steps))

@@ -6,11 +6,11 @@ use Rattle.head.proofs.head_argument.Goals as goal
 pub returns-then-is_short : goal.returns-then-is_short
 returns-then-is_short c = search argued_ways
 
-pub returns-then-form-eq-OPEN_ENDED : goal.returns-then-form-eq-OPEN_ENDED
-returns-then-form-eq-OPEN_ENDED c = search argued_ways
-
 pub argument_at-requires : goal.argument_at-requires
 argument_at-requires c = search argued-room
 
-pub returns : goal.returns
-returns c = search argued_ways
+pub returns-in-OpenEnded : goal.returns-in-OpenEnded
+returns-in-OpenEnded c = search argued_ways
+
+pub returns-in_default : goal.returns-in_default
+returns-in_default c = search argued_ways

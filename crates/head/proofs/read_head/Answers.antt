@@ -6,15 +6,6 @@ use Rattle.head.proofs.read_head.Goals as goal
 pub returns-then-bytes-at : goal.returns-then-bytes-at
 returns-then-bytes-at c = search head_ways
 
-pub returns-then-f-eq-FLOAT : goal.returns-then-f-eq-FLOAT
-returns-then-f-eq-FLOAT c = search head_ways
-
-pub returns-then-f-eq-NOT_WELL_FORMED : goal.returns-then-f-eq-NOT_WELL_FORMED
-returns-then-f-eq-NOT_WELL_FORMED c = search head_ways
-
-pub returns-then-f-eq-OPEN_ENDED : goal.returns-then-f-eq-OPEN_ENDED
-returns-then-f-eq-OPEN_ENDED c = search head_ways
-
 pub returns-then-bytes-at-2 : goal.returns-then-bytes-at-2
 returns-then-bytes-at-2 c = search head-short
 
@@ -24,5 +15,11 @@ argument_at-argument-requires c = search argument-room
 pub returns-then-argument-least_argument : goal.returns-then-argument-least_argument
 returns-then-argument-least_argument c = search head_ways
 
-pub returns : goal.returns
-returns c = search head_ways
+pub returns-in-Refused : goal.returns-in-Refused
+returns-in-Refused c = search head_ways
+
+pub returns-in-OpenEnded : goal.returns-in-OpenEnded
+returns-in-OpenEnded c = search head_ways
+
+pub returns-else-argument-least_argument : goal.returns-else-argument-least_argument
+returns-else-argument-least_argument c = search head_ways

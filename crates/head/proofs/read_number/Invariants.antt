@@ -1,11 +1,7 @@
 -- `head::read_number` meets its contract.
 -- Assumes nothing.
 use Rattle.head.proofs.HeadCode.{Reading}
-use Prim.Native.Nat.{◌-◌}
 use Rattle.head.proofs.read_number.Given as goal
 
 abbrev pub invariant-loop-i : goal.invariant-loop-i
 invariant-loop-i l = Reading l.bytes l.from l.size l.i l.v
-
-abbrev pub decreases-loop-i : goal.decreases-loop-i
-decreases-loop-i l = l.size - l.i

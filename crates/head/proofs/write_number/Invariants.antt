@@ -5,6 +5,3 @@ use Rattle.head.proofs.write_number.Given as goal
 
 abbrev pub invariant-loop-k : goal.invariant-loop-k
 invariant-loop-k l = Filling l.initial.out l.from l.size l.n l.k l.m l.out
-
-abbrev pub decreases-loop-k : goal.decreases-loop-k
-decreases-loop-k l = l.k

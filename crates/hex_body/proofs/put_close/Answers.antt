@@ -1,8 +1,7 @@
 -- `hex_body::put_close` meets its contract.
 -- Assumes nothing.
 use Rattle.literal_body.proofs.ReadingCode.{progress_start}
-use Rattle.hex_body.proofs.HexCode.{close_on, close_gap, close_less}
-use borrow.Author.Rules.{rules}
+use Rattle.hex_body.proofs.HexCode.{close_on, close_gap}
 use Rattle.hex_body.proofs.put_close.Goals as goal
 
 pub loop-at-init : goal.loop-at-init
@@ -10,9 +9,6 @@ loop-at-init c = search progress_start
 
 pub loop-at-preserved-then-w-lt-NO_PAIR : goal.loop-at-preserved-then-w-lt-NO_PAIR
 loop-at-preserved-then-w-lt-NO_PAIR c = search close_on
-
-pub loop-at-smaller : goal.loop-at-smaller
-loop-at-smaller c = search (close_less, rules)
 
 pub loop-at-preserved : goal.loop-at-preserved
 loop-at-preserved c = search close_gap

@@ -8,10 +8,10 @@ pub loop-i-init : goal.loop-i-init
 loop-i-init c = search comment_start
 
 pub returns-then-text-i : goal.returns-then-text-i
-returns-then-text-i c = comment_ends c.loop-i.invariant c.requires.before c.requires.closing (omega (arith, c.shared_slice_known-1.given c.loop-i.i)) c.loop-i-test.true c.if-text-i.true
+returns-then-text-i c = comment_ends c.loop-i.invariant c.requires.before c.requires.closing (omega (arith, c.type_inv.text c.loop-i.i)) c.loop-i-test.true c.if-text-i.true
 
 pub loop-i-preserved : goal.loop-i-preserved
-loop-i-preserved c = comment_goes c.loop-i.invariant c.requires.before c.requires.closing (omega (arith, c.shared_slice_known-1.given c.loop-i.i)) c.loop-i-test.true c.if-text-i.false
+loop-i-preserved c = comment_goes c.loop-i.invariant c.requires.before c.requires.closing (omega (arith, c.type_inv.text c.loop-i.i)) c.loop-i-test.true c.if-text-i.false
 
 pub returns : goal.returns
 returns c = search comment_none

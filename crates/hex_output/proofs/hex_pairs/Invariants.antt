@@ -1,12 +1,7 @@
 -- `hex_output::hex_pairs` meets its contract.
 -- Assumes nothing.
 use Rattle.hex_output.proofs.HexCode.{Pairs}
-use Prim.Native.Nat.{◌-◌}
-use lib.ListN.{length}
 use Rattle.hex_output.proofs.hex_pairs.Given as goal
 
 abbrev pub invariant-loop-i : goal.invariant-loop-i
 invariant-loop-i l = Pairs l.bytes l.initial.out l.pos l.i l.out
-
-abbrev pub decreases-loop-i : goal.decreases-loop-i
-decreases-loop-i l = length l.bytes - l.i

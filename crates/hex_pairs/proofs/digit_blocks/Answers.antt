@@ -1,10 +1,7 @@
 -- `hex_pairs::digit_blocks` meets its contract.
 -- Assumes nothing.
-use Rattle.hex_pairs.proofs.PairsCode.{run-start, run-block, run-part}
+use Rattle.hex_pairs.proofs.PairsCode.{run-block, run-part}
 use Rattle.hex_pairs.proofs.digit_blocks.Goals as goal
-
-pub loop-at-init : goal.loop-at-init
-loop-at-init c = search run-start
 
 pub returns-then-n-lt32 : goal.returns-then-n-lt32
 returns-then-n-lt32 c = search run-part

@@ -1,11 +1,7 @@
 -- `hex_pairs::values` meets its contract.
 -- Assumes nothing.
-use Prim.Native.Nat.{◌-◌}
 use Rattle.hex_pairs.proofs.PairsCode.{Values}
 use Rattle.hex_pairs.proofs.values.Given as goal
 
 abbrev pub invariant-loop-i : goal.invariant-loop-i
 invariant-loop-i l = Values l.text l.from l.i l.t
-
-abbrev pub decreases-loop-i : goal.decreases-loop-i
-decreases-loop-i l = 32 - l.i

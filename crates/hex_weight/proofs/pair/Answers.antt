@@ -1,16 +1,10 @@
 -- `hex_weight::pair` meets its contract.
 -- Assumes nothing.
-use Rattle.hex_weight.proofs.WeightCode.{weighed_start, weighed_high, weighed_sum, weighed_on, weighed_end}
+use Rattle.hex_weight.proofs.WeightCode.{weighed_start, weighed_on, weighed_end}
 use Rattle.hex_weight.proofs.pair.Goals as goal
 
 pub loop-k-init : goal.loop-k-init
 loop-k-init c = search weighed_start
-
-pub overflow_mul-w : goal.overflow_mul-w
-overflow_mul-w c = search weighed_high
-
-pub overflow_add-w : goal.overflow_add-w
-overflow_add-w c = search weighed_sum
 
 pub loop-k-preserved : goal.loop-k-preserved
 loop-k-preserved c = search weighed_on

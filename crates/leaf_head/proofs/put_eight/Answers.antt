@@ -2,12 +2,11 @@
 -- Assumes nothing.
 use Rattle.head.proofs.HeadCode.{fill_start, fill_step, fill_ways}
 use Rattle.leaf_head.proofs.put_eight.Goals as goal
+use Rattle.leaf_head.proofs.put_eight.Goals.{then-buf-lt8-via-then-buf-lt8, then-buf-lt8-via-else-buf-lt8+then-buf-from}
 
 pub returns-then-buf-lt8 : goal.returns-then-buf-lt8
-returns-then-buf-lt8 c = search fill_ways
-
-pub returns-then-buf-from : goal.returns-then-buf-from
-returns-then-buf-from c = search fill_ways
+returns-then-buf-lt8 c =
+    elim c.then-buf-lt8.branch [ then-buf-lt8-via-then-buf-lt8 w ↦ search fill_ways | then-buf-lt8-via-else-buf-lt8+then-buf-from w ↦ search fill_ways ]
 
 pub loop-k-init : goal.loop-k-init
 loop-k-init c = search fill_start

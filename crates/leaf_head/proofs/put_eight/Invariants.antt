@@ -5,6 +5,3 @@ use Rattle.leaf_head.proofs.put_eight.Given as goal
 
 abbrev pub invariant-loop-k : goal.invariant-loop-k
 invariant-loop-k l = Filling l.initial.buf l.from 8 l.n l.k l.m l.buf
-
-abbrev pub decreases-loop-k : goal.decreases-loop-k
-decreases-loop-k l = l.k

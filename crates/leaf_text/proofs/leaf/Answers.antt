@@ -1,4 +1,3 @@
-use Rattle.leaf_written.proofs.LeafCode.{told_none}
 use Rattle.leaf_kind.proofs.KindCode.{kind_as}
 use Rattle.leaf_text.proofs.WordCode.{false_told, true_told, null_told}
 use Rattle.leaf_text.proofs.leaf.Goals as goal
@@ -29,6 +28,3 @@ returns-in-True c = search (true_told, kind_as)
 
 pub returns-in-Null : goal.returns-in-Null
 returns-in-Null c = search (null_told, kind_as)
-
-pub returns-in_default : goal.returns-in_default
-returns-in_default c = search told_none

@@ -3,5 +3,5 @@
 use Rattle.looking.proofs.Parts.{at_once}
 use Rattle.looking.proofs.part_at.Goals as goal
 
-pub returns-in-Found : goal.returns-in-Found
-returns-in-Found c = search at_once
+pub returns-in-Some : goal.returns-in-Some
+returns-in-Some c = search at_once

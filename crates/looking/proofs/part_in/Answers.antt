@@ -1,5 +1,6 @@
 -- `looking::part_in` meets its contract.
 -- Assumes nothing.
+use Rattle.std.proofs.lemmas.Result.{err_from_is_err_and}
 use Rattle.looking.proofs.Parts.{part_room, part_ways}
 use Rattle.looking.proofs.part_in.Goals as goal
 
@@ -9,11 +10,11 @@ slice_bounds-item-count c = search part_room
 pub slice_bounds-item-start : goal.slice_bounds-item-start
 slice_bounds-item-start c = search part_room
 
-pub returns-in-Lost : goal.returns-in-Lost
-returns-in-Lost c = search part_ways
+pub returns-in-Err : goal.returns-in-Err
+returns-in-Err c = search part_ways
 
-pub returns-in-Refused : goal.returns-in-Refused
-returns-in-Refused c = search part_ways
+pub returns-in_err-whole-in-Ok : goal.returns-in_err-whole-in-Ok
+returns-in_err-whole-in-Ok c = let w = c.in_err-whole-in-Ok.was {u = tt} in let p = err_from_is_err_and c.from_residual.result c.from_residual.ensures.1 in rw (p.1, p.2) (search part_ways)
 
-pub returns-in-Made : goal.returns-in-Made
-returns-in-Made c = search part_ways
+pub returns-in_ok-whole-in-Ok : goal.returns-in_ok-whole-in-Ok
+returns-in_ok-whole-in-Ok c = let w = c.in_ok-whole-in-Ok.was {u = tt} in search part_ways

@@ -4,17 +4,17 @@ use borrow.Author.Rules.{rules}
 use Rattle.part.proofs.Taking.{take-inside, take-order, take_ways}
 use Rattle.part.proofs.part_of.Goals as goal
 
-pub slice_bounds-result-count-in-Part : goal.slice_bounds-result-count-in-Part
-slice_bounds-result-count-in-Part c = search (rules, take-order)
+pub slice_bounds-result-count-in-Ok : goal.slice_bounds-result-count-in-Ok
+slice_bounds-result-count-in-Ok c = search (rules, take-order)
 
-pub slice_bounds-result-start-in-Part : goal.slice_bounds-result-start-in-Part
-slice_bounds-result-start-in-Part c = search (rules, take-order)
+pub slice_bounds-result-start-in-Ok : goal.slice_bounds-result-start-in-Ok
+slice_bounds-result-start-in-Ok c = search (rules, take-order)
 
-pub slice_bounds-result-end-in-Part : goal.slice_bounds-result-end-in-Part
-slice_bounds-result-end-in-Part c = search (rules, take-inside)
+pub slice_bounds-result-end-in-Ok : goal.slice_bounds-result-end-in-Ok
+slice_bounds-result-end-in-Ok c = search (rules, take-inside)
 
-pub returns-in-Refused : goal.returns-in-Refused
-returns-in-Refused c = search take_ways
+pub returns-in-Err : goal.returns-in-Err
+returns-in-Err c = search take_ways
 
-pub returns-in-Part : goal.returns-in-Part
-returns-in-Part c = search take_ways
+pub returns-in-Ok : goal.returns-in-Ok
+returns-in-Ok c = search take_ways

@@ -1,8 +1,5 @@
-use Rattle.pass_parts.proofs.PartCode.{may_ways}
+use Rattle.pass_parts.proofs.PartCode.{may-by}
 use Rattle.pass_parts.proofs.may_tag.Goals as goal
 
-pub returns-then-bytes-from : goal.returns-then-bytes-from
-returns-then-bytes-from c = search may_ways
-
 pub returns : goal.returns
-returns c = search may_ways
+returns c = may-by c.in-Some.ensures.lookup.3.0 (c.in-Some.ensures.lookup.3.1 0) c.is_short_string.ensures c.may_tag.ensures

@@ -1,12 +1,9 @@
 -- `path::follow` meets its contract.
 -- Assumes nothing.
 use Prim.Native.Nat.{◌-◌}
-use lib.ListN.{length}
+use Rattle.std.specs.Prelude.{Some}
 use Rattle.path.proofs.Stepping.{Tracing}
 use Rattle.path.proofs.follow.Given as goal
 
-abbrev pub invariant-loop-step : goal.invariant-loop-step
-invariant-loop-step l = Tracing l.bytes l.path l.step l.i
-
-abbrev pub decreases-loop-step : goal.decreases-loop-step
-decreases-loop-step l = length l.path - l.i
+abbrev pub invariant-loop-i : goal.invariant-loop-i
+invariant-loop-i l = Tracing l.bytes l.path (Some l.here) (l.i - 1)

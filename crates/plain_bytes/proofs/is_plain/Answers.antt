@@ -3,11 +3,11 @@
 use Rattle.plain_bytes.proofs.PlainRuns.{most-start, most-on, most-end}
 use Rattle.plain_bytes.proofs.is_plain.Goals as goal
 
-pub loop-i-init : goal.loop-i-init
-loop-i-init c = search most-start
+pub loop-b-init : goal.loop-b-init
+loop-b-init c = search most-start
 
-pub loop-i-preserved : goal.loop-i-preserved
-loop-i-preserved c = search most-on
+pub loop-b-preserved : goal.loop-b-preserved
+loop-b-preserved c = search most-on
 
 pub returns : goal.returns
 returns c = search most-end

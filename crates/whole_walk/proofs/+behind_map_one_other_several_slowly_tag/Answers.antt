@@ -1,5 +1,6 @@
 -- The functions of the cycle meet their contracts: each way to a return is a lemma.
 -- Assumes nothing.
+use Rattle.std.proofs.lemmas.Result.{err_from_is_err_and}
 use borrow.Author.Rules.{rules}
 use Rattle.walk_parts.proofs.StringCode.{head-room, head-inside}
 use Rattle.walk_answer.proofs.WalkCycle.{other_ways, run-start, run_ways, run_less, run_on}
@@ -55,20 +56,20 @@ behind-returns t c = search behind_ways
 pub map-slowly-requires : goal.map-slowly-requires
 map-slowly-requires t c = (omega arith, search rules)
 
-pub map-returns-then-count-le4294967295 : goal.map-returns-then-count-le4294967295
-map-returns-then-count-le4294967295 t c = search map_ways
+pub map-returns-in-Counted : goal.map-returns-in-Counted
+map-returns-in-Counted t c = search map_ways
 
 pub map-several-requires : goal.map-several-requires
 map-several-requires t c = (omega arith, search rules)
 
-pub map-returns : goal.map-returns
-map-returns t c = search map_ways
+pub map-returns-in_default : goal.map-returns-in_default
+map-returns-in_default t c = search map_ways
 
 pub one-headless-requires : goal.one-headless-requires
 one-headless-requires t c = search no-head
 
-pub one-returns-then-end-eq0 : goal.one-returns-then-end-eq0
-one-returns-then-end-eq0 t c = search one_ways
+pub one-returns-in_default : goal.one-returns-in_default
+one-returns-in_default t c = search one_ways
 
 pub one-bounds-bytes-0 : goal.one-bounds-bytes-0
 one-bounds-bytes-0 t c = search one_inside
@@ -100,38 +101,38 @@ other-returns-then-major-eq-MAP t c = search other_ways
 pub other-returns : goal.other-returns
 other-returns t c = search other_ways
 
-pub several-loop-part-init : goal.several-loop-part-init
-several-loop-part-init t c = search run-start
+pub several-loop-at-init : goal.several-loop-at-init
+several-loop-at-init t c = search run-start
 
 pub several-other-requires : goal.several-other-requires
 several-other-requires t c = (omega arith, search rules)
 
-pub several-returns-in-Refused : goal.several-returns-in-Refused
-several-returns-in-Refused t c = search run_ways
+pub several-returns-in_err-part : goal.several-returns-in_err-part
+several-returns-in_err-part t c = let w = c.in_err-part.was {u = tt} in let p = err_from_is_err_and c.from_residual.result c.from_residual.ensures.1 in rw (p.1, p.2) (search run_ways)
 
-pub several-loop-part-smaller : goal.several-loop-part-smaller
-several-loop-part-smaller t c = search run_less
+pub several-loop-at-smaller : goal.several-loop-at-smaller
+several-loop-at-smaller t c = let w = c.in_ok-part.was {u = tt} in search run_less
 
-pub several-loop-part-preserved : goal.several-loop-part-preserved
-several-loop-part-preserved t c = search run_on
+pub several-loop-at-preserved : goal.several-loop-at-preserved
+several-loop-at-preserved t c = let w = c.in_ok-part.was {u = tt} in search run_on
 
 pub several-returns : goal.several-returns
 several-returns t c = search run_ways
 
-pub slowly-loop-part-init : goal.slowly-loop-part-init
-slowly-loop-part-init t c = search run-start
+pub slowly-loop-at-init : goal.slowly-loop-at-init
+slowly-loop-at-init t c = search run-start
 
 pub slowly-one-requires : goal.slowly-one-requires
 slowly-one-requires t c = (omega arith, search rules)
 
-pub slowly-returns-in-Refused : goal.slowly-returns-in-Refused
-slowly-returns-in-Refused t c = search run_ways
+pub slowly-returns-in_err-part : goal.slowly-returns-in_err-part
+slowly-returns-in_err-part t c = let w = c.in_err-part.was {u = tt} in let p = err_from_is_err_and c.from_residual.result c.from_residual.ensures.1 in rw (p.1, p.2) (search run_ways)
 
-pub slowly-loop-part-smaller : goal.slowly-loop-part-smaller
-slowly-loop-part-smaller t c = search run_less
+pub slowly-loop-at-smaller : goal.slowly-loop-at-smaller
+slowly-loop-at-smaller t c = let w = c.in_ok-part.was {u = tt} in search run_less
 
-pub slowly-loop-part-preserved : goal.slowly-loop-part-preserved
-slowly-loop-part-preserved t c = search run_on
+pub slowly-loop-at-preserved : goal.slowly-loop-at-preserved
+slowly-loop-at-preserved t c = let w = c.in_ok-part.was {u = tt} in search run_on
 
 pub slowly-returns : goal.slowly-returns
 slowly-returns t c = search run_ways
@@ -140,10 +141,10 @@ pub tag-slowly-requires : goal.tag-slowly-requires
 tag-slowly-requires t c = (omega arith, search rules)
 
 pub tag-returns-then-may_tag : goal.tag-returns-then-may_tag
-tag-returns-then-may_tag t c = search tag_turns
+tag-returns-then-may_tag t c = let w = c.in_ok-inner.was {u = tt} in search tag_turns
 
-pub tag-returns-in-Refused : goal.tag-returns-in-Refused
-tag-returns-in-Refused t c = search tag_turns
+pub tag-returns-in_err-inner : goal.tag-returns-in_err-inner
+tag-returns-in_err-inner t c = let w = c.in_err-inner.was {u = tt} in let p = err_from_is_err_and c.from_residual.result c.from_residual.ensures.1 in rw (p.1, p.2) (search tag_turns)
 
-pub tag-returns-else-may_tag : goal.tag-returns-else-may_tag
-tag-returns-else-may_tag t c = search tag_turns
+pub tag-returns : goal.tag-returns
+tag-returns t c = let w = c.in_ok-inner.was {u = tt} in search tag_turns

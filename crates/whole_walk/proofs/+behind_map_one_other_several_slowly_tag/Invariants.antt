@@ -27,14 +27,14 @@ decreases-several l = 100 * l.levels + 5 * l.major + 1
 abbrev pub decreases-tag : goal.decreases-tag
 decreases-tag l = 100 * l.levels + 30
 
-abbrev pub invariant-several-loop-part : goal.invariant-several-loop-part
-invariant-several-loop-part l = Run l.major (suc l.levels) l.bytes (until_by l.mode l.count) l.at l.size (until_by l.mode l.left)
+abbrev pub invariant-several-loop-at : goal.invariant-several-loop-at
+invariant-several-loop-at l = Run l.major (suc l.levels) l.bytes (until_by l.mode l.count) l.at l.size (until_by l.mode l.left)
 
-abbrev pub decreases-several-loop-part : goal.decreases-several-loop-part
-decreases-several-loop-part l = length l.bytes - l.at
+abbrev pub decreases-several-loop-at : goal.decreases-several-loop-at
+decreases-several-loop-at l = length l.bytes - l.at
 
-abbrev pub invariant-slowly-loop-part : goal.invariant-slowly-loop-part
-invariant-slowly-loop-part l = Run 4 (suc l.levels) l.bytes (until_by l.mode l.count) l.at l.size (until_by l.mode l.left)
+abbrev pub invariant-slowly-loop-at : goal.invariant-slowly-loop-at
+invariant-slowly-loop-at l = Run 4 (suc l.levels) l.bytes (until_by l.mode l.count) l.at l.size (until_by l.mode l.left)
 
-abbrev pub decreases-slowly-loop-part : goal.decreases-slowly-loop-part
-decreases-slowly-loop-part l = length l.bytes - l.at
+abbrev pub decreases-slowly-loop-at : goal.decreases-slowly-loop-at
+decreases-slowly-loop-at l = length l.bytes - l.at

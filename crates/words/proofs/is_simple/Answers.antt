@@ -1,16 +1,21 @@
 -- `words::is_simple` meets its contract.
 -- Assumes nothing.
-use Rattle.words.proofs.WordCode.{simple_tests}
+use native.Mathlib.Omega.{arith}
+use borrow.Author.Tests.{not-true, not-false}
+use Rattle.words.proofs.WordCode.{simple-over, simple-low, simple_gap, simple-high, simple-above}
 use Rattle.words.proofs.is_simple.Goals as goal
 
-pub returns-then-over : goal.returns-then-over
-returns-then-over c = search simple_tests
+pub returns-in_default : goal.returns-in_default
+returns-in_default c = simple_gap _ (not-true _ c.if-not-a.true) (omega arith) (omega arith)
 
-pub returns-then-value-le-LAST_LOW : goal.returns-then-value-le-LAST_LOW
-returns-then-value-le-LAST_LOW c = search simple_tests
+pub returns-in_default-2 : goal.returns-in_default-2
+returns-in_default-2 c = simple-above _ (not-true _ c.if-not-a.true) (omega arith)
 
-pub returns-then-value-lt-FIRST_HIGH : goal.returns-then-value-lt-FIRST_HIGH
-returns-then-value-lt-FIRST_HIGH c = search simple_tests
+pub returns-in-0-to-23 : goal.returns-in-0-to-23
+returns-in-0-to-23 c = simple-low _ (not-true _ c.if-not-a.true) (omega arith)
 
-pub returns : goal.returns
-returns c = search simple_tests
+pub returns-in-0-to-23-2 : goal.returns-in-0-to-23-2
+returns-in-0-to-23-2 c = simple-high _ (not-true _ c.if-not-a.true) (omega arith) (omega arith)
+
+pub returns-else-not-a : goal.returns-else-not-a
+returns-else-not-a c = rw c.if-not-a.false (simple-over _ (not-false _ c.if-not-a.false))

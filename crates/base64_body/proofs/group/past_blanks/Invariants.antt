@@ -1,11 +1,7 @@
 -- `base64_body::group::past_blanks` meets its contract.
 -- Assumes nothing.
-use Prim.Native.Nat.{◌-◌, ◌≤◌}
 use Rattle.base64_body.proofs.BlankCode.{Passed}
 use Rattle.base64_body.proofs.group.past_blanks.Given as goal
 
 abbrev pub invariant-loop-at : goal.invariant-loop-at
-invariant-loop-at l = (l.at ≤ l.stop) × Passed l.text l.stop l.from l.at
-
-abbrev pub decreases-loop-at : goal.decreases-loop-at
-decreases-loop-at l = l.stop - l.at
+invariant-loop-at l = Passed l.text l.stop l.from l.at

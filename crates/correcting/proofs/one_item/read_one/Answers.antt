@@ -1,5 +1,6 @@
 -- `correcting::one_item::read_one` meets its contract.
 -- Assumes nothing.
+use Rattle.std.proofs.lemmas.Result.{err_from_is_err_and}
 use borrow.Author.Rules.{rules}
 use Rattle.refusal.specs.RefusalKinds.{kind_number}
 use Rattle.encoding.proofs.Telling.{made_inside}
@@ -18,34 +19,26 @@ pub returns-then-first-ne0 : goal.returns-then-first-ne0
 unfolding kind_number
 returns-then-first-ne0 c = search one_ways
 
-pub single-a-requires : goal.single-a-requires
+pub single-requires : goal.single-requires
 unfolding kind_number
-single-a-requires c = search one-room
-
-pub enum_known-a : goal.enum_known-a
-unfolding kind_number
-enum_known-a c = search rules
-
-pub enum_known-a-in-Made-1 : goal.enum_known-a-in-Made-1
-unfolding kind_number
-enum_known-a-in-Made-1 c = search rules
+single-requires c = search one-room
 
 pub alone-requires : goal.alone-requires
 unfolding kind_number
-alone-requires c = search made_inside
+alone-requires c = let w = c.in_ok-m.was {u = tt} in search made_inside
 
-pub shape_of-buf-in-Refused : goal.shape_of-buf-in-Refused
+pub shape_of-buf-in_err-m : goal.shape_of-buf-in_err-m
 unfolding kind_number
-shape_of-buf-in-Refused c = search rules
+shape_of-buf-in_err-m c = search rules
 
-pub returns-in-Refused : goal.returns-in-Refused
+pub returns-in_err-m : goal.returns-in_err-m
 unfolding kind_number
-returns-in-Refused c = search one_ways
+returns-in_err-m c = let w = c.in_err-m.was {u = tt} in let p = err_from_is_err_and c.from_residual.result c.from_residual.ensures.1 in rw (p.1, p.2) (search one_ways)
 
-pub shape_of-buf-in-Made : goal.shape_of-buf-in-Made
+pub shape_of-buf : goal.shape_of-buf
 unfolding kind_number
-shape_of-buf-in-Made c = search rules
+shape_of-buf c = let w = c.in_ok-m.was {u = tt} in search rules
 
-pub returns-in-Made : goal.returns-in-Made
+pub returns : goal.returns
 unfolding kind_number
-returns-in-Made c = search one_ways
+returns c = let w = c.in_ok-m.was {u = tt} in search one_ways

@@ -1,15 +1,8 @@
-use native.Mathlib.Omega.{arith}
 use Rattle.leaf_integer.proofs.DigitCode.{digit_ways}
 use Rattle.leaf_integer.proofs.digits.digit.Goals as goal
 
 pub returns-then-q-eq0-clause-laid : goal.returns-then-q-eq0-clause-laid
 returns-then-q-eq0-clause-laid c = search digit_ways
 
-pub returns-then-q-eq0-clause-upper_bound : goal.returns-then-q-eq0-clause-upper_bound
-returns-then-q-eq0-clause-upper_bound c = omega arith
-
 pub returns-clause-laid : goal.returns-clause-laid
 returns-clause-laid c = search digit_ways
-
-pub returns-clause-upper_bound : goal.returns-clause-upper_bound
-returns-clause-upper_bound c = omega arith

@@ -10,20 +10,20 @@ among-returns-then-bytes-at t c = search among_ways
 pub among-returns-then-is_over : goal.among-returns-then-is_over
 among-returns-then-is_over t c = search among_ways
 
-pub among-inside-inner-requires : goal.among-inside-inner-requires
-among-inside-inner-requires t c = (omega arith, search at-below)
+pub among-inside-requires : goal.among-inside-requires
+among-inside-requires t c = (omega arith, search at-below)
 
 pub among-past_items-end-requires : goal.among-past_items-end-requires
-among-past_items-end-requires t c = search among_behind
+among-past_items-end-requires t c = let w = c.in_ok-inner.was {u = tt} in search among_behind
 
 pub among-returns-then-bytes-end : goal.among-returns-then-bytes-end
 among-returns-then-bytes-end t c = search among_ways
 
-pub among-returns-in-Unknown : goal.among-returns-in-Unknown
-among-returns-in-Unknown t c = search among_ways
+pub among-returns-in_err-inner : goal.among-returns-in_err-inner
+among-returns-in_err-inner t c = let w = c.in_err-inner.was {u = tt} in rw c.from_residual.ensures (search among_ways)
 
-pub among-returns-else-bytes-end : goal.among-returns-else-bytes-end
-among-returns-else-bytes-end t c = search among_ways
+pub among-returns : goal.among-returns
+among-returns t c = let w = c.in_ok-inner.was {u = tt} in search among_ways
 
 pub inside-returns-then-path-eq0 : goal.inside-returns-then-path-eq0
 inside-returns-then-path-eq0 t c = search inside_ways
@@ -40,17 +40,17 @@ inside-returns-then-h-eq-ARRAY t c = search inside_ways
 pub inside-returns-then-h-ne-MAP : goal.inside-returns-then-h-ne-MAP
 inside-returns-then-h-ne-MAP t c = search inside_ways
 
-pub inside-returns-then-mode-ne-COUNTED : goal.inside-returns-then-mode-ne-COUNTED
-inside-returns-then-mode-ne-COUNTED t c = search inside_ways
+pub inside-among-requires-in-Counted : goal.inside-among-requires-in-Counted
+inside-among-requires-in-Counted t c = (omega arith, search inside-room)
 
-pub inside-returns-then-h-gt-MOST_ENTRIES : goal.inside-returns-then-h-gt-MOST_ENTRIES
-inside-returns-then-h-gt-MOST_ENTRIES t c = search inside_ways
+pub inside-returns-in_default : goal.inside-returns-in_default
+inside-returns-in_default t c = search inside_ways
 
-pub inside-among-requires-in-Head : goal.inside-among-requires-in-Head
-inside-among-requires-in-Head t c = (omega arith, search inside-room)
+pub inside-returns-in-Counted : goal.inside-returns-in-Counted
+inside-returns-in-Counted t c = search inside_ways
 
-pub inside-returns-in-Refused : goal.inside-returns-in-Refused
-inside-returns-in-Refused t c = search inside_ways
+pub inside-returns-in_default-mode : goal.inside-returns-in_default-mode
+inside-returns-in_default-mode t c = search inside_ways
 
-pub inside-returns-else-h-gt-MOST_ENTRIES : goal.inside-returns-else-h-gt-MOST_ENTRIES
-inside-returns-else-h-gt-MOST_ENTRIES t c = search inside_ways
+pub inside-returns-in_default-mode-2 : goal.inside-returns-in_default-mode-2
+inside-returns-in_default-mode-2 t c = search inside_ways

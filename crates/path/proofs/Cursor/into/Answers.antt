@@ -12,17 +12,17 @@ returns-then-h-eq-ARRAY c = search into_ways
 pub returns-then-h-ne-MAP : goal.returns-then-h-ne-MAP
 returns-then-h-ne-MAP c = search into_ways
 
-pub nth-step-requires : goal.nth-step-requires
-nth-step-requires c = search into-room
+pub nth-requires-2 : goal.nth-requires-2
+nth-requires-2 c = search into-room
 
 pub past-requires : goal.past-requires
-past-requires c = search value_room
+past-requires c = let w = c.in_ok-key.was {u = tt} in search value_room
 
-pub returns-in-Refused : goal.returns-in-Refused
-returns-in-Refused c = search into_ways
+pub returns-in_default : goal.returns-in_default
+returns-in_default c = search into_ways
 
-pub returns-in-Nowhere : goal.returns-in-Nowhere
-returns-in-Nowhere c = search into_ways
+pub returns-in_err-key : goal.returns-in_err-key
+returns-in_err-key c = let w = c.in_err-key.was {u = tt} in rw c.from_residual.ensures (search into_ways)
 
-pub returns-in-To : goal.returns-in-To
-returns-in-To c = search into_ways
+pub returns : goal.returns
+returns c = let w = c.in_ok-key.was {u = tt} in search into_ways

@@ -3,8 +3,8 @@
 use Rattle.path.proofs.Stepping.{past_ways}
 use Rattle.path.proofs.Cursor.past.Goals as goal
 
-pub returns-in-Refused : goal.returns-in-Refused
-returns-in-Refused c = search past_ways
+pub returns-in-Err : goal.returns-in-Err
+returns-in-Err c = search past_ways
 
-pub returns-in-Span : goal.returns-in-Span
-returns-in-Span c = search past_ways
+pub returns-in-Ok : goal.returns-in-Ok
+returns-in-Ok c = search past_ways

@@ -1,6 +1,6 @@
 -- `plain_string::block::put_pairs` meets its contract.
 -- Assumes nothing.
-use Rattle.plain_string.proofs.BlockCode.{pairing_start, pairing_high, pairing_byte, pairing_on, pairing_end}
+use Rattle.plain_string.proofs.BlockCode.{pairing_start, pairing_high, pairing_byte, pairing_on}
 use Rattle.plain_string.proofs.block.put_pairs.Goals as goal
 
 pub loop-i-init : goal.loop-i-init
@@ -14,6 +14,3 @@ overflow_add-buf-in-loop-i c = search pairing_byte
 
 pub loop-i-preserved : goal.loop-i-preserved
 loop-i-preserved c = search pairing_on
-
-pub returns : goal.returns
-returns c = search pairing_end

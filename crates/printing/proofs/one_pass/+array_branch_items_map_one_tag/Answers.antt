@@ -12,23 +12,23 @@ array-items-part-requires t c = (omega arith, (search item-within, omega arith))
 pub array-returns : goal.array-returns
 array-returns t c = search array_told
 
-pub branch-returns-then-end-eq0 : goal.branch-returns-then-end-eq0
-branch-returns-then-end-eq0 t c = search told-lost
+pub branch-returns-in_err-end : goal.branch-returns-in_err-end
+branch-returns-in_err-end t c = rw c.from_residual.ensures (search told-lost)
 
 pub branch-odd-requires : goal.branch-odd-requires
 branch-odd-requires t c = record { within = search at-within; pos_in_bounds = omega arith }
 
 pub branch-head_argument-n-requires : goal.branch-head_argument-n-requires
-branch-head_argument-n-requires t c = search head-room
+branch-head_argument-n-requires t c = let w = c.in_ok-end.was {u = tt} in search head-room
 
 pub branch-array-requires : goal.branch-array-requires
-branch-array-requires t c = (omega arith, (omega arith, (omega arith, (search headed_by, omega arith))))
+branch-array-requires t c = let w = c.in_ok-end.was {u = tt} in (omega arith, (omega arith, (omega arith, (search headed_by, omega arith))))
 
 pub branch-map-requires : goal.branch-map-requires
-branch-map-requires t c = (omega arith, (omega arith, (omega arith, (search headed_by, omega arith))))
+branch-map-requires t c = let w = c.in_ok-end.was {u = tt} in (omega arith, (omega arith, (omega arith, (search headed_by, omega arith))))
 
 pub branch-tag-requires : goal.branch-tag-requires
-branch-tag-requires t c = (omega arith, (omega arith, (omega arith, (search headed_by, omega arith))))
+branch-tag-requires t c = let w = c.in_ok-end.was {u = tt} in (omega arith, (omega arith, (omega arith, (search headed_by, omega arith))))
 
 pub branch-odd-requires-in_default : goal.branch-odd-requires-in_default
 branch-odd-requires-in_default t c = record { within = search at-within; pos_in_bounds = omega arith }
@@ -42,17 +42,17 @@ items-returns-then-not-has_space t c = search run_full
 pub items-separator-q-requires : goal.items-separator-q-requires
 items-separator-q-requires t c = two_more c.has_space.ensures (ap not c.if-not-has_space.false)
 
-pub items-one-part-requires : goal.items-one-part-requires
-items-one-part-requires t c = (omega arith, (search run-within, leaf-more c.has_space.ensures (ap not c.if-not-has_space.false) c.separator-q.ensures.laid c.separator-q.ensures.upper_bound))
+pub items-one-requires : goal.items-one-requires
+items-one-requires t c = (omega arith, (search run-within, leaf-more c.has_space.ensures (ap not c.if-not-has_space.false) c.separator-q.ensures.laid c.separator-q.ensures.upper_bound))
 
-pub items-returns-then-end-eq0 : goal.items-returns-then-end-eq0
-items-returns-then-end-eq0 t c = search run_stop
+pub items-returns-in_err-part : goal.items-returns-in_err-part
+items-returns-in_err-part t c = search run_stop
 
 pub items-loop-out-smaller : goal.items-loop-out-smaller
-items-loop-out-smaller t c = search run_less
+items-loop-out-smaller t c = search (run_less, c.in_ok-part.ensures)
 
 pub items-loop-out-preserved : goal.items-loop-out-preserved
-items-loop-out-preserved t c = search run_on
+items-loop-out-preserved t c = search (run_on, c.in_ok-part.ensures)
 
 pub items-returns : goal.items-returns
 items-returns t c = search run_end
@@ -69,11 +69,11 @@ map-items-part-requires t c = (omega arith, (search item-within, omega arith))
 pub map-returns : goal.map-returns
 map-returns t c = search map-told
 
-pub one-leaf-w-requires : goal.one-leaf-w-requires
-one-leaf-w-requires t c = search leaf_room
+pub one-leaf-requires : goal.one-leaf-requires
+one-leaf-requires t c = search leaf_room
 
-pub one-returns-then-w-gt0 : goal.one-returns-then-w-gt0
-one-returns-then-w-gt0 t c = search leaf-told
+pub one-returns-in-Some : goal.one-returns-in-Some
+one-returns-in-Some t c = search (leaf-told, c.in-Some.ensures)
 
 pub one-branch-bytes-requires : goal.one-branch-bytes-requires
 one-branch-bytes-requires t c = (omega arith, (search block_inside, omega arith))

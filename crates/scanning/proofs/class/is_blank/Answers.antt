@@ -1,19 +1,18 @@
 -- `scanning::class::is_blank` meets its contract.
 -- Assumes nothing.
-use Rattle.scanning.proofs.ClassCode.{blank_ways}
+use mathlib.Core.Logic.{inl, inr}
+use native.Mathlib.Omega.{arith}
+use Rattle.scanning.proofs.ClassCode.{blank_tabs, blank_return, blank-space, blank_none}
 use Rattle.scanning.proofs.class.is_blank.Goals as goal
 
-pub returns-in-9 : goal.returns-in-9
-returns-in-9 c = search blank_ways
-
-pub returns-in-10 : goal.returns-in-10
-returns-in-10 c = search blank_ways
-
-pub returns-in-13 : goal.returns-in-13
-returns-in-13 c = search blank_ways
-
-pub returns-in-32 : goal.returns-in-32
-returns-in-32 c = search blank_ways
-
 pub returns-in_default : goal.returns-in_default
-returns-in_default c = search blank_ways
+returns-in_default c = blank_none {b = c.args.b} (omega arith) (omega arith) (omega arith) (omega arith) (omega arith)
+
+pub returns-in_default-2 : goal.returns-in_default-2
+returns-in_default-2 c = blank_none {b = c.args.b} (omega arith) (omega arith) (omega arith) (grind arith) (grind arith)
+
+pub returns-in-9 : goal.returns-in-9
+returns-in-9 c = elim c.in-9.is [ inl e ↦ blank_return e | inr e ↦ blank-space e ]
+
+pub returns-in-9-2 : goal.returns-in-9-2
+returns-in-9-2 c = search blank_tabs

@@ -1,10 +1,7 @@
 -- `scanning::scan::comment` meets its contract.
 -- Assumes nothing.
-use Rattle.scanning.proofs.ScanCode.{comment_start, comment_on, comment_ways}
+use Rattle.scanning.proofs.ScanCode.{comment_on, comment_ways}
 use Rattle.scanning.proofs.scan.comment.Goals as goal
-
-pub loop-at-init : goal.loop-at-init
-loop-at-init c = search comment_start
 
 pub returns-then-text-stop : goal.returns-then-text-stop
 returns-then-text-stop c = search comment_ways

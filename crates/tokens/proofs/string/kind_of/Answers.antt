@@ -6,5 +6,5 @@ use Rattle.tokens.proofs.string.kind_of.Goals as goal
 pub returns-then-form-eq-QUOTED : goal.returns-then-form-eq-QUOTED
 returns-then-form-eq-QUOTED c = search code-text
 
-pub returns : goal.returns
-returns c = search code-bytes
+pub returns-else-form-eq-QUOTED : goal.returns-else-form-eq-QUOTED
+returns-else-form-eq-QUOTED c = search code-bytes

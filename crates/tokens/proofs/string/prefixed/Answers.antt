@@ -1,17 +1,13 @@
 -- `tokens::string::prefixed` meets its contract.
 -- Assumes nothing.
-use Rattle.tokens.proofs.StringCode.{prefix_encoded, prefixed_ways}
-use Rattle.words.proofs.WordCode.{enclosed-part}
+use Rattle.tokens.proofs.StringCode.{prefix_encoded, prefixed-encoded, prefixed-refused}
 use Rattle.tokens.proofs.string.prefixed.Goals as goal
 
-pub prefix_word-prefix-requires : goal.prefix_word-prefix-requires
-prefix_word-prefix-requires c = search enclosed-part
-
 pub encoded-requires : goal.encoded-requires
-encoded-requires c = search prefix_encoded
+encoded-requires c = prefix_encoded c.requires c.in-Ok.ensures
 
-pub returns-in-Form : goal.returns-in-Form
-returns-in-Form c = search prefixed_ways
+pub returns-in-Ok : goal.returns-in-Ok
+returns-in-Ok c = prefixed-encoded c.requires c.in-Ok.ensures c.encoded.ensures
 
-pub returns-in-Refused : goal.returns-in-Refused
-returns-in-Refused c = search prefixed_ways
+pub returns-in-Err : goal.returns-in-Err
+returns-in-Err c = prefixed-refused c.requires c.in-Err.ensures c.refuse.ensures

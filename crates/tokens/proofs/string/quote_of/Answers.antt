@@ -6,5 +6,5 @@ use Rattle.tokens.proofs.string.quote_of.Goals as goal
 pub returns-then-form-eq-QUOTED : goal.returns-then-form-eq-QUOTED
 returns-then-form-eq-QUOTED c = search quote-text
 
-pub returns : goal.returns
-returns c = search quote-bytes
+pub returns-else-form-eq-QUOTED : goal.returns-else-form-eq-QUOTED
+returns-else-form-eq-QUOTED c = search quote-bytes

@@ -3,11 +3,11 @@
 use Rattle.tokens.proofs.StringCode.{scan_inside, quoted-good, quoted-wrong}
 use Rattle.tokens.proofs.string.quoted.Goals as goal
 
-pub indicator_at-m-requires : goal.indicator_at-m-requires
-indicator_at-m-requires c = search scan_inside
+pub returns-in_default : goal.returns-in_default
+returns-in_default c = quoted-wrong c.requires c.quote_of.ensures c.in_default.ensures c.refuse.ensures
 
-pub returns-then-good : goal.returns-then-good
-returns-then-good c = search quoted-good
+pub indicator_at-m-requires : goal.indicator_at-m-requires
+indicator_at-m-requires c = scan_inside _ c.in-Some.ensures
 
 pub returns : goal.returns
-returns c = search quoted-wrong
+returns c = quoted-good c.requires c.quote_of.ensures c.in-Some.ensures c.indicator_at-m.ensures c.quoted_token.ensures

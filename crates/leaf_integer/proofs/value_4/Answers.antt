@@ -1,5 +1,0 @@
-use Rattle.leaf_integer.proofs.IntegerCode.{value-more}
-use Rattle.leaf_integer.proofs.value_4.Goals as goal
-
-pub returns : goal.returns
-returns c = search (value-more 3)

@@ -1,1 +1,0 @@
-use Rattle.printing.proofs.+pass_large.Goals as goal
