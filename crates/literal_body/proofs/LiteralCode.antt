@@ -2,7 +2,7 @@
 -- Assumes nothing.
 use mathlib.Core.Path.{◌≡◌, refl, sym, ap, ◌∙◌, subst⁻¹}
 use mathlib.Core.List.{List, [], ◌∷◌, ◌++◌, append_assoc, append-nil}
-use mathlib.Core.Bool.{Bool, true, false, ◌&&◌, ◌||◌}
+use mathlib.Core.Bool.{Bool, true, false, ◌||◌}
 use Prim.Native.Nat.{ℕ, zero, suc, ◌+◌, ◌-◌, ◌*◌, ◌/◌, ◌%◌, ◌≤◌, ◌<◌, min}
 use native.Mathlib.Numerals.{add-one}
 use native.Mathlib.Nat.{add-zero}
@@ -12,7 +12,7 @@ use lib.ListN.{length, take, drop, set, get_or, replicate, length-append, length
 use lib.Seq.{drop-cons, drop_at, take_at}
 use borrow.Author.Tests.{le-leb, lt-leb, lt-ltb, le-ltb, eq-eqb, ne_eqb, eqb-true, leb-true, leb-false}
 use Rattle.cbor.specs.Refusals.{Result, ok, refuse, bind, no_token}
-use Rattle.cbor.specs.Utf8.{◌to◌, is_in}
+use Rattle.cbor.specs.Utf8.{is_in}
 use Rattle.memory.specs.Buffer.{over}
 use Rattle.memory.proofs.Buffer.{over_nil, over-one, over-more}
 use Rattle.cbor.proofs.Table.{every, between}
@@ -60,37 +60,17 @@ module _ {b : ℕ} where
   unfolding digit_number is_in
   digit_lower l h = a-digit 0x61 0x67 l h 0x57 tt
 
-abbrev digit_by : ℕ → Bool → Bool → Bool → Digit
-digit_by b t v w = elim t [ true ↦ worth (b - 0x30) | false ↦ elim v [ true ↦ worth (b - 0x57) | false ↦ elim w [ true ↦ worth (b - 0x37) | false ↦ no_digit ] ] ]
-
-range-not : (l h b : ℕ) → (l ≤ b → h < b) → is_in (l to h) b ≡ false
-unfolding is_in
-range-not l h b f = go (leb l b) refl
-  where
-    go : (t : Bool) → leb l b ≡ t → t && leb b h ≡ false
-    go true e = let g = f (leb-true l b e) in lt-leb b h g
-    go false e = refl
+-- the value of a digit, by one rule for all of them
+unfoldable pub ruled : ℕ → Bool
+ruled k = eqb (k % 16 + k / 64 * 9) (digit_number k)
 
 module _ {b : ℕ} where
-  hex-some : b % 16 + b / 64 * 9 ≡ digit_number b → HexThere b true
-  hex-some e = record { some = λ u. e; none = λ u. absurd (true_false u) }
+  pub hex-key : {k : ℕ} → b ≡ k → T (ruled k) → HexThere b true
+  unfolding ruled
+  hex-key {k} e t = record { some = λ u. eqb→eq (b % 16 + b / 64 * 9) (digit_number b) (rw e t); none = λ u. absurd (true_false u) }
 
-  pub hex-decimal : 0x30 ≤ b → b ≤ 0x39 → HexThere b true
-  hex-decimal l h = hex-some (omega arith ∙ digit-decimal l (omega arith))
-
-  pub hex-upper : 0x41 ≤ b → b ≤ 0x46 → HexThere b true
-  hex-upper l h = hex-some (omega arith ∙ digit_upper l (omega arith))
-
-  pub hex-lower : 0x61 ≤ b → b ≤ 0x66 → HexThere b true
-  hex-lower l h = hex-some (omega arith ∙ digit_lower l (omega arith))
-
-  pub hex-none : (0x30 ≤ b → 0x39 < b) → (0x41 ≤ b → 0x46 < b) → (0x61 ≤ b → 0x66 < b) → HexThere b false
-  unfolding digit_number
-  hex-none d u l =
-      record { some = λ z. absurd (true_false (sym z)); none = λ z. sym (go _ _ _ (range-not 0x30 0x39 b d) (range-not 0x61 0x66 b l) (range-not 0x41 0x46 b u)) }
-    where
-      go : (t v w : Bool) → t ≡ false → v ≡ false → w ≡ false → ◌≡◌ {A = ℕ} (elim (digit_by b t v w) [ worth x ↦ x | no_digit ↦ 99 ]) 99
-      go t v w e f g = rw (e, f, g)
+  pub hex-none : 99 ≡ digit_number b → HexThere b false
+  hex-none e = record { some = λ u. absurd (true_false (sym u)); none = λ u. e }
 
   pub value-some : {t : Bool} → HexThere b t → t ≡ true → b % 16 + b / 64 * 9 ≡ digit_number b
   value-some x e = x.some e

@@ -1,7 +1,8 @@
--- Single bytes. A match with one value an arm: what holds of the arm's value, and of the bytes that no arm names, by one test of all bytes.
+-- Single bytes. A match whose arms have values: what holds of an arm's values, and of the bytes that no arm names, by one test of all bytes.
 -- Assumes nothing.
 use mathlib.Core.Path.{◌≡◌, refl, sym, subst}
 use mathlib.Core.List.{List, [], ◌∷◌}
+use mathlib.Core.Logic.{inl, inr}
 use mathlib.Core.Bool.{Bool, true, false, ◌&&◌, ◌||◌}
 use Prim.Native.Nat.{ℕ, ◌<◌}
 use lib.Dec.{T, leb, eqb, eqb→eq}
@@ -12,32 +13,50 @@ use borrow.Author.Tests.{lt-leb}
 use Rattle.cbor.specs.Utf8.{◌to◌, is_in}
 use Rattle.cbor.proofs.Table.{every, byte}
 
+and_left : (s t : Bool) → T (s && t) → T s
+and_left true t h = tt
+and_left false t h = h
+
+and_right : (s t : Bool) → T (s && t) → T t
+and_right true t h = h
+and_right false t h = absurd h
+
+abbrev pub all : (ℕ → Bool) → List ℕ → Bool
+all P [] = true
+all P (k ∷ ks) = P k && all P ks
+
 -- f says what the match is to answer
 module _ (f : ℕ → ℕ) {b : ℕ} where
   pub arm : {r k : ℕ} → b ≡ k → T (eqb r (f k)) → r ≡ f b
   arm {r} {k} e t = eqb→eq r (f b) (subst (λ (x : ℕ). T (eqb r (f x))) (sym e) t)
 
--- b is no key of the arms, in their order
-abbrev pub Neither : List ℕ → Type 0 → ℕ → Type 0
-Neither [] n b = n
-Neither (k ∷ ks) n b = Neither ks (n × (OneOf (k ∷ []) b → ⊥)) b
+-- what holds of each value of an arm holds of the byte that is one of them
+pub each : (P : ℕ → Bool) (k : ℕ) (ks : List ℕ) (b : ℕ) → OneOf (k ∷ ks) b → T (P k && all P ks) → T (P b)
+each P k [] b e t = subst (λ (x : ℕ). T (P x)) (sym e) (and_left (P k) true t)
+each P k (j ∷ ks) b (inl e) t = subst (λ (x : ℕ). T (P x)) (sym e) (and_left (P k) _ t)
+each P k (j ∷ ks) b (inr o) t = each P j ks b o (and_right (P k) _ t)
 
-abbrev pub some : List ℕ → ℕ → Bool
+-- b is no value of the arms, in their order
+abbrev pub Neither : List (List ℕ) → Type 0 → ℕ → Type 0
+Neither [] n b = n
+Neither (ks ∷ arms) n b = Neither arms (n × (OneOf ks b → ⊥)) b
+
+abbrev pub some : List (List ℕ) → ℕ → Bool
 some [] b = false
-some (k ∷ ks) b = has_key (k ∷ []) b || some ks b
+some (ks ∷ arms) b = has_key ks b || some arms b
 
 either : (A : Type 0) (s t : Bool) → T (s || t) → (T s → A) → (T t → A) → A
 either A true t h f g = f tt
 either A false t h f g = g h
 
-no_key : (ks : List ℕ) (n : Type 0) (b : ℕ) → Neither ks n b → n × (T (some ks b) → ⊥)
+no_key : (arms : List (List ℕ)) (n : Type 0) (b : ℕ) → Neither arms n b → n × (T (some arms b) → ⊥)
 no_key [] n b x = (x, λ t. t)
-no_key (k ∷ ks) n b x =
-    let p = no_key ks (n × (OneOf (k ∷ []) b → ⊥)) b x in
-    (p.0.0, λ t. either ⊥ (has_key (k ∷ []) b) (some ks b) t (λ a. p.0.1 (hit (k ∷ []) b a)) p.1)
+no_key (ks ∷ arms) n b x =
+    let p = no_key arms (n × (OneOf ks b → ⊥)) b x in
+    (p.0.0, λ t. either ⊥ (has_key ks b) (some arms b) t (λ a. p.0.1 (hit ks b a)) p.1)
 
-pub rest : (f : ℕ → ℕ) (ks : List ℕ) (r : ℕ) {b : ℕ} → Neither ks Unit b → T (every (λ k x. eqb r (f k) || some ks k) 0 (replicate 256 0)) → b < 256 → r ≡ f b
-rest f ks r {b} n t h = either (r ≡ f b) (eqb r (f b)) (some ks b) (byte (λ k. eqb r (f k) || some ks k) t b h) (eqb→eq r (f b)) (λ a. absurd ((no_key ks Unit b n).1 a))
+pub rest : (f : ℕ → ℕ) (arms : List (List ℕ)) (r : ℕ) {b : ℕ} → Neither arms Unit b → T (every (λ k x. eqb r (f k) || some arms k) 0 (replicate 256 0)) → b < 256 → r ≡ f b
+rest f arms r {b} n t h = either (r ≡ f b) (eqb r (f b)) (some arms b) (byte (λ k. eqb r (f k) || some arms k) t b h) (eqb→eq r (f b)) (λ a. absurd ((no_key arms Unit b n).1 a))
 
 -- A RANGE that lies below
 

@@ -327,9 +327,14 @@ pub fn class(b: u8) -> u8
     CLASS[b as usize]
 }
 
-// Where every byte is asked, not by the table, which the compiler builds anew at each use.
+// Where every byte is asked, not by the table, which the compiler builds anew at each use. Of two arms it makes one test of a bit in a word; neighbours in
+// one arm, as 9 and 10, are a range to it, and of ranges it makes a chain of tests.
 pub fn is_blank(b: u8) -> bool
     ensures { result ≡ is blank b }
 {
-    matches!(b, 0x09 | 0x0a | 0x0d | 0x20)
+    match b {
+        0x09 | 0x0d | 0x20 => true,
+        0x0a => true,
+        _ => false,
+    }
 }

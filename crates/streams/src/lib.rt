@@ -2,17 +2,17 @@
 // interrupted is made again.
 #![tactic(auto)]
 
-ghost use Rattle.std.specs.Prelude.{◌≡◌, ◌<◌, pos, Ok, Err, IfOk, IfErr, OnOk, unwrap_or, length, take};
+ghost use Rattle.std.specs.Prelude.{◌≡◌, ◌^◌, ◌<◌, pos, negsuc, IfOk, IfErr, OnOk, unwrap_or, length, take};
 ghost use Rattle.std.specs.Io.{ReadsAtMost, WritesAtMost};
 ghost use Rattle.std.specs.Io.KnownBytes.{Appends, Consumes, IsAtEnd, ReadConsumes, WriteAppends};
 ghost use Rattle.std.specs.IoError.{raw_os_error};
 ghost use Rattle.io.specs.Counts.{IsPrefixLen};
-ghost use Rattle.transfer.specs.Transfers.{after_failure};
-ghost use Rattle.streams.specs.Streams.{count_of};
+ghost use Rattle.transfer.specs.Transfers.{transfer_of};
+ghost use Rattle.streams.specs.Streams.{count_of, moved_in};
 
 use std::io::{Eprint, Error, Read, Write};
 use std::{io, str};
-use transfer::{Failure, meaning};
+use transfer::{Failure, Moved, meaning};
 
 // What stopped a stream before its end: how many bytes had been moved by then, and the system's number of the error. It is 0 where there is
 // none, as `meaning` and `fail` take it.
@@ -26,24 +26,27 @@ pub struct CutOff {
 const MOST_CALLS: u64 = u64::MAX;
 
 // What the answer of a call means. A failure with no number is no interruption.
-#[tactic(auto, unfolding(transfer::specs::Transfers::transfer_of))]
-fn came_to(answer: io::Result<usize>) -> Result<usize, Failure>
-    ensures moved { IfOk answer (λ n. result ≡ Ok n) }
-    ensures failed { IfErr answer (λ e. result ≡ Err (after_failure (unwrap_or (raw_os_error e) (pos 0)))) }
+fn came_to(answer: io::Result<usize>) -> Result<Moved, Failure>
+    requires { IfOk answer (λ n. n < 2 ^ 63) }
+    ensures moved { IfOk answer (λ n. result ≡ transfer_of (pos n) (pos 0)) }
+    ensures failed { IfErr answer (λ e. result ≡ transfer_of (negsuc 0) (unwrap_or (raw_os_error e) (pos 0))) }
 {
-    answer.or_else(|e| meaning(-1, e.raw_os_error().unwrap_or(0)))
+    match answer {
+        Ok(n) => meaning(n as isize, 0),
+        Err(e) => meaning(-1, e.raw_os_error().unwrap_or(0)),
+    }
 }
 
-fn read_some<R: Read>(from: &mut R, buf: &mut [u8]) -> Result<usize, Failure>
-    ensures bound { ReadsAtMost result buf.new }
-    ensures bytes { ReadConsumes (R.remaining from.old) (R.remaining from.new) result buf.new }
+fn read_some<R: Read>(from: &mut R, buf: &mut [u8]) -> Result<Moved, Failure>
+    ensures bound { ReadsAtMost (moved_in result) buf.new }
+    ensures bytes { ReadConsumes (R.remaining from.old) (R.remaining from.new) (moved_in result) buf.new }
 {
     came_to(from.read(buf))
 }
 
-fn write_some<W: Write>(to: &mut W, buf: &[u8]) -> Result<usize, Failure>
-    ensures bound { WritesAtMost result buf.now }
-    ensures bytes { WriteAppends (W.contents to.old) (W.contents to.new) result buf.now }
+fn write_some<W: Write>(to: &mut W, buf: &[u8]) -> Result<Moved, Failure>
+    ensures bound { WritesAtMost (moved_in result) buf.now }
+    ensures bytes { WriteAppends (W.contents to.old) (W.contents to.new) (moved_in result) buf.now }
 {
     came_to(to.write(buf))
 }
@@ -60,8 +63,8 @@ pub fn read_all<R: Read>(from: &mut R, buf: &mut [u8]) -> Result<usize, CutOff>
             return Ok(read);
         }
         match read_some(from, &mut buf[read..]) {
-            Ok(0) => return Ok(read),
-            Ok(n) => read += n,
+            Ok(Moved::End) => return Ok(read),
+            Ok(Moved::Bytes(n)) => read += n,
             Err(Failure::Interrupted) => {}
             Err(Failure::Other(error)) => return Err(CutOff { size: read, error }),
         }
@@ -83,11 +86,11 @@ pub fn write_all<W: Write>(to: &mut W, buf: &[u8]) -> Result<(), CutOff>
             return Ok(());
         }
         match write_some(to, &buf[written..]) {
-            Ok(0) => return Err(CutOff {
+            Ok(Moved::End) => return Err(CutOff {
                 size: written,
                 error: 0,
             }),
-            Ok(n) => written += n,
+            Ok(Moved::Bytes(n)) => written += n,
             Err(Failure::Interrupted) => {}
             Err(Failure::Other(error)) => return Err(CutOff {
                 size: written,

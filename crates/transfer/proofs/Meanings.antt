@@ -1,23 +1,36 @@
 -- What the answer of a call means, from the tests that the code makes of it.
 -- Assumes nothing.
-use Rattle.std.proofs.Common.{◌≡◌, ℕ, ℤ, pos, negsuc, Ok, Err, w32, w64, to_z, of_z, sym, ap, ◌∙◌, refl, arith}
+use Rattle.std.proofs.Common.{◌≡◌, ℕ, zero, suc, ℤ, pos, negsuc, Ok, Err, w32, w64, to_z, of_z, sym, ap, ◌∙◌, refl, arith}
 use lib.IntN.{nat_abs}
 use mir.Val.{SFits}
 use mir.Facts.{to_z-of_z}
 use borrow.Author.Tests.{ne_eqb}
 use Rattle.std.specs.Int.{FitsUnsignedBits}
 use Rattle.transfer.specs.Transfers.{transfer_of, after_failure}
+use Rattle.transfer.specs.declared.Moved.TheVariants.{Bytes, End}
 use Rattle.transfer.specs.declared.Failure.{Failure}
 use Rattle.transfer.specs.declared.Failure.TheVariants.{Interrupted, Other}
 
 -- BYTES, OR NONE
-pub some : {z : ℤ} {n : ℕ} → SFits w64 z → FitsUnsignedBits 64 (to_z w64 (of_z w64 z)) × (n ≡ nat_abs (to_z w64 (of_z w64 z))) → (e : ℤ) → Ok n ≡ transfer_of z e
-unfolding transfer_of
-some {z} {n} f h e = go z (rw (to_z-of_z f) at h)
-  where
-    go : (z : ℤ) → FitsUnsignedBits 64 z × (n ≡ nat_abs z) → Ok n ≡ transfer_of z e
-    go (pos k) h = rw h.1
-    go (negsuc k) h = absurd h.0
+module _ {z : ℤ} {n : ℕ} (f : SFits w64 z) (h : FitsUnsignedBits 64 (to_z w64 (of_z w64 z)) × (n ≡ nat_abs (to_z w64 (of_z w64 z)))) where
+  is : z ≡ pos n
+  is = go z (rw (to_z-of_z f) at h)
+    where
+      go : (z : ℤ) → FitsUnsignedBits 64 z × (n ≡ nat_abs z) → z ≡ pos n
+      go (pos k) h = rw h.1
+      go (negsuc k) h = absurd h.0
+
+  pub end : n ≡ 0 → (e : ℤ) → Ok End ≡ transfer_of z e
+  unfolding transfer_of
+  end q e = rw (is, q)
+
+  pub bytes : (n ≡ 0 → ⊥) → (e : ℤ) → Ok (Bytes n) ≡ transfer_of z e
+  unfolding transfer_of
+  bytes q e = rw is (go n q)
+    where
+      go : (n : ℕ) → (n ≡ 0 → ⊥) → Ok (Bytes n) ≡ transfer_of (pos n) e
+      go zero q = absurd (q refl)
+      go (suc n) q = refl
 
 -- LESS THAN 0
 module _ {z : ℤ} (f : SFits w64 z) (h : FitsUnsignedBits 64 (to_z w64 (of_z w64 z)) → ⊥) where

@@ -116,6 +116,10 @@ until_by Counted n = counted n
 until_by Broken n = broken
 until_by Ended n = ended
 
+-- the mode of a number
+unfoldable pub mode_numbered : ℕ → Mode
+mode_numbered i = elim (eqb i 0) [ true ↦ Counted | false ↦ elim (eqb i 1) [ true ↦ Broken | false ↦ Ended ] ]
+
 unfoldable pub mode_by : ℕ → Mode
 mode_by i = elim (eqb i 31) [ true ↦ Broken | false ↦ Counted ]
 

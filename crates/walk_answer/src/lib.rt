@@ -4,7 +4,7 @@
 ghost use Rattle.std.specs.Prelude.{◌≡◌, ◌-◌};
 ghost use Rattle.memory.specs.Sums.{capped};
 ghost use Rattle.refusal.specs.RefusalKinds.{kind_number};
-ghost use Rattle.walk_answer.specs.WalkAnswers.{passed, pass_refused, pass_told, walk_told, with_major, mode_by, behind_by, Turned, after_told, item_after};
+ghost use Rattle.walk_answer.specs.WalkAnswers.{passed, pass_refused, pass_told, walk_told, with_major, mode_by, mode_numbered, behind_by, Turned, after_told, item_after};
 
 use head::initial::{BREAK, INDEFINITE_LENGTH};
 use refusal::{Refusal, RefusalKind};
@@ -84,6 +84,20 @@ pub enum Mode {
     Counted,
     Broken,
     Ended,
+}
+
+// The mode of a number, whatever it is: 0 counts, 1 goes on to a break, each other to the end of the bytes.
+impl From<u8> for Mode {
+    ghost from_gives = { λ number mode. mode ≡ mode_numbered number };
+
+    #[tactic(auto, unfolding(crate::specs::WalkAnswers::mode_numbered))]
+    fn from(number: u8) -> Mode {
+        match number {
+            0 => Mode::Counted,
+            1 => Mode::Broken,
+            _ => Mode::Ended,
+        }
+    }
 }
 
 // Entries of a map are walked over as twice as many items, where these can be counted.

@@ -1,0 +1,10 @@
+-- `streams::read_some` meets its contract.
+-- Assumes nothing.
+use Rattle.streams.proofs.Moves.{moved}
+use Rattle.streams.proofs.read_some.Goals as goal
+
+pub returns-clause-bound : goal.returns-clause-bound
+returns-clause-bound g c = moved _ c.read.result _ c.came_to.ensures.moved c.came_to.ensures.failed _ _ c.read.ensures.bound
+
+pub returns-clause-bytes : goal.returns-clause-bytes
+returns-clause-bytes g c = moved _ c.read.result _ c.came_to.ensures.moved c.came_to.ensures.failed _ _ c.read.ensures.bytes
