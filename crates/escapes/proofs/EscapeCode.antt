@@ -3,7 +3,7 @@
 use mathlib.Core.Path.{◌≡◌, refl, sym, ap, ◌∙◌}
 use mathlib.Core.List.{List, [], ◌∷◌, ◌++◌}
 use mathlib.Core.Bool.{Bool, true, false}
-use Prim.Native.Nat.{ℕ, suc, ◌+◌, ◌-◌, ◌*◌, ◌≤◌, ◌<◌}
+use Prim.Native.Nat.{ℕ, suc, ◌+◌, ◌-◌, ◌*◌, ◌≤◌, ◌<◌, max}
 use native.Mathlib.Omega.{arith}
 use lib.Dec.{ltb, eqb}
 use lib.ListN.{length, drop, get_or}
@@ -184,7 +184,51 @@ module _ {s : List ℕ} {at a : ℕ} (x : DigitAt s at (Some a)) where
           } in
           record { none = λ u. absurd (none-some n (sym u)); some = λ v u. rw (← same_Some n v u) here }
 
-pub ruleset unit_ways = (unit-first, unit-second, unit-third, unit-fourth, unit-whole)
+-- a digit of the value v stands at a place, and that is the value of the byte there
+record Digit (s : List ℕ) (i v : ℕ) : Type 0 where
+  at : DigitAt s i (Some v)
+  is : v ≡ digit_number (get_or s i 0)
+
+digit-any : (s : List ℕ) (i : ℕ) → DigitAt s i None ⊎ ((v : ℕ) × Digit s i v)
+digit-any s i = by (ltb i (length s)) refl (ltb (digit_number (get_or s i 0)) 16) refl
+  where
+    by : (t : Bool) → ltb i (length s) ≡ t → (u : Bool) → ltb (digit_number (get_or s i 0)) 16 ≡ u → DigitAt s i None ⊎ ((v : ℕ) × Digit s i v)
+    by false e u f = inl (digit-past (ltb-false i (length s) e))
+    by true e false f = inl (digit-wrong (ltb-true i (length s) e) refl (ltb-false (digit_number (get_or s i 0)) 16 f))
+    by true e true f = inr (digit_number (get_or s i 0), record { at = digit-here (ltb-true i (length s) e) refl (ltb-true (digit_number (get_or s i 0)) 16 f); is = refl })
+
+module _ {s : List ℕ} {at : ℕ} where
+  -- where not all four are digits
+  unit-none : ((a b c d : ℕ) → Digit s at a → Digit s (at + 1) b → Digit s (at + 2) c → Digit s (at + 3) d → ⊥) → UnitAt s at None
+  unit-none f = first (digit-any s at)
+    where
+      fourth : (a b c : ℕ) → Digit s at a → Digit s (at + 1) b → Digit s (at + 2) c → DigitAt s (at + 3) None ⊎ ((v : ℕ) × Digit s (at + 3) v) → UnitAt s at None
+      fourth a b c x y z (inl w) = unit-fourth x.at y.at z.at w
+      fourth a b c x y z (inr w) = absurd (f a b c w.0 x y z w.1)
+
+      third : (a b : ℕ) → Digit s at a → Digit s (at + 1) b → DigitAt s (at + 2) None ⊎ ((v : ℕ) × Digit s (at + 2) v) → UnitAt s at None
+      third a b x y (inl z) = unit-third x.at y.at z
+      third a b x y (inr z) = fourth a b z.0 x y z.1 (digit-any s (at + 3))
+
+      second : (a : ℕ) → Digit s at a → DigitAt s (at + 1) None ⊎ ((v : ℕ) × Digit s (at + 1) v) → UnitAt s at None
+      second a x (inl y) = unit-second x.at y
+      second a x (inr y) = third a y.0 x y.1 (digit-any s (at + 2))
+
+      first : DigitAt s at None ⊎ ((v : ℕ) × Digit s at v) → UnitAt s at None
+      first (inl x) = unit-first x
+      first (inr x) = second x.0 x.1 (digit-any s (at + 1))
+
+  pub unit-short : length s < at + 4 → UnitAt s at None
+  unit-short h = unit-none (λ a b c d x y z w. absurd (omega (arith, (digit-found w.at).inside)))
+
+  module _ {a b c d : ℕ} (room : at + 4 ≤ length s) (x : a ≡ digit_number (get_or s at 0)) (y : b ≡ digit_number (get_or s (at + 1) 0)) (z : c ≡ digit_number (get_or s (at + 2) 0)) (w : d ≡ digit_number (get_or s (at + 3) 0)) where
+    pub unit-wrong : 16 ≤ max (max (max a b) c) d → UnitAt s at None
+    unit-wrong h = unit-none (λ i j k l e f g m. absurd (omega (arith, e.is, f.is, g.is, m.is, (digit-found e.at).low, (digit-found f.at).low, (digit-found g.at).low, (digit-found m.at).low)))
+
+    pub unit-values : max (max (max a b) c) d < 16 → UnitAt s at (Some (a * 0x1000 + b * 0x100 + c * 0x10 + d))
+    unit-values h = unit-whole (digit-here (omega arith) x (omega arith)) (digit-here (omega arith) y (omega arith)) (digit-here (omega arith) z (omega arith)) (digit-here (omega arith) w (omega arith))
+
+pub ruleset unit_ways = (unit-short, unit-wrong, unit-values)
 
 pub unit-found : {s : List ℕ} {at u : ℕ} → UnitAt s at (Some u) → UnitHere s at u
 unit-found {u = u} x = x.some u refl

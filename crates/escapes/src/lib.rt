@@ -2,7 +2,7 @@
 #![tactic(auto)]
 
 ghost use Rattle.notation.specs.Quoted.{no_surrogate, unicode, paired};
-ghost use Rattle.escapes.specs.EscapeAnswers.{Surrogate, Escaped, DigitAt, UnitAt, Escapes, EscapesUnquoted};
+ghost use Rattle.escapes.specs.EscapeAnswers.{Surrogate, Escaped, UnitAt, Escapes, EscapesUnquoted};
 
 use literal_body::hex_value;
 use scanning::scan::next_is;
@@ -29,22 +29,23 @@ fn escaped(b: u8) -> Option<u8>
     }
 }
 
-// The value of the digit at a place.
-fn digit_at(text: &[u8], at: usize) -> Option<u8>
-    ensures { DigitAt text.now at result }
-{
-    let v = hex_value(*text.get(at)?);
-    if v < 16 { Some(v) } else { None }
-}
+// The digits of a code unit.
+const DIGITS: usize = 4;
 
-// The code unit that the four digits at a place make.
+// The code unit that the four digits at a place make. What is no digit has a value above theirs, so that one test tells of all four.
 fn read_unit(text: &[u8], at: usize) -> Option<u32>
     ensures { UnitAt text.now at result }
 {
-    let a = digit_at(text, at)?;
-    let b = digit_at(text, at + 1)?;
-    let c = digit_at(text, at + 2)?;
-    let d = digit_at(text, at + 3)?;
+    if text.len() < DIGITS || text.len() - DIGITS < at {
+        return None;
+    }
+    let a = hex_value(text[at]);
+    let b = hex_value(text[at + 1]);
+    let c = hex_value(text[at + 2]);
+    let d = hex_value(text[at + 3]);
+    if 16 <= a.max(b).max(c).max(d) {
+        return None;
+    }
     Some(a as u32 * 0x1000 + b as u32 * 0x100 + c as u32 * 0x10 + d as u32)
 }
 

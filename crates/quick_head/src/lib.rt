@@ -26,8 +26,8 @@ pub fn inner(initial: u8) -> u8
 {
     let n = initial % 32;
     match initial {
-        ARRAYS..MAPS if n < IN_ONE_BYTE => n,
-        MAPS..TAGS if n < IN_ONE_BYTE => n * 2,
+        // Whether it is a map is foretold badly: so there is a choice, and no branch.
+        ARRAYS..TAGS if n < IN_ONE_BYTE => { if initial < MAPS { n } else { n * 2 } }
         TAGS..LONG_TAGS => 1,
         _ => NO_HEAD,
     }

@@ -2,15 +2,30 @@
 -- Assumes nothing.
 use Prim.Native.Nat.{ℕ, ◌/◌, ◌%◌, ◌<◌, min, max}
 use native.Mathlib.Omega.{arith}
-use mathlib.Core.Path.{◌≡◌, ap, ◌∙◌}
+use mathlib.Core.Path.{◌≡◌, refl, ap, ◌∙◌}
 use mathlib.Core.Bool.{Bool, true, false, not}
 use mathlib.Core.List.{List}
-use lib.Dec.{ltb, eqb}
-use lib.ListN.{get_or}
+use lib.Dec.{T, ltb, leb, eqb, eqb→eq, leb→le}
+use lib.ListN.{length, get_or}
 use mir.Syntax.{w8 as bits8}
 use mir.Val.{Fits}
 use borrow.Author.Tests.{not-false, lt-ltb, ltb-true, eq-eqb}
-use Rattle.quick_leaf.specs.WalkLeaves.{all_bits, leaf_content, LeafContent, Bounded, Topped, Blocked, Right}
+use Rattle.cbor.proofs.Table.{every, at}
+use Rattle.quick_leaf.specs.WalkLeaves.{all_bits, leaf_content, leaf_size, is_leaf, LeafSize, LeafContent, Bounded, Topped, Blocked, Right}
+
+-- THE TABLE
+
+unfoldable pub right_size : ℕ → ℕ → Bool
+right_size b n = elim (is_leaf b) [ true ↦ eqb n (leaf_size b) | false ↦ leb 0x80 n ]
+
+-- so every table that passes the test has the rule
+pub size_rule : (table : List ℕ) → T (every right_size 0 table) → (b : ℕ) → b < length table → b < 256 → LeafSize b (get_or table b 0)
+unfolding right_size
+size_rule table t b h u = by (is_leaf b) refl (get_or table b 0) (at right_size table t b h)
+  where
+    by : (l : Bool) → is_leaf b ≡ l → (r : ℕ) → T (elim l [ true ↦ eqb r (leaf_size b) | false ↦ leb 0x80 r ]) → LeafSize b r
+    by true f r x = record { is = λ k. eqb→eq r (leaf_size b) x; leaf = λ k. f; byte = u }
+    by false f r x = let k = leb→le 0x80 r x in record { is = λ l. absurd (omega arith); leaf = λ l. absurd (omega arith); byte = u }
 
 -- THE BLOCK
 

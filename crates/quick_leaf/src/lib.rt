@@ -5,117 +5,61 @@ ghost use Rattle.std.specs.Prelude.{◌≡◌, ◌+◌, ◌≤◌, min, ltb, eqb
 ghost use Rattle.quick_leaf.specs.WalkLeaves.{all_bits, LeafSize, LeafContent, LeafAt, Bounded, Topped, Blocked, Right};
 
 // What stands for the size of an item that is no leaf. It is above all sizes.
-const NO_LEAF: u8 = 0xff;
+pub const NO_LEAF: u8 = 0xff;
 
 // The bytes of a block, with the initial byte before it.
 const BLOCK: usize = 33;
 
-// The size of an item that its initial byte tells: a number, a simple value, a string of at most 23 bytes. One value a table's row: of such
-// rows the compiler makes one table, and of ranges a chain of tests.
-#[tactic(auto, unfolding(crate::specs::WalkLeaves::is_leaf, crate::specs::WalkLeaves::leaf_size, crate::specs::WalkLeaves::leaf_content, head::specs::HeadAnswers::argument_size))]
+// The size of the item that an initial byte begins: a number, a simple value, a string of at most 23 bytes. A row of sixteen bytes behind each comment. It is a
+// table and no `match`, into which the compiler would take the caller's test for NO_LEAF, and branch by the kinds of leaves.
+const SIZE: [u8; 256] = [
+    // 00 to 0f: integers
+    1, 1, 1, 1, 1, 1, 1, 1, 1, 1, 1, 1, 1, 1, 1, 1,
+    // 10 to 1f: integers
+    1, 1, 1, 1, 1, 1, 1, 1, 2, 3, 5, 9, NO_LEAF, NO_LEAF, NO_LEAF, NO_LEAF,
+    // 20 to 2f: negative integers
+    1, 1, 1, 1, 1, 1, 1, 1, 1, 1, 1, 1, 1, 1, 1, 1,
+    // 30 to 3f: negative integers
+    1, 1, 1, 1, 1, 1, 1, 1, 2, 3, 5, 9, NO_LEAF, NO_LEAF, NO_LEAF, NO_LEAF,
+    // 40 to 4f: byte strings
+    1, 2, 3, 4, 5, 6, 7, 8, 9, 10, 11, 12, 13, 14, 15, 16,
+    // 50 to 5f: byte strings
+    17, 18, 19, 20, 21, 22, 23, 24, NO_LEAF, NO_LEAF, NO_LEAF, NO_LEAF, NO_LEAF, NO_LEAF, NO_LEAF,
+    NO_LEAF,
+    // 60 to 6f: text strings
+    1, 2, 3, 4, 5, 6, 7, 8, 9, 10, 11, 12, 13, 14, 15, 16,
+    // 70 to 7f: text strings
+    17, 18, 19, 20, 21, 22, 23, 24, NO_LEAF, NO_LEAF, NO_LEAF, NO_LEAF, NO_LEAF, NO_LEAF, NO_LEAF,
+    NO_LEAF,
+    // 80 to 8f: arrays
+    NO_LEAF, NO_LEAF, NO_LEAF, NO_LEAF, NO_LEAF, NO_LEAF, NO_LEAF, NO_LEAF, NO_LEAF, NO_LEAF,
+    NO_LEAF, NO_LEAF, NO_LEAF, NO_LEAF, NO_LEAF, NO_LEAF,
+    // 90 to 9f: arrays
+    NO_LEAF, NO_LEAF, NO_LEAF, NO_LEAF, NO_LEAF, NO_LEAF, NO_LEAF, NO_LEAF, NO_LEAF, NO_LEAF,
+    NO_LEAF, NO_LEAF, NO_LEAF, NO_LEAF, NO_LEAF, NO_LEAF,
+    // a0 to af: maps
+    NO_LEAF, NO_LEAF, NO_LEAF, NO_LEAF, NO_LEAF, NO_LEAF, NO_LEAF, NO_LEAF, NO_LEAF, NO_LEAF,
+    NO_LEAF, NO_LEAF, NO_LEAF, NO_LEAF, NO_LEAF, NO_LEAF,
+    // b0 to bf: maps
+    NO_LEAF, NO_LEAF, NO_LEAF, NO_LEAF, NO_LEAF, NO_LEAF, NO_LEAF, NO_LEAF, NO_LEAF, NO_LEAF,
+    NO_LEAF, NO_LEAF, NO_LEAF, NO_LEAF, NO_LEAF, NO_LEAF,
+    // c0 to cf: tags
+    NO_LEAF, NO_LEAF, NO_LEAF, NO_LEAF, NO_LEAF, NO_LEAF, NO_LEAF, NO_LEAF, NO_LEAF, NO_LEAF,
+    NO_LEAF, NO_LEAF, NO_LEAF, NO_LEAF, NO_LEAF, NO_LEAF,
+    // d0 to df: tags
+    NO_LEAF, NO_LEAF, NO_LEAF, NO_LEAF, NO_LEAF, NO_LEAF, NO_LEAF, NO_LEAF, NO_LEAF, NO_LEAF,
+    NO_LEAF, NO_LEAF, NO_LEAF, NO_LEAF, NO_LEAF, NO_LEAF,
+    // e0 to ef: simple values
+    1, 1, 1, 1, 1, 1, 1, 1, 1, 1, 1, 1, 1, 1, 1, 1,
+    // f0 to ff: simple values
+    1, 1, 1, 1, 1, 1, 1, 1, NO_LEAF, NO_LEAF, NO_LEAF, NO_LEAF, NO_LEAF, NO_LEAF, NO_LEAF, NO_LEAF,
+];
+
+// The size of an item that its initial byte tells.
 fn leaf_size(initial: u8) -> u8
     ensures { LeafSize initial result }
 {
-    match initial {
-        0x00
-        | 0x02
-        | 0x04
-        | 0x06
-        | 0x08
-        | 0x0a
-        | 0x0c
-        | 0x0e
-        | 0x10
-        | 0x12
-        | 0x14
-        | 0x16
-        | 0x20
-        | 0x22
-        | 0x24
-        | 0x26
-        | 0x28
-        | 0x2a
-        | 0x2c
-        | 0x2e
-        | 0x30
-        | 0x32
-        | 0x34
-        | 0x36
-        | 0xe0
-        | 0xe2
-        | 0xe4
-        | 0xe6
-        | 0xe8
-        | 0xea
-        | 0xec
-        | 0xee
-        | 0xf0
-        | 0xf2
-        | 0xf4
-        | 0xf6
-        | 0x40
-        | 0x60 => 1,
-        0x01
-        | 0x03
-        | 0x05
-        | 0x07
-        | 0x09
-        | 0x0b
-        | 0x0d
-        | 0x0f
-        | 0x11
-        | 0x13
-        | 0x15
-        | 0x17
-        | 0x21
-        | 0x23
-        | 0x25
-        | 0x27
-        | 0x29
-        | 0x2b
-        | 0x2d
-        | 0x2f
-        | 0x31
-        | 0x33
-        | 0x35
-        | 0x37
-        | 0xe1
-        | 0xe3
-        | 0xe5
-        | 0xe7
-        | 0xe9
-        | 0xeb
-        | 0xed
-        | 0xef
-        | 0xf1
-        | 0xf3
-        | 0xf5
-        | 0xf7 => 1,
-        0x18 | 0x38 | 0x41 | 0x61 => 2,
-        0x19 | 0x39 | 0x42 | 0x62 => 3,
-        0x43 | 0x63 => 4,
-        0x1a | 0x3a | 0x44 | 0x64 => 5,
-        0x45 | 0x65 => 6,
-        0x46 | 0x66 => 7,
-        0x47 | 0x67 => 8,
-        0x1b | 0x3b | 0x48 | 0x68 => 9,
-        0x49 | 0x69 => 10,
-        0x4a | 0x6a => 11,
-        0x4b | 0x6b => 12,
-        0x4c | 0x6c => 13,
-        0x4d | 0x6d => 14,
-        0x4e | 0x6e => 15,
-        0x4f | 0x6f => 16,
-        0x50 | 0x70 => 17,
-        0x51 | 0x71 => 18,
-        0x52 | 0x72 => 19,
-        0x53 | 0x73 => 20,
-        0x54 | 0x74 => 21,
-        0x55 | 0x75 => 22,
-        0x56 | 0x76 => 23,
-        0x57 | 0x77 => 24,
-        _ => NO_LEAF,
-    }
+    SIZE[initial as usize]
 }
 
 // All bits if a test holds, else none.

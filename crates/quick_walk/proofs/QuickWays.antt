@@ -7,7 +7,7 @@ use mathlib.Core.Bool.{Bool, true, false, not}
 use mathlib.Core.List.{List}
 use lib.Dec.{eqb}
 use lib.ListN.{length, take, drop, get_or, length-drop, length-take}
-use borrow.Author.Tests.{lt-leb, ne_eqb, not-false}
+use borrow.Author.Tests.{lt-leb, ne_eqb}
 use Rattle.memory.specs.Sums.{capped}
 use Rattle.cbor.specs.Refusals.{Result, ok, refuse, bind, bad_typed_array}
 use Rattle.cbor.specs.Items.{Item}
@@ -20,14 +20,14 @@ use Rattle.typed_array.specs.TypedArrayAnswers.{may_tag_by}
 use Rattle.head.specs.HeadAnswers.{argument_size, argument_at, Widened, HeadEnd}
 use Rattle.head.proofs.HeadCode.{argument-low, ends_plain}
 use Rattle.walk_answer.specs.WalkAnswers.{PassTold, passed, pass_told, contents, map_result, told_of, one_of, all_of, tag_of, until_by, mode_by, behind_by, Turned, after_told, Headed}
-use Rattle.quick_walk.specs.QuickAnswers.{Quick, Deeper, Halves, Shifts, Shifted, Opens}
+use Rattle.quick_walk.specs.QuickAnswers.{Quick, Deeper, Halves, Shifts, Shifted, Opens, Ends}
 use Rattle.quick_head.specs.QuickHeads.{Small, Opening, of_array, of_map, of_tag, Inner, Lengthy}
 use Rattle.walk_answer.specs.declared.Passage.{Passage}
 use Rattle.walk_answer.proofs.Leaves.{Leaves, same}
 use Rattle.walk_parts.proofs.StringCode.{content-good, head-room, head-inside}
 use Rattle.walk_answer.proofs.WalkCycle.{tail_is, all-leaves, one-leaves, one-item, all_double, Run, run-over, run_on}
 use Rattle.walk_parts.proofs.WalkItems.{all_told, only_one, inside, tag-good, behind-string, behind-array, behind-map, behind-tag, map_twice, one_inside, one_headed, one-leaf}
-use Rattle.quick_walk.proofs.LeafRun.{short_none}
+use Rattle.quick_walk.proofs.LeafRun.{short_none, going}
 use Rattle.std.specs.Prelude.{Ok, Some}
 use Rattle.std.specs.Prelude as std
 use Rattle.refusal.specs.declared.Refusal.{Refusal}
@@ -278,21 +278,21 @@ module _ {d : ℕ} {s : List ℕ} {first : Until} {at size : ℕ} (mode : Mode) 
     pub step_less : {e : ℕ} → e ≡ r % 4294967296 → length s - (at + e) < length s - at
     step_less h = omega (arith, step-told.some, step-inside)
 
-    pub step-on : {t : Bool} → Turned s at mode n t → not t ≡ true → length s * 1 < 2 ^ 63 → {e z m : ℕ} → e ≡ r % 4294967296 → z ≡ r / 4294967296 → m ≡ n - 1 → Run 4 (suc d) s first (at + e) (size + z) (until_by mode m)
+    pub step-on : 0 < n → {t : Bool} → Ends (take (length s - at) (drop at s)) t → t ≡ false → length s * 1 < 2 ^ 63 → {e z m : ℕ} → e ≡ r % 4294967296 → z ≡ r / 4294967296 → m ≡ n - 1 → Run 4 (suc d) s first (at + e) (size + z) (until_by mode m)
     unfolding pass_told after_told
-    step-on tu y long {e} {z} {m} a b c =
+    step-on more en y long {e} {z} {m} a b c =
         let p : at + e ≡ min (at + r % 4294967296) (2 ^ 64 - 1) = omega (arith, step_add a long) in
         let o : size + z ≡ min (size + r / 4294967296) (2 ^ 64 - 1) = omega (arith, step-size b long) in
-        run_on run tu y (span r) long (q.is k) (Ok (record { end = at + e; size = size + z })) (λ j. passed (p j) (o j)) refl c
+        run_on run (going mode more (en.some y) (en.other y)) refl (span r) long (q.is k) (Ok (record { end = at + e; size = size + z })) (λ j. passed (p j) (o j)) refl c
 
-  module _ {t : Bool} (tu : Turned s at mode n t) (y : not t ≡ false) (long : length s * 1 < 2 ^ 63) {end : ℕ} (c : end ≡ capped at (behind_by mode)) (sm : Small s) where
+  module _ {t : Bool} (tu : Turned s at mode n t) (y : t ≡ true) (long : length s * 1 < 2 ^ 63) {end : ℕ} (c : end ≡ capped at (behind_by mode)) (sm : Small s) where
     pub over_halves : Halves end size
     over_halves =
-        let i = tu.inside (not-false t y) run.inside in
+        let i = tu.inside y run.inside in
         record { ends = omega (arith, sm.is); small = omega (arith, sm.is, run.small, run.inside) }
 
     pub run-made : {r : ℕ} → r ≡ size * 4294967296 + end → Quick (told_of (length s) (all_of 4 (suc d) first s)) r
-    run-made e = quick_made over_halves.ends e (run-over run tu y long c refl)
+    run-made e = quick_made over_halves.ends e (run-over run tu (ap not y) long c refl)
 
 pub ruleset step_ways = (quick_not, run-made)
 

@@ -1,6 +1,6 @@
 -- Of the code: what the quick way over items answers, in one number: the end in its low half, the bytes of strings in its high half. All bits stand for
 -- nothing that is known.
-use Rattle.std.specs.Prelude.{ℕ, suc, ◌+◌, ◌-◌, ◌/◌, ◌%◌, ◌<◌, ◌≡◌, List, length, drop}
+use Rattle.std.specs.Prelude.{ℕ, suc, ◌+◌, ◌-◌, ◌/◌, ◌%◌, ◌<◌, ◌≡◌, List, Bool, false, length, drop, get_or}
 use Rattle.memory.specs.Sums.{capped}
 use Rattle.quick_head.specs.QuickHeads.{Small}
 use Rattle.walk_answer.specs.WalkAnswers.{PassTold, passed, told_of, one_of, all_of, until_by}
@@ -34,3 +34,8 @@ pub record Opens (s : List ℕ) (levels n : ℕ) : Type 0 where
   pub level : n < 0xff → 0 < levels
   pub inside : n < 0xff → 0 < length s
   pub is : n < 0xff → told_of (length s) (all_of 4 (suc (levels - 1)) (until_by Counted n) (drop 1 s)) ≡ told_of (length s) (one_of 4 (suc levels) s)
+
+-- if not r, there is a byte at the front, and it is no break
+pub record Ends (s : List ℕ) (r : Bool) : Type 0 where
+  pub some : r ≡ false → 0 < length s
+  pub other : r ≡ false → get_or s 0 0 ≡ 0xff → ⊥

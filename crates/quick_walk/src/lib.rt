@@ -4,14 +4,14 @@
 
 ghost use Rattle.std.specs.Prelude.{◌≡◌, suc, ◌+◌, ◌*◌, ◌/◌, ◌%◌, length};
 ghost use Rattle.walk_answer.specs.WalkAnswers.{told_of, one_of, all_of, until_by};
-ghost use Rattle.quick_walk.specs.QuickAnswers.{Quick, Halves, Deeper, Shifts, Shifted, Opens};
+ghost use Rattle.quick_walk.specs.QuickAnswers.{Quick, Halves, Deeper, Shifts, Shifted, Opens, Ends};
 ghost use Rattle.quick_head.specs.QuickHeads.{Small, Lengthy};
 
-use head::initial::{ARRAY, BYTE_STRING, IN_ONE_BYTE, INDEFINITE_LENGTH, MAP, TAG, TEXT_STRING};
+use head::initial::{ARRAY, BREAK, BYTE_STRING, INDEFINITE_LENGTH, MAP, TAG, TEXT_STRING};
 use head::{head_argument, head_end};
-use quick_head::{ARRAYS, NO_HEAD, NO_LENGTH, TWO_END, inner, two_bytes};
-use quick_leaf::{if_below, is_right, leaf_at, leaf_content};
-use walk_answer::{MOST_ENTRIES, Mode, is_over, less, mode_of, past};
+use quick_head::{NO_HEAD, NO_LENGTH, TWO_END, inner, two_bytes};
+use quick_leaf::{NO_LEAF, is_right, leaf_at, leaf_content};
+use walk_answer::{IntoMode, MOST_ENTRIES, Mode, is_over, mode_of, past};
 use walk_parts::{is_text, major_at};
 use whole_walk::one;
 
@@ -20,11 +20,6 @@ pub const UNKNOWN: u64 = 0xffff_ffff_ffff_ffff;
 
 // Ends and sizes are below this, so that both are in one number.
 const HALF: u64 = 0x1_0000_0000;
-
-// The first initial byte of simple values; the last of integers.
-const SIMPLES: u8 = 0xe0;
-
-const LAST_INTEGER: u8 = 0x3f;
 
 // An end and a size in one number.
 fn pack(end: usize, size: usize) -> u64
@@ -70,19 +65,6 @@ fn opened(bytes: &[u8], levels: usize) -> u8
         return NO_HEAD;
     }
     inner(bytes[0])
-}
-
-// Whether the item at a place may be a leaf: it has no parts, and is no string with a long head. This saves the look at the block behind its initial byte, and
-// says no more.
-fn may_be_leaf(bytes: &[u8], at: usize) -> bool {
-    if bytes.len() <= at {
-        return false;
-    }
-    let initial = bytes[at];
-    if ARRAYS <= initial {
-        return SIMPLES <= initial;
-    }
-    (initial % 32).min(if_below(LAST_INTEGER, initial)) < IN_ONE_BYTE
 }
 
 // The item at the front, by the whole way.
@@ -139,7 +121,27 @@ fn plain(bytes: &[u8], levels: usize) -> u64
 
 // THE CYCLE
 
-// Items, one behind the other.
+// Whether no item stands at the front: the bytes end, or there is a break.
+fn is_end(bytes: &[u8]) -> bool
+    ensures { Ends bytes.now result }
+{
+    if bytes.len() == 0 {
+        return true;
+    }
+    bytes[0] == BREAK
+}
+
+// How many are left, where they are counted; else a number that no walk gets to the end of.
+fn most_left(mode: Mode, count: u64) -> u64
+    ensures { until_by mode result ≡ until_by mode count }
+{
+    match mode {
+        Mode::Counted => count,
+        _ => u64::MAX,
+    }
+}
+
+// Items, one behind the other. A leaf is no break and not the end, so the mode is asked only where no item stands: each test on the way over a leaf costs time.
 #[cycle(list_part_run_tag)]
 fn run(bytes: &[u8], mode: Mode, count: u64, levels: usize) -> u64
     requires { Small bytes.now }
@@ -147,26 +149,31 @@ fn run(bytes: &[u8], mode: Mode, count: u64, levels: usize) -> u64
 {
     let mut at = 0;
     let mut size: usize = 0;
-    let mut left = count;
-    while !is_over(bytes, at, mode, left) {
-        if may_be_leaf(bytes, at) {
-            let n = leaf_at(bytes, at);
-            if is_right(bytes, at, n) {
-                size += leaf_content(bytes[at]) as usize;
-                at += n as usize;
-                left = less(left);
-                continue;
-            }
+    let mut left = most_left(mode, count);
+    while 0 < left {
+        let rest = &bytes[at..];
+        let n = leaf_at(rest, 0);
+        if n < NO_LEAF && is_right(rest, 0, n) {
+            size += leaf_content(rest[0]) as usize;
+            at += n as usize;
+            left -= 1;
+            continue;
         }
-        let r = part(&bytes[at..], levels);
+        if is_end(rest) {
+            break;
+        }
+        let r = part(rest, levels);
         if r == UNKNOWN {
             return UNKNOWN;
         }
         at += end_in(r);
         size += size_in(r);
-        left = less(left);
+        left -= 1;
     }
-    pack(past(at, mode), size)
+    if is_over(bytes, at, mode, left) {
+        return pack(past(at, mode), size);
+    }
+    UNKNOWN
 }
 
 // The item at the front, with levels left.
@@ -250,9 +257,10 @@ fn tag(bytes: &[u8], levels: usize) -> u64
 const MOST_BYTES: usize = 0xffff_fffe;
 
 // Items, one behind the other, in bytes of any length.
-pub fn passed(bytes: &[u8], mode: Mode, count: u64, levels: usize) -> u64
-    ensures { Quick (told_of (length bytes.now) (all_of 4 (suc levels) (until_by mode count) bytes.now)) result }
+pub fn passed<M: IntoMode>(bytes: &[u8], mode: M, count: u64, levels: usize) -> u64
+    ensures { Quick (told_of (length bytes.now) (all_of 4 (suc levels) (until_by (M.mode mode) count) bytes.now)) result }
 {
+    let mode = mode.into_mode();
     if MOST_BYTES < bytes.len() {
         return UNKNOWN;
     }

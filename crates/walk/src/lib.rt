@@ -8,14 +8,20 @@ ghost use Rattle.walk_answer.specs.WalkAnswers.{pass_told, walk_told, told_of, w
 use quick_walk::{UNKNOWN, end_in, size_in};
 use refusal::limit::{MOST_BYTES, MOST_LEVELS};
 use refusal::{Refusal, RefusalKind};
-use walk_answer::{Mode, Passage, WalkedItem, reached, refuse, with_major};
+use walk_answer::{IntoMode, Mode, Passage, WalkedItem, reached, refuse, with_major};
 use walk_parts::major_at;
 use whole_walk::slowly;
 
 // Items, one behind the other: by the quick way, if that passes over them, else by the whole way, which tells a refusal.
-pub fn elements(bytes: &[u8], mode: Mode, count: u64, levels: usize) -> Result<Passage, Refusal>
-    ensures { pass_told result ≡ told_of (length bytes.now) (all_of 4 (suc levels) (until_by mode count) bytes.now) }
+pub fn elements<M: IntoMode>(
+    bytes: &[u8],
+    mode: M,
+    count: u64,
+    levels: usize,
+) -> Result<Passage, Refusal>
+    ensures { pass_told result ≡ told_of (length bytes.now) (all_of 4 (suc levels) (until_by (M.mode mode) count) bytes.now) }
 {
+    let mode = mode.into_mode();
     let r = quick_walk::passed(bytes, mode, count, levels);
     if r == UNKNOWN {
         return slowly(bytes, mode, count, levels);

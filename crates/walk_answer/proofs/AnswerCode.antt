@@ -1,6 +1,6 @@
 -- What a walk answers: a lemma for each way through the functions that make an answer.
 -- Assumes nothing.
-use Prim.Native.Nat.{ℕ, ◌-◌}
+use Prim.Native.Nat.{ℕ}
 use mathlib.Core.Path.{◌≡◌, refl, ◌∙◌}
 use Rattle.memory.specs.Sums.{capped}
 use Rattle.refusal.specs.RefusalKinds.{kind_number}

@@ -11,7 +11,7 @@ use lib.ListN.{length, drop, get_or, drop_of_length-le}
 use mir.Syntax.{w64 as bits64}
 use mir.Val.{Fits}
 use borrow.Author.Tests.{ne_eqb, leb-true, leb-false}
-use Rattle.cbor.specs.Decode.{Until, counted, broken, ended, finished, another, step_at}
+use Rattle.cbor.specs.Decode.{counted, broken, ended, finished, another, step_at}
 use Rattle.memory.proofs.Lists.{front}
 use Rattle.memory.specs.Sums.{capped}
 use Rattle.walk_answer.specs.WalkAnswers.{until_by, mode_by, behind_by, step_by, Turned}

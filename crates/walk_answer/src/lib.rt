@@ -100,6 +100,32 @@ impl From<u8> for Mode {
     }
 }
 
+// What tells how several go on: a mode, or the number of one.
+pub trait IntoMode {
+    ghost use Rattle.walk_answer.specs.declared.Mode.{Mode};
+
+    ghost mode: { Self → Mode };
+
+    fn into_mode(self) -> Mode
+        ensures { result ≡ mode self };
+}
+
+impl IntoMode for Mode {
+    ghost mode = { λ mode. mode };
+
+    fn into_mode(self) -> Mode {
+        self
+    }
+}
+
+impl IntoMode for u8 {
+    ghost mode = { λ number. mode_numbered number };
+
+    fn into_mode(self) -> Mode {
+        Mode::from(self)
+    }
+}
+
 // Entries of a map are walked over as twice as many items, where these can be counted.
 pub const MOST_ENTRIES: u64 = 0xffff_ffff;
 
@@ -115,10 +141,10 @@ pub fn mode_of(info: u8) -> Mode
 }
 
 // Whether none of them is left at a place; `n` of them are, where they are counted.
-pub fn is_over(bytes: &[u8], at: usize, mode: Mode, n: u64) -> bool
-    ensures { Turned bytes.now at mode n result }
+pub fn is_over<M: IntoMode>(bytes: &[u8], at: usize, mode: M, n: u64) -> bool
+    ensures { Turned bytes.now at (M.mode mode) n result }
 {
-    match mode {
+    match mode.into_mode() {
         Mode::Counted => n == 0,
         Mode::Broken => {
             if bytes.len() <= at {
@@ -131,10 +157,10 @@ pub fn is_over(bytes: &[u8], at: usize, mode: Mode, n: u64) -> bool
 }
 
 // Behind the break, if there is one.
-pub fn past(at: usize, mode: Mode) -> usize
-    ensures { result ≡ capped at (behind_by mode) }
+pub fn past<M: IntoMode>(at: usize, mode: M) -> usize
+    ensures { result ≡ capped at (behind_by (M.mode mode)) }
 {
-    match mode {
+    match mode.into_mode() {
         Mode::Broken => sum(at, 1),
         _ => at,
     }

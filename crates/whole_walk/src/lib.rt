@@ -12,13 +12,13 @@ use head::initial::{
 };
 use refusal::{Refusal, RefusalKind};
 use walk_answer::{
-    MOST_ENTRIES, Mode, Passage, after, is_over, less, mode_of, past, reached, refuse,
+    IntoMode, MOST_ENTRIES, Mode, Passage, after, is_over, less, mode_of, past, reached, refuse,
 };
 use walk_parts::{chunk, content, headless, major_at};
 
 // Items, one behind the other.
-#[cycle(behind_map_one_other_several_slowly_tag)]
-pub fn slowly(bytes: &[u8], mode: Mode, count: u64, levels: usize) -> Result<Passage, Refusal>
+#[cycle(behind_elements_map_one_other_several_tag)]
+fn elements(bytes: &[u8], mode: Mode, count: u64, levels: usize) -> Result<Passage, Refusal>
     ensures { pass_told result ≡ told_of (length bytes.now) (all_of 4 (suc levels) (until_by mode count) bytes.now) }
 {
     let mut at = 0;
@@ -34,7 +34,7 @@ pub fn slowly(bytes: &[u8], mode: Mode, count: u64, levels: usize) -> Result<Pas
 }
 
 // The item at the front, with levels left.
-#[cycle(behind_map_one_other_several_slowly_tag)]
+#[cycle(behind_elements_map_one_other_several_tag)]
 pub fn one(bytes: &[u8], levels: usize) -> Result<Passage, Refusal>
     ensures { pass_told result ≡ told_of (length bytes.now) (one_of 4 (suc levels) bytes.now) }
 {
@@ -63,7 +63,7 @@ pub fn one(bytes: &[u8], levels: usize) -> Result<Passage, Refusal>
 }
 
 // A string, an array, a map or a tag at the front, by its head.
-#[cycle(behind_map_one_other_several_slowly_tag)]
+#[cycle(behind_elements_map_one_other_several_tag)]
 fn behind(
     bytes: &[u8],
     major: u8,
@@ -96,19 +96,19 @@ fn behind(
         return after(
             end,
             0,
-            slowly(&bytes[end..], mode_of(info), argument, levels - 1),
+            elements(&bytes[end..], mode_of(info), argument, levels - 1),
         );
     }
     map(bytes, end, mode_of(info), argument, levels - 1)
 }
 
 // A tag's item, behind its head.
-#[cycle(behind_map_one_other_several_slowly_tag)]
+#[cycle(behind_elements_map_one_other_several_tag)]
 fn tag(bytes: &[u8], from: usize, n: u64, levels: usize) -> Result<Passage, Refusal>
     requires { Within bytes.now from }
     ensures { pass_told result ≡ told_of (length bytes.now) (tag_of n levels (length bytes.now) (drop from bytes.now)) }
 {
-    let inner = after(from, 0, slowly(&bytes[from..], Mode::Counted, 1, levels))?;
+    let inner = after(from, 0, elements(&bytes[from..], Mode::Counted, 1, levels))?;
     if typed_array::may_tag(n, major_at(bytes, from) == BYTE_STRING, inner.size) {
         return reached(inner.end, inner.size);
     }
@@ -116,7 +116,7 @@ fn tag(bytes: &[u8], from: usize, n: u64, levels: usize) -> Result<Passage, Refu
 }
 
 // The entries of a map, behind its head. They are walked over as twice as many items, where these can be counted.
-#[cycle(behind_map_one_other_several_slowly_tag)]
+#[cycle(behind_elements_map_one_other_several_tag)]
 fn map(bytes: &[u8], from: usize, mode: Mode, count: u64, levels: usize) -> Result<Passage, Refusal>
     requires { Within bytes.now from }
     ensures { pass_told result ≡ told_of (length bytes.now) (all_of 5 (suc levels) (until_by mode count) (drop from bytes.now)) }
@@ -125,14 +125,14 @@ fn map(bytes: &[u8], from: usize, mode: Mode, count: u64, levels: usize) -> Resu
         Mode::Counted if count <= MOST_ENTRIES => after(
             from,
             0,
-            slowly(&bytes[from..], Mode::Counted, count * 2, levels),
+            elements(&bytes[from..], Mode::Counted, count * 2, levels),
         ),
         _ => after(from, 0, several(&bytes[from..], mode, count, MAP, levels)),
     }
 }
 
 // Entries of a map, or chunks of a string, one by one.
-#[cycle(behind_map_one_other_several_slowly_tag)]
+#[cycle(behind_elements_map_one_other_several_tag)]
 fn several(
     bytes: &[u8],
     mode: Mode,
@@ -156,13 +156,27 @@ fn several(
 }
 
 // An entry of a map, which is two items, or a chunk of a string.
-#[cycle(behind_map_one_other_several_slowly_tag)]
+#[cycle(behind_elements_map_one_other_several_tag)]
 fn other(bytes: &[u8], major: u8, levels: usize) -> Result<Passage, Refusal>
     requires { major ≡ 4 → ⊥ }
     ensures { pass_told result ≡ told_of (length bytes.now) (one_of major (suc levels) bytes.now) }
 {
     if major == MAP {
-        return slowly(bytes, Mode::Counted, 2, levels);
+        return elements(bytes, Mode::Counted, 2, levels);
     }
     chunk(bytes, major == TEXT_STRING)
+}
+
+// THE WHOLE
+
+// Items, one behind the other, by a mode or the number of one.
+pub fn slowly<M: IntoMode>(
+    bytes: &[u8],
+    mode: M,
+    count: u64,
+    levels: usize,
+) -> Result<Passage, Refusal>
+    ensures { pass_told result ≡ told_of (length bytes.now) (all_of 4 (suc levels) (until_by (M.mode mode) count) bytes.now) }
+{
+    elements(bytes, mode.into_mode(), count, levels)
 }

@@ -1,16 +1,23 @@
 -- `escapes::read_unit` meets its contract.
 -- Assumes nothing.
-use Rattle.escapes.proofs.EscapeCode.{unit-second, unit-third, unit-fourth, unit-whole}
+use native.Mathlib.Omega.{arith}
+use Rattle.escapes.proofs.EscapeCode.{unit-short, unit-wrong, unit-values}
+use Rattle.escapes.proofs.read_unit.Goals.{then-text-lt-DIGITS-via-then-text-lt-DIGITS, then-text-lt-DIGITS-via-else-text-lt-DIGITS+then-text-at}
 use Rattle.escapes.proofs.read_unit.Goals as goal
 
-pub returns-in_err-b : goal.returns-in_err-b
-returns-in_err-b c = rw c.from_residual-in_err-b.ensures (unit-second c.in_ok-a.ensures c.in_err-b.ensures)
+pub returns-then-text-lt-DIGITS : goal.returns-then-text-lt-DIGITS
+returns-then-text-lt-DIGITS c =
+    elim c.then-text-lt-DIGITS.branch [
+      | then-text-lt-DIGITS-via-then-text-lt-DIGITS w ↦ unit-short (omega (arith, w.if-text-lt-DIGITS.true))
+      | then-text-lt-DIGITS-via-else-text-lt-DIGITS+then-text-at w ↦ unit-short (omega (arith, w.if-text-at.true))
+    ]
 
-pub returns-in_err-c : goal.returns-in_err-c
-returns-in_err-c c = rw c.from_residual-in_err-c.ensures (unit-third c.in_ok-a.ensures c.in_ok-b.ensures c.in_err-c.ensures)
-
-pub returns-in_err-d : goal.returns-in_err-d
-returns-in_err-d c = rw c.from_residual-in_err-d.ensures (unit-fourth c.in_ok-a.ensures c.in_ok-b.ensures c.in_ok-c.ensures c.in_err-d.ensures)
+pub returns-then-max-ge16 : goal.returns-then-max-ge16
+returns-then-max-ge16 c =
+    unit-wrong (omega (arith, c.if-text-lt-DIGITS.false, c.if-text-at.false)) c.hex_value-a.ensures c.hex_value-b.ensures c.hex_value-c.ensures c.hex_value-d.ensures
+    (omega (arith, c.if-max-ge16.true, c.max.ensures, c.max-2.ensures, c.max-3.ensures))
 
 pub returns : goal.returns
-returns c = unit-whole c.in_ok-a.ensures c.in_ok-b.ensures c.in_ok-c.ensures c.in_ok-d.ensures
+returns c =
+    unit-values (omega (arith, c.if-text-lt-DIGITS.false, c.if-text-at.false)) c.hex_value-a.ensures c.hex_value-b.ensures c.hex_value-c.ensures c.hex_value-d.ensures
+    (omega (arith, c.if-max-ge16.false, c.max.ensures, c.max-2.ensures, c.max-3.ensures))

@@ -1,11 +1,9 @@
 -- The functions of the quick way meet their contracts: each way to a return is a lemma.
 -- Assumes nothing.
-use mathlib.Core.Path.{ap}
-use mathlib.Core.Bool.{not}
 use borrow.Author.Rules.{rules}
 use Rattle.walk_parts.proofs.WalkItems.{one-room, one_inside}
 use Rattle.walk_answer.proofs.WalkCycle.{run-start}
-use Rattle.quick_walk.proofs.LeafRun.{leaf-inside, leaf_less, leaf-on}
+use Rattle.quick_walk.proofs.LeafRun.{leaf-inside, leaf_less, leaf_add, leaf-on}
 use Rattle.quick_walk.proofs.QuickWays.{quick_not, quick_end, open_inside, level-some, deeper_small, small-part, small_deeper, shifts_deeper, shifts_open, deeper, list_ways, part_ways, tag_ways, step_add, step-size, step_less, step-on, over_halves, step_ways}
 use native.Mathlib.Omega.{arith}
 use Rattle.quick_walk.proofs.+list_part_run_tag.Goals as goal
@@ -91,17 +89,20 @@ part-list-requires t c = (omega arith, search deeper)
 pub part-tag-requires : goal.part-tag-requires
 part-tag-requires t c = (omega arith, search deeper)
 
-pub run-loop-n-init : goal.run-loop-n-init
-run-loop-n-init t c = search run-start
+pub run-loop-left-init : goal.run-loop-left-init
+run-loop-left-init t c = rw c.most_left-left.ensures run-start
 
-pub run-bounds-bytes-at : goal.run-bounds-bytes-at
-run-bounds-bytes-at t c = leaf-inside c.leaf_at-n.ensures c.is_right.ensures c.if-is_right.true
+pub run-bounds-rest-0 : goal.run-bounds-rest-0
+run-bounds-rest-0 t c = search leaf-inside
 
-pub run-loop-n-smaller-then-is_right : goal.run-loop-n-smaller-then-is_right
-run-loop-n-smaller-then-is_right t c = leaf_less c.leaf_at-n.ensures c.is_right.ensures c.if-is_right.true
+pub run-overflow_add-size : goal.run-overflow_add-size
+run-overflow_add-size t c = search leaf_add
 
-pub run-loop-n-preserved-then-is_right : goal.run-loop-n-preserved-then-is_right
-run-loop-n-preserved-then-is_right t c = leaf-on c.leaf_at-n.ensures c.is_right.ensures c.if-is_right.true c.loop-n.invariant (search rules) c.is_over.ensures (ap not c.loop-n-test.true) c.leaf_content.ensures c.less-left.ensures
+pub run-loop-left-smaller-then-is_right : goal.run-loop-left-smaller-then-is_right
+run-loop-left-smaller-then-is_right t c = search leaf_less
+
+pub run-loop-left-preserved-then-is_right : goal.run-loop-left-preserved-then-is_right
+run-loop-left-preserved-then-is_right t c = search (leaf-on, rules)
 
 pub run-part-r-requires : goal.run-part-r-requires
 run-part-r-requires t c = (omega arith, search small-part)
@@ -109,23 +110,23 @@ run-part-r-requires t c = (omega arith, search small-part)
 pub run-returns-then-r : goal.run-returns-then-r
 run-returns-then-r t c = search quick_not
 
-pub run-overflow_add-at-in-loop-n : goal.run-overflow_add-at-in-loop-n
-run-overflow_add-at-in-loop-n t c = search step_add
+pub run-overflow_add-at-in-loop-left : goal.run-overflow_add-at-in-loop-left
+run-overflow_add-at-in-loop-left t c = search step_add
 
-pub run-overflow_add-size-in-loop-n : goal.run-overflow_add-size-in-loop-n
-run-overflow_add-size-in-loop-n t c = search step-size
+pub run-overflow_add-size-in-loop-left : goal.run-overflow_add-size-in-loop-left
+run-overflow_add-size-in-loop-left t c = search step-size
 
-pub run-loop-n-smaller : goal.run-loop-n-smaller
-run-loop-n-smaller t c = search step_less
+pub run-loop-left-smaller : goal.run-loop-left-smaller
+run-loop-left-smaller t c = search step_less
 
-pub run-loop-n-preserved : goal.run-loop-n-preserved
-run-loop-n-preserved t c = search step-on
+pub run-loop-left-preserved : goal.run-loop-left-preserved
+run-loop-left-preserved t c = search (step-on, rules)
 
 pub run-pack-requires : goal.run-pack-requires
 run-pack-requires t c = search over_halves
 
-pub run-returns : goal.run-returns
-run-returns t c = search step_ways
+pub run-returns-then-is_over : goal.run-returns-then-is_over
+run-returns-then-is_over t c = search step_ways
 
 pub tag-returns-in_default : goal.tag-returns-in_default
 tag-returns-in_default t c = search quick_not

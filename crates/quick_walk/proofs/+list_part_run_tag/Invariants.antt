@@ -18,8 +18,8 @@ decreases-run l = 10 * l.levels + 3
 abbrev pub decreases-tag : goal.decreases-tag
 decreases-tag l = 10 * l.levels + 1
 
-abbrev pub invariant-run-loop-n : goal.invariant-run-loop-n
-invariant-run-loop-n l = Run 4 (suc l.levels) l.bytes (until_by l.mode l.count) l.at l.size (until_by l.mode l.left)
+abbrev pub invariant-run-loop-left : goal.invariant-run-loop-left
+invariant-run-loop-left l = Run 4 (suc l.levels) l.bytes (until_by l.mode l.count) l.at l.size (until_by l.mode l.left)
 
-abbrev pub decreases-run-loop-n : goal.decreases-run-loop-n
-decreases-run-loop-n l = length l.bytes - l.at
+abbrev pub decreases-run-loop-left : goal.decreases-run-loop-left
+decreases-run-loop-left l = length l.bytes - l.at

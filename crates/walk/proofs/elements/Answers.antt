@@ -4,4 +4,4 @@ use Rattle.quick_walk.proofs.QuickWays.{quick_told}
 use Rattle.walk.proofs.elements.Goals as goal
 
 pub returns : goal.returns
-returns c = search quick_told
+returns g c = rw (← c.into_mode-mode.ensures) (search quick_told)

@@ -4,13 +4,13 @@ use Rattle.walk_answer.proofs.WalkCycle.{Run}
 use lib.ListN.{length}
 use Prim.Native.Nat.{suc, ◌+◌, ◌-◌, ◌*◌}
 use Rattle.walk_answer.specs.WalkAnswers.{until_by}
-use Rattle.whole_walk.proofs.+behind_map_one_other_several_slowly_tag.Given as goal
+use Rattle.whole_walk.proofs.+behind_elements_map_one_other_several_tag.Given as goal
 
 abbrev pub decreases-behind : goal.decreases-behind
 decreases-behind l = 100 * l.levels + 20
 
-abbrev pub decreases-slowly : goal.decreases-slowly
-decreases-slowly l = 100 * l.levels + 22
+abbrev pub decreases-elements : goal.decreases-elements
+decreases-elements l = 100 * l.levels + 22
 
 abbrev pub decreases-map : goal.decreases-map
 decreases-map l = 100 * l.levels + 27
@@ -33,8 +33,8 @@ invariant-several-loop-at l = Run l.major (suc l.levels) l.bytes (until_by l.mod
 abbrev pub decreases-several-loop-at : goal.decreases-several-loop-at
 decreases-several-loop-at l = length l.bytes - l.at
 
-abbrev pub invariant-slowly-loop-at : goal.invariant-slowly-loop-at
-invariant-slowly-loop-at l = Run 4 (suc l.levels) l.bytes (until_by l.mode l.count) l.at l.size (until_by l.mode l.left)
+abbrev pub invariant-elements-loop-at : goal.invariant-elements-loop-at
+invariant-elements-loop-at l = Run 4 (suc l.levels) l.bytes (until_by l.mode l.count) l.at l.size (until_by l.mode l.left)
 
-abbrev pub decreases-slowly-loop-at : goal.decreases-slowly-loop-at
-decreases-slowly-loop-at l = length l.bytes - l.at
+abbrev pub decreases-elements-loop-at : goal.decreases-elements-loop-at
+decreases-elements-loop-at l = length l.bytes - l.at

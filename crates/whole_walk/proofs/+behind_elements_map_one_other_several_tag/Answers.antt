@@ -6,7 +6,7 @@ use Rattle.walk_parts.proofs.StringCode.{head-room, head-inside}
 use Rattle.walk_answer.proofs.WalkCycle.{other_ways, run-start, run_ways, run_less, run_on}
 use Rattle.walk_parts.proofs.WalkItems.{tag_turns, behind_ways, map_ways, no-head, one-room, one_inside, one_headed, one_ways}
 use native.Mathlib.Omega.{arith}
-use Rattle.whole_walk.proofs.+behind_map_one_other_several_slowly_tag.Goals as goal
+use Rattle.whole_walk.proofs.+behind_elements_map_one_other_several_tag.Goals as goal
 
 pub behind-slice_bounds-several-count : goal.behind-slice_bounds-several-count
 behind-slice_bounds-several-count t c = search head-inside
@@ -35,14 +35,14 @@ behind-tag-requires t c = (omega arith, search head-room)
 pub behind-returns-then-major-eq-TAG : goal.behind-returns-then-major-eq-TAG
 behind-returns-then-major-eq-TAG t c = search behind_ways
 
-pub behind-slice_bounds-slowly-count : goal.behind-slice_bounds-slowly-count
-behind-slice_bounds-slowly-count t c = search head-inside
+pub behind-slice_bounds-elements-count : goal.behind-slice_bounds-elements-count
+behind-slice_bounds-elements-count t c = search head-inside
 
-pub behind-slice_bounds-slowly-start : goal.behind-slice_bounds-slowly-start
-behind-slice_bounds-slowly-start t c = search head-inside
+pub behind-slice_bounds-elements-start : goal.behind-slice_bounds-elements-start
+behind-slice_bounds-elements-start t c = search head-inside
 
-pub behind-slowly-requires : goal.behind-slowly-requires
-behind-slowly-requires t c = (omega arith, search rules)
+pub behind-elements-requires : goal.behind-elements-requires
+behind-elements-requires t c = (omega arith, search rules)
 
 pub behind-returns-then-major-eq-ARRAY : goal.behind-returns-then-major-eq-ARRAY
 behind-returns-then-major-eq-ARRAY t c = search behind_ways
@@ -53,8 +53,8 @@ behind-map-requires t c = (omega arith, search head-room)
 pub behind-returns : goal.behind-returns
 behind-returns t c = search behind_ways
 
-pub map-slowly-requires : goal.map-slowly-requires
-map-slowly-requires t c = (omega arith, search rules)
+pub map-elements-requires : goal.map-elements-requires
+map-elements-requires t c = (omega arith, search rules)
 
 pub map-returns-in-Counted : goal.map-returns-in-Counted
 map-returns-in-Counted t c = search map_ways
@@ -92,8 +92,8 @@ one-behind-requires t c = (omega arith, search one_headed)
 pub one-returns : goal.one-returns
 one-returns t c = search one_ways
 
-pub other-slowly-requires : goal.other-slowly-requires
-other-slowly-requires t c = (omega arith, search rules)
+pub other-elements-requires : goal.other-elements-requires
+other-elements-requires t c = (omega arith, search rules)
 
 pub other-returns-then-major-eq-MAP : goal.other-returns-then-major-eq-MAP
 other-returns-then-major-eq-MAP t c = search other_ways
@@ -119,26 +119,26 @@ several-loop-at-preserved t c = let w = c.in_ok-part.was {u = tt} in search run_
 pub several-returns : goal.several-returns
 several-returns t c = search run_ways
 
-pub slowly-loop-at-init : goal.slowly-loop-at-init
-slowly-loop-at-init t c = search run-start
+pub elements-loop-at-init : goal.elements-loop-at-init
+elements-loop-at-init t c = search run-start
 
-pub slowly-one-requires : goal.slowly-one-requires
-slowly-one-requires t c = (omega arith, search rules)
+pub elements-one-requires : goal.elements-one-requires
+elements-one-requires t c = (omega arith, search rules)
 
-pub slowly-returns-in_err-part : goal.slowly-returns-in_err-part
-slowly-returns-in_err-part t c = let w = c.in_err-part.was {u = tt} in let p = err_from_is_err_and c.from_residual.result c.from_residual.ensures.1 in rw (p.1, p.2) (search run_ways)
+pub elements-returns-in_err-part : goal.elements-returns-in_err-part
+elements-returns-in_err-part t c = let w = c.in_err-part.was {u = tt} in let p = err_from_is_err_and c.from_residual.result c.from_residual.ensures.1 in rw (p.1, p.2) (search run_ways)
 
-pub slowly-loop-at-smaller : goal.slowly-loop-at-smaller
-slowly-loop-at-smaller t c = let w = c.in_ok-part.was {u = tt} in search run_less
+pub elements-loop-at-smaller : goal.elements-loop-at-smaller
+elements-loop-at-smaller t c = let w = c.in_ok-part.was {u = tt} in search run_less
 
-pub slowly-loop-at-preserved : goal.slowly-loop-at-preserved
-slowly-loop-at-preserved t c = let w = c.in_ok-part.was {u = tt} in search run_on
+pub elements-loop-at-preserved : goal.elements-loop-at-preserved
+elements-loop-at-preserved t c = let w = c.in_ok-part.was {u = tt} in search run_on
 
-pub slowly-returns : goal.slowly-returns
-slowly-returns t c = search run_ways
+pub elements-returns : goal.elements-returns
+elements-returns t c = search run_ways
 
-pub tag-slowly-requires : goal.tag-slowly-requires
-tag-slowly-requires t c = (omega arith, search rules)
+pub tag-elements-requires : goal.tag-elements-requires
+tag-elements-requires t c = (omega arith, search rules)
 
 pub tag-returns-then-may_tag : goal.tag-returns-then-may_tag
 tag-returns-then-may_tag t c = let w = c.in_ok-inner.was {u = tt} in search tag_turns
