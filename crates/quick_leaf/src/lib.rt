@@ -51,7 +51,7 @@ const SIZE: [u8; 256] = [
     NO_LEAF, NO_LEAF, NO_LEAF, NO_LEAF, NO_LEAF, NO_LEAF,
     // e0 to ef: simple values
     1, 1, 1, 1, 1, 1, 1, 1, 1, 1, 1, 1, 1, 1, 1, 1,
-    // f0 to ff: simple values
+    // f0 to ff: simple values; behind f7 a second byte, floats, the break
     1, 1, 1, 1, 1, 1, 1, 1, NO_LEAF, NO_LEAF, NO_LEAF, NO_LEAF, NO_LEAF, NO_LEAF, NO_LEAF, NO_LEAF,
 ];
 

@@ -141,7 +141,7 @@ fn most_left(mode: Mode, count: u64) -> u64
     }
 }
 
-// Items, one behind the other. A leaf is no break and not the end, so the mode is asked only where no item stands: each test on the way over a leaf costs time.
+// Items, one behind the other. A leaf is no break and not the end, so on the way over one the mode is not asked: each test there costs time.
 #[cycle(list_part_run_tag)]
 fn run(bytes: &[u8], mode: Mode, count: u64, levels: usize) -> u64
     requires { Small bytes.now }
