@@ -3,7 +3,7 @@
 use Prim.Native.Nat.{ℕ, suc, ◌+◌, ◌-◌, ◌*◌, ◌/◌, ◌%◌, ◌^◌, ◌≤◌, ◌<◌, min}
 use native.Mathlib.Omega.{arith}
 use mathlib.Core.Path.{◌≡◌, refl, sym, ap, ◌∙◌}
-use mathlib.Core.Bool.{Bool, true, false}
+use mathlib.Core.Bool.{Bool, true, false, not}
 use mathlib.Core.List.{List}
 use lib.Dec.{ltb, eqb}
 use lib.ListN.{length, take, drop, get_or, length-drop, length-take}
@@ -18,7 +18,7 @@ use Rattle.utf8.proofs.Runs.{ascii-good}
 use Rattle.walk_answer.specs.WalkAnswers.{passed, pass_told, told_of, one_of, until_by, Turned, after_told}
 use Rattle.quick_leaf.specs.WalkLeaves.{leaf_content, leaf_size, is_leaf, LeafSize, LeafContent, LeafAt, Right}
 use Rattle.walk_parts.proofs.StringCode.{text-yes, text-no, content-good}
-use Rattle.walk_answer.proofs.WalkCycle.{one-item, Run, run_on}
+use Rattle.walk_answer.proofs.WalkCycle.{tail_is, one-item, Run, run_on}
 use Rattle.walk_parts.proofs.WalkItems.{behind-string, one_headed, one-leaf, one-simple}
 use Rattle.std.specs.Prelude.{Ok, Some}
 use Rattle.walk_answer.proofs.Turns.{over-count, over-break, over-end}
@@ -107,39 +107,69 @@ not_counted Counted m n h = absurd (h refl)
 not_counted Broken m n h = refl
 not_counted Ended m n h = refl
 
-module _ {r : List ℕ} {n : ℕ} (la : LeafAt r 0 n) {v : Bool} (ri : Right r 0 n v) (y : v ≡ true) where
-  size : LeafSize (get_or r 0 0) n
+module _ {s : List ℕ} {at n : ℕ} (la : LeafAt s at n) {v : Bool} (ri : Right s at n v) (y : v ≡ true) where
+  size : LeafSize (get_or s at 0) n
   size = la.is (ri.small y)
 
-  its-kind : Kind (get_or r 0 0)
-  its-kind = kind (get_or r 0 0) (size.leaf (ri.small y))
+  its-kind : Kind (get_or s at 0)
+  its-kind = kind (get_or s at 0) (size.leaf (ri.small y))
 
   -- it has a byte, and no more than the block
   extent : (0 < n) × (n < 33)
   unfolding leaf_size
   extent = by its-kind
     where
-      by : Kind (get_or r 0 0) → (0 < n) × (n < 33)
-      by (number z l) = let a = size-most (get_or r 0 0 % 32) in (omega (arith, size.is (ri.small y)), omega (arith, size.is (ri.small y), content-none (get_or r 0 0) (omega arith)))
-      by (string z l) = let a = short_none (get_or r 0 0 % 32) l in (omega (arith, size.is (ri.small y)), omega (arith, size.is (ri.small y), content-some (get_or r 0 0) z))
-      by (simple z l) = let a = short_none (get_or r 0 0 % 32) l in (omega (arith, size.is (ri.small y)), omega (arith, size.is (ri.small y), content-none (get_or r 0 0) (omega arith)))
+      by : Kind (get_or s at 0) → (0 < n) × (n < 33)
+      by (number z l) = let a = size-most (get_or s at 0 % 32) in (omega (arith, size.is (ri.small y)), omega (arith, size.is (ri.small y), content-none (get_or s at 0) (omega arith)))
+      by (string z l) = let a = short_none (get_or s at 0 % 32) l in (omega (arith, size.is (ri.small y)), omega (arith, size.is (ri.small y), content-some (get_or s at 0) z))
+      by (simple z l) = let a = short_none (get_or s at 0 % 32) l in (omega (arith, size.is (ri.small y)), omega (arith, size.is (ri.small y), content-none (get_or s at 0) (omega arith)))
 
   -- it is no break
-  no_break : get_or r 0 0 ≡ 0xff → ⊥
+  no_break : get_or s at 0 ≡ 0xff → ⊥
   no_break e = by its-kind
     where
-      by : Kind (get_or r 0 0) → ⊥
+      by : Kind (get_or s at 0) → ⊥
       by (number z l) = absurd (omega arith)
       by (string z l) = absurd (omega arith)
       by (simple z l) = absurd (omega arith)
 
-  pub leaf-inside : 0 < length r
+  pub leaf-inside : at < length s
   leaf-inside = omega (arith, ri.inside y)
 
-  leaf-told : (d : ℕ) → passed n (leaf_content (get_or r 0 0)) ≡ told_of (length r) (one_of 4 (suc d) r)
+  pub leaf-end : at + n ≤ length s
+  leaf-end = omega (arith, ri.inside y, extent.1)
+
+  pub leaf_less : length s - (at + n) < length s - at
+  leaf_less = omega (arith, leaf-end, extent.0)
+
+  leaf-told : (d : ℕ) → passed n (leaf_content (get_or s at 0)) ≡ told_of (length (drop at s)) (one_of 4 (suc d) (drop at s))
   leaf-told d =
-      told d r n (ri.inside y) (size.is (ri.small y)) size.byte
-      (λ m j p h. let z : 0 + j ≡ j = omega arith in rw z at (ri.text y m j p (omega (arith, extent.1)) h)) its-kind
+      let z : at + 0 ≡ at = omega arith in
+      let b : get_or (drop at s) 0 0 ≡ get_or s at 0 = get_or-drop at s 0 0 ∙ ap (λ (k : ℕ). get_or s k 0) z in
+      let q = told d (drop at s) n (omega (arith, length-drop at s, ri.inside y)) (size.is (ri.small y) ∙ ap leaf_size (sym b)) (rw (← b) at size.byte)
+      (λ m j p h. rw (get_or-drop at s j 0) (ri.text y (ap (λ (k : ℕ). k / 32) (sym b) ∙ m) j p (omega (arith, extent.1)) h)) (kind (get_or (drop at s) 0 0) (ap is_leaf b ∙ size.leaf (ri.small y))) in
+      ap (λ (k : ℕ). passed n (leaf_content k)) (sym b) ∙ q
+
+  pub leaf_add : {d : ℕ} {first u : Until} {all c : ℕ} → Run 4 d s first at all u → length s * 1 < 2 ^ 63 → LeafContent (get_or s at 0) c → all + c < 2 ^ 64
+  leaf_add run long c = omega (arith, run.small, c.small, leaf-inside)
+
+  module _ {d : ℕ} {first : Until} {all : ℕ} {mode : Mode} {k : ℕ} (run : Run 4 (suc d) s first at all (until_by mode k)) (long : length s * 1 < 2 ^ 63) where
+    module _ {t : Bool} (tu : Turned s at mode k t) (o : not t ≡ true) {c : ℕ} (lc : LeafContent (get_or s at 0) c) where
+      pub leaf-on : {m : ℕ} → m ≡ k - 1 → Run 4 (suc d) s first (at + n) (all + c) (until_by mode m)
+      unfolding pass_told after_told
+      leaf-on {m} e =
+          let p : at + n ≡ min (at + n) (2 ^ 64 - 1) = omega (arith, leaf-end) in
+          let q : all + c ≡ min (all + c) (2 ^ 64 - 1) = omega (arith, leaf_add run long lc) in
+          run_on run tu o (Ok (record { end = n; size = c })) long
+          (ap (passed n) lc.is ∙ leaf-told d ∙ sym (ap (λ (x : List ℕ). told_of (length x) (one_of 4 (suc d) x)) (tail_is s at)))
+          (Ok (record { end = at + n; size = all + c })) (λ j. passed (p j) (q j)) refl e
+
+-- a byte of the rest of the bytes s
+rest_byte : (s : List ℕ) (at j : ℕ) → at + j < length s → get_or (take (length s - at) (drop at s)) j 0 ≡ get_or s (at + j) 0
+rest_byte s at j h = let q : j < length s - at = omega arith in get_or-take (length s - at) (drop at s) j 0 q ∙ get_or-drop at s j 0
+
+rest_front : (s : List ℕ) (at : ℕ) → at < length s → get_or (take (length s - at) (drop at s)) 0 0 ≡ get_or s at 0
+rest_front s at h = let z : at + 0 ≡ at = omega arith in rest_byte s at 0 (omega arith) ∙ ap (λ (i : ℕ). get_or s i 0) z
 
 -- where there is a byte that is no break, and some are left, they go on
 pub going : {s : List ℕ} {at k : ℕ} (mode : Mode) → 0 < k → 0 < length (take (length s - at) (drop at s)) → (get_or (take (length s - at) (drop at s)) 0 0 ≡ 0xff → ⊥) → Turned s at mode k false
@@ -148,35 +178,42 @@ going {s} {at} {k} mode more some other = by mode
     inside : at < length s
     inside = omega (arith, some, length-take (length s - at) (drop at s), length-drop at s)
 
-    front : get_or (take (length s - at) (drop at s)) 0 0 ≡ get_or s at 0
-    front =
-        let q : 0 < length s - at = omega (arith, inside) in
-        let z : at + 0 ≡ at = omega arith in
-        get_or-take (length s - at) (drop at s) 0 0 q ∙ get_or-drop at s 0 0 ∙ ap (λ (i : ℕ). get_or s i 0) z
-
     by : (mode : Mode) → Turned s at mode k false
     by Counted = rw (ne_eqb k 0 (omega arith)) at (over-count {s = s} {at = at} {n = k} refl)
-    by Broken = rw (ne_eqb (get_or s at 0) 0xff (λ e. other (front ∙ e))) at (over-break {s = s} {at = at} {n = k} refl inside)
+    by Broken = rw (ne_eqb (get_or s at 0) 0xff (λ e. other (rest_front s at inside ∙ e))) at (over-break {s = s} {at = at} {n = k} refl inside)
     by Ended = rw (lt-leb (length s) at inside) at (over-end {s = s} {at = at} {n = k} refl)
 
--- the item at a place of the bytes s, before which others were walked over
+-- the item at a place of the bytes s, before which others were walked over, as it stands at the front of the rest of them
 module _ {d : ℕ} {s : List ℕ} {first : Until} {at all : ℕ} (mode : Mode) (k : ℕ) (run : Run 4 (suc d) s first at all (until_by mode k)) (long : length s * 1 < 2 ^ 63) {n : ℕ} (la : LeafAt (take (length s - at) (drop at s)) 0 n) {v : Bool} (ri : Right (take (length s - at) (drop at s)) 0 n v) (y : v ≡ true) where
   room : at + 33 ≤ length s
   room = omega (arith, ri.inside y, length-take (length s - at) (drop at s), length-drop at s)
 
-  pub leaf-end : at + n ≤ length s
-  leaf-end = omega (arith, room, (extent la ri y).1)
+  front : get_or (take (length s - at) (drop at s)) 0 0 ≡ get_or s at 0
+  front = rest_front s at (omega (arith, room))
 
-  pub leaf_less : length s - (at + n) < length s - at
-  leaf_less = omega (arith, room, (extent la ri y).0)
+  leaf-there : LeafAt s at n
+  leaf-there = record { is = λ h. rw (← front) (la.is h) }
+
+  right-there : Right s at n v
+  right-there =
+      record {
+        small = ri.small;
+        inside = λ e. room;
+        text = λ e m j p h i. let z : 0 + j ≡ j = omega arith in rw (← rest_byte s at j (omega (arith, room))) (rw z at (ri.text e (rw front m) j p h i));
+      }
+
+  pub rest-end : at + n ≤ length s
+  rest-end = leaf-end leaf-there right-there y
+
+  pub rest_less : length s - (at + n) < length s - at
+  rest_less = leaf_less leaf-there right-there y
 
   module _ {c : ℕ} (lc : LeafContent (get_or (take (length s - at) (drop at s)) 0 0) c) where
-    pub leaf_add : all + c < 2 ^ 64
-    leaf_add = omega (arith, run.small, lc.small, room)
+    content-there : LeafContent (get_or s at 0) c
+    content-there = rw front at lc
 
-    pub leaf-on : 0 < k → {m : ℕ} → m ≡ k - 1 → Run 4 (suc d) s first (at + n) (all + c) (until_by mode m)
-    unfolding pass_told after_told
-    leaf-on more e =
-        let p : at + n ≡ min (at + n) (2 ^ 64 - 1) = omega (arith, leaf-end) in
-        let q : all + c ≡ min (all + c) (2 ^ 64 - 1) = omega (arith, leaf_add) in
-        run_on run (going mode more (leaf-inside la ri y) (no_break la ri y)) refl (Ok (record { end = n; size = c })) long (ap (passed n) lc.is ∙ leaf-told la ri y d) (Ok (record { end = at + n; size = all + c })) (λ j. passed (p j) (q j)) refl e
+    pub rest_add : all + c < 2 ^ 64
+    rest_add = leaf_add leaf-there right-there y run long content-there
+
+    pub rest-on : 0 < k → {m : ℕ} → m ≡ k - 1 → Run 4 (suc d) s first (at + n) (all + c) (until_by mode m)
+    rest-on more e = leaf-on leaf-there right-there y run long (going mode more (leaf-inside la ri y) (no_break la ri y)) refl content-there e

@@ -278,12 +278,15 @@ module _ {d : ℕ} {s : List ℕ} {first : Until} {at size : ℕ} (mode : Mode) 
     pub step_less : {e : ℕ} → e ≡ r % 4294967296 → length s - (at + e) < length s - at
     step_less h = omega (arith, step-told.some, step-inside)
 
-    pub step-on : 0 < n → {t : Bool} → Ends (take (length s - at) (drop at s)) t → t ≡ false → length s * 1 < 2 ^ 63 → {e z m : ℕ} → e ≡ r % 4294967296 → z ≡ r / 4294967296 → m ≡ n - 1 → Run 4 (suc d) s first (at + e) (size + z) (until_by mode m)
+    pub step-on : {t : Bool} → Turned s at mode n t → not t ≡ true → length s * 1 < 2 ^ 63 → {e z m : ℕ} → e ≡ r % 4294967296 → z ≡ r / 4294967296 → m ≡ n - 1 → Run 4 (suc d) s first (at + e) (size + z) (until_by mode m)
     unfolding pass_told after_told
-    step-on more en y long {e} {z} {m} a b c =
+    step-on tu y long {e} {z} {m} a b c =
         let p : at + e ≡ min (at + r % 4294967296) (2 ^ 64 - 1) = omega (arith, step_add a long) in
         let o : size + z ≡ min (size + r / 4294967296) (2 ^ 64 - 1) = omega (arith, step-size b long) in
-        run_on run (going mode more (en.some y) (en.other y)) refl (span r) long (q.is k) (Ok (record { end = at + e; size = size + z })) (λ j. passed (p j) (o j)) refl c
+        run_on run tu y (span r) long (q.is k) (Ok (record { end = at + e; size = size + z })) (λ j. passed (p j) (o j)) refl c
+
+    pub step_going : 0 < n → {t : Bool} → Ends (take (length s - at) (drop at s)) t → t ≡ false → length s * 1 < 2 ^ 63 → {e z m : ℕ} → e ≡ r % 4294967296 → z ≡ r / 4294967296 → m ≡ n - 1 → Run 4 (suc d) s first (at + e) (size + z) (until_by mode m)
+    step_going more en y = step-on (going mode more (en.some y) (en.other y)) refl
 
   module _ {t : Bool} (tu : Turned s at mode n t) (y : t ≡ true) (long : length s * 1 < 2 ^ 63) {end : ℕ} (c : end ≡ capped at (behind_by mode)) (sm : Small s) where
     pub over_halves : Halves end size

@@ -3,8 +3,8 @@
 use borrow.Author.Rules.{rules}
 use Rattle.walk_parts.proofs.WalkItems.{one-room, one_inside}
 use Rattle.walk_answer.proofs.WalkCycle.{run-start}
-use Rattle.quick_walk.proofs.LeafRun.{leaf-inside, leaf_less, leaf_add, leaf-on}
-use Rattle.quick_walk.proofs.QuickWays.{quick_not, quick_end, open_inside, level-some, deeper_small, small-part, small_deeper, shifts_deeper, shifts_open, deeper, list_ways, part_ways, tag_ways, step_add, step-size, step_less, step-on, over_halves, step_ways}
+use Rattle.quick_walk.proofs.LeafRun.{leaf-inside, rest_less, rest_add, rest-on}
+use Rattle.quick_walk.proofs.QuickWays.{quick_not, quick_end, open_inside, level-some, deeper_small, small-part, small_deeper, shifts_deeper, shifts_open, deeper, list_ways, part_ways, tag_ways, step_add, step-size, step_less, step_going, over_halves, step_ways}
 use native.Mathlib.Omega.{arith}
 use Rattle.quick_walk.proofs.+list_part_run_tag.Goals as goal
 
@@ -96,13 +96,13 @@ pub run-bounds-rest-0 : goal.run-bounds-rest-0
 run-bounds-rest-0 t c = search leaf-inside
 
 pub run-overflow_add-size : goal.run-overflow_add-size
-run-overflow_add-size t c = search leaf_add
+run-overflow_add-size t c = search rest_add
 
 pub run-loop-left-smaller-then-is_right : goal.run-loop-left-smaller-then-is_right
-run-loop-left-smaller-then-is_right t c = search leaf_less
+run-loop-left-smaller-then-is_right t c = search rest_less
 
 pub run-loop-left-preserved-then-is_right : goal.run-loop-left-preserved-then-is_right
-run-loop-left-preserved-then-is_right t c = search (leaf-on, rules)
+run-loop-left-preserved-then-is_right t c = search (rest-on, rules)
 
 pub run-part-r-requires : goal.run-part-r-requires
 run-part-r-requires t c = (omega arith, search small-part)
@@ -120,7 +120,7 @@ pub run-loop-left-smaller : goal.run-loop-left-smaller
 run-loop-left-smaller t c = search step_less
 
 pub run-loop-left-preserved : goal.run-loop-left-preserved
-run-loop-left-preserved t c = search (step-on, rules)
+run-loop-left-preserved t c = search (step_going, rules)
 
 pub run-pack-requires : goal.run-pack-requires
 run-pack-requires t c = search over_halves
